@@ -1,0 +1,102 @@
+-- Laws of communities: the kind of each type, what a community of each kind adds, and what one community more adds.
+use Prim.Native.Nat.{ℕ, suc, _+_, _-_, _/_, _%_, _^_, _<_, _≤_}
+use mathlib.Core.Path.{_≡_, refl, sym, ap, _∙_}
+use mathlib.Core.Bool.{Bool, true, false, true≢false, cond, not, _||_}
+use mathlib.Core.List.{List}
+use native.Mathlib.Nat.{sub-zero}
+use native.Mathlib.Omega.{arith}
+use borrow.Author.Tests.{ne-eqb, ltb-false, eqb-true, not-false}
+use lib.Dec.{ltb, eqb}
+use lib.ListN.{length}
+use Rattle.action.specs.declared.Actions.{Actions}
+use Rattle.action.specs.declared.Given.{Given}
+use Rattle.action.specs.declared.Kind.{Kind}
+use Rattle.action.specs.declared.Kind.the-variants.{Redirect, Other}
+use Rattle.action.specs.declared.Rate.{Rate}
+use Rattle.action.specs.declared.Rate.the-variants.{Number, NotANumber}
+use Rattle.action.specs.declared.Reading.{Reading}
+use Rattle.action.specs.declared.Reading.the-variants.{Read, Unsound}
+use Rattle.action.specs.declared.Whole.{Whole}
+use Rattle.action.specs.Given.{given, smallerOf, firstOf}
+use Rattle.action.specs.Rate.{rateOf}
+use Rattle.octets.specs.Number.{numberAt}
+use Rattle.action.specs.Actions.{noActions, isRedirect, kindOf, withRate, withKind, withCommunity, withCommunities, communitiesAt, andThen, wrongLength, actionsOf}
+
+-- A type that is none of the four single ones is a redirect or is skipped.
+pub last-kind : (type : ℕ) (r : Bool) → (type ≡ 0x8006 → ⊥) → (type ≡ 0x800c → ⊥) → (type ≡ 0x8007 → ⊥) → (type ≡ 0x8009 → ⊥)
+    → isRedirect type ≡ r → cond r Redirect Other ≡ kindOf type
+unfolding kindOf
+last-kind type r b p t m h =
+    rw (ne-eqb type 0x8006 b, ne-eqb type 0x800c p, ne-eqb type 0x8007 t, ne-eqb type 0x8009 m, h)
+
+-- What a community adds is what its kind adds.
+pub known : (kind found : Kind) (a : Actions) (c : ℕ) → found ≡ kindOf (c / 2 ^ 48) → found ≡ kind → withKind kind a c ≡ withCommunity a c
+unfolding withCommunity
+known kind found a c h k = ap (λ t. withKind t a c) (sym k ∙ h)
+
+module _ (change : Given → Actions) (before : Given) (single : ℕ) where
+  -- A rate that is a number counts with the one before it.
+  pub rate-read : (r : Rate) (w : Whole) (g s : Given) → r ≡ rateOf single → r ≡ Number w → g ≡ given (w .number)
+      → s ≡ smallerOf before g → Read (change s) ≡ withRate change before (rateOf single)
+  rate-read r w g s h k e f = rw (← h, k, f, e)
+
+  -- A rate that is not a number is refused.
+  pub rate-refused : (r : Rate) → r ≡ rateOf single → r ≡ NotANumber → Unsound ≡ withRate change before (rateOf single)
+  rate-refused r h k = rw (← h, k)
+
+-- A marking or a redirect counts if it is the first.
+pub first-read : (change : Given → Actions) (before g f : Given) (n m : ℕ) → m ≡ n → g ≡ given m → f ≡ firstOf before g
+    → Read (change f) ≡ Read (change (firstOf before (given n)))
+first-read change before g f n m e h k = rw (k, h, e)
+
+neither : (a b : Bool) → a || b ≡ false → (a ≡ false) × (b ≡ false)
+neither true b h = absurd (true≢false h)
+neither false b h = (refl, h)
+
+-- How far the communities have been read: the actions so far and the rest give the whole answer.
+pub record Reached (s : List ℕ) (a : Actions) (at : ℕ) : Type 0 where
+  pub few : length s ≤ 512
+  pub within : at ≤ length s
+  pub whole : (length s - at) % 8 ≡ 0
+  pub goes-on : withCommunities a (communitiesAt ((length s - at) / 8) s at) ≡ actionsOf s
+
+-- A wrong length is refused.
+pub refused : (s : List ℕ) → wrongLength (length s) ≡ true → Unsound ≡ actionsOf s
+unfolding actionsOf
+refused s h = rw h
+
+-- Before the first community.
+pub start : (s : List ℕ) (a : Actions) → wrongLength (length s) ≡ false → a ≡ noActions → Reached s a 0
+unfolding actionsOf
+start s a h e =
+    let both = neither (ltb 512 (length s)) (not (eqb (length s % 8) 0)) h in
+    record {
+      few = ltb-false 512 (length s) (both .0);
+      within = omega arith;
+      whole = rw sub-zero (eqb-true (length s % 8) 0 (not-false (eqb (length s % 8) 0) (both .1)));
+      goes-on = rw (h, e, sub-zero);
+    }
+
+module _ (s : List ℕ) (a : Actions) (at : ℕ) (reached : Reached s a at) where
+  -- After the last community.
+  pub finished : length s ≤ at → Read a ≡ actionsOf s
+  unfolding withCommunities communitiesAt
+  finished h = let none : (length s - at) / 8 ≡ 0 = omega arith in rw none at (reached .goes-on)
+
+  module _ (more : at < length s) (c : ℕ) (r : Reading) (here : c ≡ numberAt 8 s at) (adds : r ≡ withCommunity a c) where
+    first-of-rest : andThen r (λ b. withCommunities b (communitiesAt ((length s - (at + 8)) / 8) s (at + 8))) ≡ actionsOf s
+    unfolding withCommunities communitiesAt
+    first-of-rest =
+        let w = reached .whole in
+        let one-more : (length s - at) / 8 ≡ suc ((length s - (at + 8)) / 8) = omega arith in
+        rw (adds, here) (rw one-more at (reached .goes-on))
+
+    -- One community more.
+    pub next : (b : Actions) → r ≡ Read b → Reached s b (at + 8)
+    next b h =
+        let w = reached .whole in
+        record { few = reached .few; within = omega arith; whole = omega arith; goes-on = rw h at first-of-rest }
+
+    -- A community that is refused.
+    pub stopped : r ≡ Unsound → Unsound ≡ actionsOf s
+    stopped h = rw h at first-of-rest

@@ -1,0 +1,63 @@
+-- Laws of merging: it is associative, merging with no actions changes nothing but T, and T is never carried.
+use mathlib.Core.Path.{_≡_, refl}
+use mathlib.Core.Bool.{Bool, true, false, or-false, _||_}
+use Rattle.action.specs.declared.Actions.{Actions}
+use Rattle.action.specs.Given.{smallerOf, firstOf}
+use Rattle.action.specs.Actions.{noActions, withFlags}
+use Rattle.action.specs.Merging.{merged}
+use Rattle.action.specs.Possible.{couldBe}
+use Rattle.action.proofs.GivenLaws.{smaller-assoc, first-assoc, fine-smaller, fine-first, smaller-absent, first-absent}
+use Rattle.action.proofs.PossibleLaws.{could, could-be, sixBits, redirectType}
+use Rattle.action.specs.Rate.{rateGiven}
+
+or-assoc : (a b c : Bool) → a || b || c ≡ a || (b || c)
+or-assoc true b c = refl
+or-assoc false b c = refl
+
+pub merged-assoc : (a b c : Actions) → merged (merged a b) c ≡ merged a (merged b c)
+unfolding merged
+merged-assoc a b c =
+    rw (
+      smaller-assoc (a .bytes) (b .bytes) (c .bytes),
+      smaller-assoc (a .packets) (b .packets) (c .packets),
+      or-assoc (a .sample) (b .sample) (c .sample),
+      first-assoc (a .marking) (b .marking) (c .marking),
+      first-assoc (a .redirect) (b .redirect) (c .redirect),
+    )
+
+-- T is never carried.
+pub merged-no-T : (a b : Actions) → merged a b .onward ≡ false
+unfolding merged
+merged-no-T a b = refl
+
+-- Nothing before changes nothing but T.
+pub merged-nothing-before : (a : Actions) → merged noActions a ≡ withFlags a (a .sample) false
+unfolding merged smallerOf firstOf
+merged-nothing-before a = refl
+
+-- Nothing after changes nothing but T, of actions that some communities could give.
+pub merged-nothing-after : (a : Actions) → couldBe a ≡ true → merged a noActions ≡ withFlags a (a .sample) false
+unfolding merged
+merged-nothing-after a h =
+    let p = could a h in
+    rw (
+      smaller-absent rateGiven (a .bytes) (p .bytes),
+      smaller-absent rateGiven (a .packets) (p .packets),
+      or-false (a .sample),
+      first-absent sixBits (a .marking) (p .marks),
+      first-absent redirectType (a .redirect) (p .redirects),
+    )
+
+-- What some communities could give stays such when merged.
+pub could-merged : (a b : Actions) → couldBe a ≡ true → couldBe b ≡ true → couldBe (merged a b) ≡ true
+unfolding merged
+could-merged a b h k =
+    let p = could a h in
+    let q = could b k in
+    could-be (merged a b)
+    (record {
+      bytes = fine-smaller rateGiven (a .bytes) (b .bytes) (p .bytes) (q .bytes);
+      packets = fine-smaller rateGiven (a .packets) (b .packets) (p .packets) (q .packets);
+      marks = fine-first sixBits (a .marking) (b .marking) (p .marks) (q .marks);
+      redirects = fine-first redirectType (a .redirect) (b .redirect) (p .redirects) (q .redirects);
+    })

@@ -1,0 +1,221 @@
+-- Every actions that could be are those of some communities (`possible-read`): at most five communities say them, and their octets are
+-- read back as these communities.
+use Prim.Native.Nat.{ℕ, zero, suc, _+_, _*_, _/_, _%_, _^_, _<_, _≤_}
+use mathlib.Core.Path.{_≡_, refl, _∙_}
+use mathlib.Core.Bool.{Bool, true, false}
+use mathlib.Core.List.{List, [], _∷_, _++_, append-assoc}
+use native.Mathlib.Nat.{pow-suc, zero-add, add-assoc}
+use native.Mathlib.Omega.{arith}
+use borrow.Author.Tests.{eqb-true, eq-eqb, ltb-true, le-ltb}
+use lib.Dec.{eqb, lit<, lit≤}
+use lib.ListN.{length, length-append}
+use lib.Pow.{high}
+use lib.Seq.{getD-at, getD-append-add}
+use Rattle.octets.specs.Number.{numberAt}
+use Rattle.octets.proofs.Cases.{by-test}
+use Rattle.octets.proofs.Facts.{Octets}
+use Rattle.action.specs.declared.Actions.{Actions}
+use Rattle.action.specs.declared.Given.{Given}
+use Rattle.action.specs.declared.Kind.{Kind}
+use Rattle.action.specs.declared.Kind.the-variants.{ByteRate, PacketRate, TrafficAction, Redirect, Marking}
+use Rattle.action.specs.declared.Reading.the-variants.{Read}
+use Rattle.action.specs.Given.{absent, given, smallerOf, firstOf}
+use Rattle.action.specs.Rate.{rateOf, rateGiven}
+use Rattle.action.specs.Actions.{noActions, withByteRate, withPacketRate, withFlags, withMarking, withRedirect, isRedirect, kindOf, withRate, withKind, withCommunity, withCommunities, wrongLength, communitiesAt, actionsOf}
+use Rattle.action.specs.Possible.{couldBe}
+use Rattle.action.proofs.GivenLaws.{Fine, by-fine}
+use Rattle.action.proofs.RatesGiven.{sound}
+use Rattle.action.proofs.PossibleLaws.{Could, could, sixBits, redirectType}
+
+-- The octets of a number of k octets, the highest first.
+octetsOf : ℕ → ℕ → List ℕ
+octetsOf zero n = []
+octetsOf (suc k) n = octetsOf k (n / 256) ++ (n % 256 ∷ [])
+
+length-octets : (k n : ℕ) → length (octetsOf k n) ≡ k
+unfolding octetsOf
+length-octets zero n = refl
+length-octets (suc k) n = rw (length-append, length-octets k (n / 256)) (omega arith)
+
+are-octets-append : (s t : List ℕ) → Octets s → Octets t → Octets (s ++ t)
+are-octets-append [] t p q i = q i
+are-octets-append (x ∷ s) t p q zero = p zero
+are-octets-append (x ∷ s) t p q (suc i) = are-octets-append s t (λ j. p (suc j)) q i
+
+one-octet : (n : ℕ) → Octets (n % 256 ∷ [])
+one-octet n zero = omega arith
+one-octet n (suc i) = lit< tt
+
+are-octets : (k n : ℕ) → Octets (octetsOf k n)
+unfolding octetsOf
+are-octets zero n = λ i. lit< tt
+are-octets (suc k) n = are-octets-append (octetsOf k (n / 256)) (n % 256 ∷ []) (are-octets k (n / 256)) (one-octet n)
+
+-- What is written is read back.
+number-octets : (k n : ℕ) (t : List ℕ) → n < 256 ^ k → numberAt k (octetsOf k n ++ t) 0 ≡ n
+unfolding numberAt octetsOf
+number-octets zero n t h = omega arith
+number-octets (suc k) n t h =
+    let p = rw (pow-suc 256 k) at h in
+    let bound : n / 256 < 256 ^ k = omega arith in
+    rw (
+      append-assoc (octetsOf k (n / 256)) (n % 256 ∷ []) t,
+      number-octets k (n / 256) (n % 256 ∷ t) bound,
+      zero-add,
+      getD-at (octetsOf k (n / 256)) (n % 256) t 0 k (length-octets k (n / 256)),
+    )
+    (omega arith)
+
+number-past : (k : ℕ) (s t : List ℕ) (at : ℕ) → numberAt k (s ++ t) (length s + at) ≡ numberAt k t at
+unfolding numberAt
+number-past zero s t at = refl
+number-past (suc k) s t at = rw (number-past k s t at, add-assoc, getD-append-add s t (at + k) 0)
+
+communities-past : (n : ℕ) (s t : List ℕ) (at : ℕ) → communitiesAt n (s ++ t) (length s + at) ≡ communitiesAt n t at
+unfolding communitiesAt
+communities-past zero s t at = refl
+communities-past (suc n) s t at = rw (number-past 8 s t at, add-assoc, communities-past n s t (at + 8))
+
+-- Communities as octets.
+written : List ℕ → List ℕ
+written [] = []
+written (c ∷ cs) = octetsOf 8 c ++ written cs
+
+-- Every community fits eight octets.
+abbrev Fit : List ℕ → Type 0
+Fit [] = Unit {0}
+Fit (c ∷ cs) = (c < 2 ^ 64) × Fit cs
+
+length-written : (cs : List ℕ) → length (written cs) ≡ 8 * length cs
+unfolding written
+length-written [] = refl
+length-written (c ∷ cs) = rw (length-append, length-octets 8 c, length-written cs) (omega arith)
+
+written-octets : (cs : List ℕ) → Octets (written cs)
+unfolding written
+written-octets [] = λ i. lit< tt
+written-octets (c ∷ cs) = are-octets-append (octetsOf 8 c) (written cs) (are-octets 8 c) (written-octets cs)
+
+communities-written : (cs : List ℕ) → Fit cs → communitiesAt (length cs) (written cs) 0 ≡ cs
+unfolding written communitiesAt
+communities-written [] h = refl
+communities-written (c ∷ cs) h =
+    let rest = rw (length-octets 8 c) at (communities-past (length cs) (octetsOf 8 c) (written cs) 0) in
+    rw (number-octets 8 c (written cs) (h .0), rest, communities-written cs (h .1))
+
+-- At most n communities that lead from some actions to others.
+record Says (n : ℕ) (from to : Actions) : Type 0 where
+  communities : List ℕ
+  fit : Fit communities
+  few : length communities ≤ n
+  reads : withCommunities from communities ≡ Read to
+
+say-nothing : (a : Actions) → Says 0 a a
+unfolding withCommunities
+say-nothing a = record { communities = []; fit = tt; few = lit≤ tt; reads = refl }
+
+say-no-more : (n : ℕ) (a z : Actions) → Says n a z → Says (suc n) a z
+say-no-more n a z s = record { communities = s .communities; fit = s .fit; few = (let f = s .few in omega arith); reads = s .reads }
+
+-- A community that turns some actions into others.
+record Adds (a b : Actions) : Type 0 where
+  community : ℕ
+  fits : community < 2 ^ 64
+  adds : withCommunity a community ≡ Read b
+
+say : (n : ℕ) (a b z : Actions) → Adds a b → Says n b z → Says (suc n) a z
+unfolding withCommunities
+say n a b z c s =
+    record {
+      communities = c .community ∷ s .communities;
+      fit = (c .fits, s .fit);
+      few = (let f = s .few in omega arith);
+      reads = rw (c .adds) (s .reads);
+    }
+
+-- A number that may be missing is said by one community or by none.
+say-field : (n : ℕ) (test : ℕ → Bool) (change : Given → Actions) (g : Given) (z : Actions) → Fine test g
+    → ((m : ℕ) → test m ≡ true → Adds (change absent) (change (given m))) → Says n (change g) z → Says (suc n) (change absent) z
+say-field n test change g z h find s =
+    by-fine test (λ g. Says n (change g) z → Says (suc n) (change absent) z)
+    (λ m q r. say n (change absent) (change (given m)) z (find m q) r)
+    (λ r. say-no-more n (change absent) z r)
+    g h s
+
+-- A community of a type, with what it carries.
+adds-kind : (kind : Kind) (type low : ℕ) (a b : Actions) → type < 2 ^ 16 → low < 2 ^ 48 → kindOf type ≡ kind
+    → withKind kind a (type * 2 ^ 48 + low) ≡ Read b → Adds a b
+unfolding withCommunity
+adds-kind kind type low a b p q h k =
+    record { community = type * 2 ^ 48 + low; fits = omega arith; adds = rw (high type 48 {lo = low} q, h) k }
+
+-- A rate that some single gives, of either kind.
+adds-rate : (kind : Kind) (type : ℕ) (change : Given → Actions) → type < 2 ^ 16 → kindOf type ≡ kind
+    → ((c : ℕ) → withKind kind (change absent) c ≡ withRate change absent (rateOf (c % 2 ^ 32)))
+    → (m : ℕ) → rateGiven m ≡ true → Adds (change absent) (change (given m))
+unfolding smallerOf
+adds-rate kind type change p h same m g =
+    let s = sound m g in
+    let below = s .1 in
+    let last : (type * 2 ^ 48 + s .0) % 2 ^ 32 ≡ s .0 = omega arith in
+    adds-kind kind type (s .0) (change absent) (change (given m)) p (omega arith) h (same (type * 2 ^ 48 + s .0) ∙ rw (last, s .2))
+
+adds-marking : (a : Actions) (m : ℕ) → sixBits m ≡ true → Adds (withMarking a absent) (withMarking a (given m))
+unfolding withKind kindOf firstOf
+adds-marking a m h =
+    let below = ltb-true m (2 ^ 6) h in
+    let last : (0x8009 * 2 ^ 48 + m) % 2 ^ 6 ≡ m = omega arith in
+    adds-kind Marking 0x8009 m (withMarking a absent) (withMarking a (given m)) (lit< tt) (omega arith) refl (rw last)
+
+-- S and T are said by one community.
+adds-flags : (a : Actions) (s t : Bool) → Adds (withFlags a false false) (withFlags a s t)
+unfolding withKind kindOf
+adds-flags a false false = adds-kind TrafficAction 0x8007 0 _ _ (lit< tt) (lit< tt) refl refl
+adds-flags a false true = adds-kind TrafficAction 0x8007 1 _ _ (lit< tt) (lit< tt) refl refl
+adds-flags a true false = adds-kind TrafficAction 0x8007 2 _ _ (lit< tt) (lit< tt) refl refl
+adds-flags a true true = adds-kind TrafficAction 0x8007 3 _ _ (lit< tt) (lit< tt) refl refl
+
+redirect-number : (type : ℕ) → isRedirect type ≡ true → (type < 2 ^ 16) × (kindOf type ≡ Redirect)
+unfolding kindOf
+redirect-number type h =
+    by-test (eqb type 0x8008) (λ e. rw (eqb-true type 0x8008 e) (lit< tt, refl))
+    (λ n. by-test (eqb type 0x8108) (λ e. rw (eqb-true type 0x8108 e) (lit< tt, refl))
+    (λ m. rw (eqb-true type 0x8208 (rw (n, m) at h)) (lit< tt, refl)))
+
+adds-redirect : (a : Actions) (m : ℕ) → redirectType m ≡ true → Adds (withRedirect a absent) (withRedirect a (given m))
+unfolding withCommunity withKind firstOf
+adds-redirect a m h =
+    let r = redirect-number (m / 2 ^ 48) h in
+    let below = r .0 in
+    record { community = m; fits = omega arith; adds = rw (r .1) }
+
+-- Actions that could be are said by at most five communities.
+says : (a : Actions) → Could a → Says 5 noActions a
+unfolding withKind kindOf
+says a c =
+    let a₁ = withByteRate noActions (a .bytes) in
+    let a₂ = withPacketRate a₁ (a .packets) in
+    let a₃ = withFlags a₂ (a .sample) (a .onward) in
+    let a₄ = withMarking a₃ (a .marking) in
+    say-field 4 rateGiven (withByteRate noActions) (a .bytes) a (c .bytes)
+    (adds-rate ByteRate 0x8006 (withByteRate noActions) (lit< tt) refl (λ n. refl))
+    (say-field 3 rateGiven (withPacketRate a₁) (a .packets) a (c .packets)
+    (adds-rate PacketRate 0x800c (withPacketRate a₁) (lit< tt) refl (λ n. refl))
+    (say 2 a₂ a₃ a (adds-flags a₂ (a .sample) (a .onward))
+    (say-field 1 sixBits (withMarking a₃) (a .marking) a (c .marks) (adds-marking a₃)
+    (say-field 0 redirectType (withRedirect a₄) (a .redirect) a (c .redirects) (adds-redirect a₄) (say-nothing a)))))
+
+right-length : (octets count : ℕ) → octets ≡ 8 * count → count ≤ 64 → wrongLength octets ≡ false
+right-length octets count h p = rw (le-ltb 512 octets (omega arith), eq-eqb (octets % 8) 0 (omega arith))
+
+-- Every actions that could be are those of some communities.
+pub possible-read : (a : Actions) → couldBe a ≡ true → (s : List ℕ) × (Octets s) × (length s ≤ 512) × (actionsOf s ≡ Read a)
+unfolding actionsOf
+possible-read a h =
+    let p = says a (could a h) in
+    let few = p .few in
+    let s = written (p .communities) in
+    let long = length-written (p .communities) in
+    let count : length s / 8 ≡ length (p .communities) = omega arith in
+    let right = right-length (length s) (length (p .communities)) long (omega arith) in
+    (s, written-octets (p .communities), omega arith, rw (right, count, communities-written (p .communities) (p .fit)) (p .reads))

@@ -1,0 +1,42 @@
+-- What a community asks for: each arm's type is one of the definition's, and the last arm has the rest.
+use mathlib.Core.Path.{ap, sym, _∙_}
+use mathlib.Core.Bool.{true, false}
+use borrow.Author.Needs.{needs}
+use Rattle.action.specs.Actions.{kindOf}
+use Rattle.action.proofs.Communities.{last-kind}
+use Rattle.action.proofs.kind_of.Statement.{statement}
+use Rattle.action.proofs.kind_of.Tie as tie
+
+is-redirect-requires : tie.Need-is-redirect-requires
+is-redirect-requires c κs = search needs
+
+returns : tie.Need-returns
+unfolding kindOf
+returns c = ap kindOf (sym (c .match .keys1))
+
+returns-2 : tie.Need-returns-2
+unfolding kindOf
+returns-2 c = ap kindOf (sym (c .match .keys2))
+
+returns-3 : tie.Need-returns-3
+unfolding kindOf
+returns-3 c = ap kindOf (sym (c .match .keys3))
+
+returns-4 : tie.Need-returns-4
+unfolding kindOf
+returns-4 c = ap kindOf (sym (c .match .keys4))
+
+returns-5 : tie.Need-returns-5
+returns-5 c =
+    let m = c .before .before .match .rest in
+    last-kind (c .before .before .before .args .octets) true (m .0 .0 .0 .1) (m .0 .0 .1) (m .0 .1) (m .1) (sym (c .before .is-redirect .ensures) ∙ c .if1 .taken)
+
+returns-6 : tie.Need-returns-6
+returns-6 c =
+    let m = c .before .before .match .rest in
+    last-kind (c .before .before .before .args .octets) false (m .0 .0 .0 .1) (m .0 .0 .1) (m .0 .1) (m .1) (sym (c .before .is-redirect .ensures) ∙ c .if1 .left)
+
+pub kind-of-spec : {M : Type 1} → statement M
+kind-of-spec =
+    tie.close
+    (tie.spec is-redirect-requires returns returns-2 returns-3 returns-4 returns-5 returns-6)

@@ -1,0 +1,141 @@
+-- What the communities of one rule ask for (RFC 8955 section 7). A community is eight octets, here one number: its high sixteen bits are
+-- its type, and what it carries stands in its low bits. S asks to sample; T asks to go on to later rules. The fields are those of the
+-- code's `Actions`: `sample` is S and `onward` is T.
+use Prim.Native.Nat.{ℕ, zero, suc, _+_, _*_, _/_, _%_, _^_}
+use mathlib.Core.Bool.{Bool, false, cond, not, _||_}
+use mathlib.Core.List.{List, [], _∷_}
+use lib.Bits.{bitAnd}
+use lib.Dec.{ltb, eqb}
+use lib.ListN.{length}
+use Rattle.octets.specs.Number.{numberAt}
+use Rattle.action.specs.declared.Actions.{Actions}
+use Rattle.action.specs.declared.Given.{Given}
+use Rattle.action.specs.declared.Kind.{Kind}
+use Rattle.action.specs.declared.Kind.the-variants.{ByteRate, PacketRate, TrafficAction, Redirect, Marking, Other}
+use Rattle.action.specs.declared.Rate.{Rate}
+use Rattle.action.specs.declared.Rate.the-variants.{Number, NotANumber}
+use Rattle.action.specs.declared.Reading.{Reading}
+use Rattle.action.specs.declared.Reading.the-variants.{Read, Unsound}
+use Rattle.action.specs.Given.{absent, given, smallerOf, firstOf}
+use Rattle.action.specs.Rate.{rateOf}
+
+-- A rule that asks for nothing.
+abbrev pub noActions : Actions
+noActions =
+    record { bytes = absent; packets = absent; sample = false; onward = false; marking = absent; redirect = absent }
+
+-- The actions with another byte rate.
+abbrev pub withByteRate : Actions → Given → Actions
+withByteRate a g =
+    record { bytes = g; packets = a .packets; sample = a .sample; onward = a .onward; marking = a .marking; redirect = a .redirect }
+
+-- The actions with another packet rate.
+abbrev pub withPacketRate : Actions → Given → Actions
+withPacketRate a g =
+    record { bytes = a .bytes; packets = g; sample = a .sample; onward = a .onward; marking = a .marking; redirect = a .redirect }
+
+-- The actions with another S and T.
+abbrev pub withFlags : Actions → Bool → Bool → Actions
+withFlags a s t =
+    record { bytes = a .bytes; packets = a .packets; sample = s; onward = t; marking = a .marking; redirect = a .redirect }
+
+-- The actions with another marking.
+abbrev pub withMarking : Actions → Given → Actions
+withMarking a g =
+    record { bytes = a .bytes; packets = a .packets; sample = a .sample; onward = a .onward; marking = g; redirect = a .redirect }
+
+-- The actions with another redirect.
+abbrev pub withRedirect : Actions → Given → Actions
+withRedirect a g =
+    record { bytes = a .bytes; packets = a .packets; sample = a .sample; onward = a .onward; marking = a .marking; redirect = g }
+
+-- Is a type that of a redirect (section 7.4)?
+abbrev pub isRedirect : ℕ → Bool
+isRedirect type = eqb type 0x8008 || eqb type 0x8108 || eqb type 0x8208
+
+-- What a community asks for, by both octets of its type (section 7, table 8); every other type is skipped.
+unfoldable pub kindOf : ℕ → Kind
+kindOf type =
+    cond (eqb type 0x8006) ByteRate
+    (cond (eqb type 0x800c) PacketRate
+    (cond (eqb type 0x8007) TrafficAction
+    (cond (eqb type 0x8009) Marking (cond (isRedirect type) Redirect Other))))
+
+-- Is a bit of a community's last octet set?
+abbrev pub hasBit : ℕ → ℕ → Bool
+hasBit community bit = not (eqb (bitAnd community bit) 0)
+
+-- A rate counts with those of its kind before it: the smallest stands, and not-a-number makes the actions unsound (sections 7.1, 7.2).
+abbrev pub withRate : (Given → Actions) → Given → Rate → Reading
+withRate change before (Number w) = Read (change (smallerOf before (given (w .number))))
+withRate change before NotANumber = Unsound
+
+-- What a community of a kind adds to the actions told so far: a rate is the last four octets; 0x02 is S and 0x01 is T; a marking is the low
+-- six bits of the last octet; a redirect is the community itself. The first marking and the first redirect stand (sections 7.1 to 7.5).
+unfoldable pub withKind : Kind → Actions → ℕ → Reading
+withKind ByteRate a c = withRate (withByteRate a) (a .bytes) (rateOf (c % 2 ^ 32))
+withKind PacketRate a c = withRate (withPacketRate a) (a .packets) (rateOf (c % 2 ^ 32))
+withKind TrafficAction a c = Read (withFlags a (a .sample || hasBit c 0x02) (a .onward || hasBit c 0x01))
+withKind Marking a c = Read (withMarking a (firstOf (a .marking) (given (c % 2 ^ 6))))
+withKind Redirect a c = Read (withRedirect a (firstOf (a .redirect) (given c)))
+withKind Other a c = Read a
+
+-- What a community adds to the actions told so far.
+unfoldable pub withCommunity : Actions → ℕ → Reading
+withCommunity a c = withKind (kindOf (c / 2 ^ 48)) a c
+
+-- Reading goes on with what was read, and stops at what is unsound.
+abbrev pub andThen : Reading → (Actions → Reading) → Reading
+andThen (Read a) next = next a
+andThen Unsound next = Unsound
+
+-- What several communities add, one after the other.
+unfoldable pub withCommunities : Actions → List ℕ → Reading
+withCommunities a [] = Read a
+withCommunities a (c ∷ cs) = andThen (withCommunity a c) (λ b. withCommunities b cs)
+
+-- So many communities of eight octets, from a place on.
+unfoldable pub communitiesAt : ℕ → List ℕ → ℕ → List ℕ
+communitiesAt zero s at = []
+communitiesAt (suc n) s at = numberAt 8 s at ∷ communitiesAt n s (at + 8)
+
+-- "At most 64 communities of 8 octets; another total length is 13."
+abbrev pub wrongLength : ℕ → Bool
+wrongLength octets = ltb (64 * 8) octets || not (eqb (octets % 8) 0)
+
+-- The actions of a rule, from the octets of its communities.
+unfoldable pub actionsOf : List ℕ → Reading
+actionsOf s = cond (wrongLength (length s)) Unsound (withCommunities noActions (communitiesAt (length s / 8) s 0))
+
+-- The answer's number and values: 0, or 13 and every value 0. Flags: 1 byte rate, 2 packet rate, 4 S, 8 T, 16 marking, 32 redirect.
+pub record Told : Type 0 where
+  pub number : ℕ
+  pub flags : ℕ
+  pub dscp : ℕ
+  pub byteRate : ℕ
+  pub packetRate : ℕ
+  pub redirect : ℕ
+
+-- A flag's value, if it is set.
+abbrev pub flag : Bool → ℕ → ℕ
+flag set value = cond set value 0
+
+-- The flags of actions.
+unfoldable pub flagsOf : Actions → ℕ
+flagsOf a =
+    flag (a .bytes .present) 1 + flag (a .packets .present) 2 + flag (a .sample) 4 + flag (a .onward) 8
+    + flag (a .marking .present) 16
+    + flag (a .redirect .present) 32
+
+-- The number and the values of an answer.
+unfoldable pub told : Reading → Told
+told (Read a) =
+    record {
+      number = 0;
+      flags = flagsOf a;
+      dscp = a .marking .number;
+      byteRate = a .bytes .number;
+      packetRate = a .packets .number;
+      redirect = a .redirect .number;
+    }
+told Unsound = record { number = 13; flags = 0; dscp = 0; byteRate = 0; packetRate = 0; redirect = 0 }

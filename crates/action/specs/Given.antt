@@ -1,0 +1,25 @@
+-- Numbers that may be missing, as a rule need not limit, mark or redirect. A missing number stands as 0, and a present 0 is another thing.
+use Prim.Native.Nat.{ℕ}
+use mathlib.Core.Bool.{Bool, true, false, cond, _&&_}
+use lib.Dec.{ltb, eqb}
+use Rattle.action.specs.declared.Given.{Given}
+
+-- No number.
+abbrev pub absent : Given
+absent = record { present = false; number = 0 }
+
+-- A number that is there.
+abbrev pub given : ℕ → Given
+given n = record { present = true; number = n }
+
+-- "Smallest rate of each kind": the smaller of two, or the one that is there; of equal ones the first.
+unfoldable pub smallerOf : Given → Given → Given
+smallerOf a b = cond (a .present) (cond (b .present && ltb (b .number) (a .number)) b a) b
+
+-- "First marking, first redirect": the first that is there.
+unfoldable pub firstOf : Given → Given → Given
+firstOf a b = cond (a .present) a b
+
+-- Does a number that is there pass a test, and does a missing one stand as 0?
+unfoldable pub allowed : Given → Bool → Bool
+allowed g passes = cond (g .present) passes (eqb (g .number) 0)

@@ -1,0 +1,5 @@
+pub mod Rate
+pub mod Given
+pub mod Actions
+pub mod Merging
+pub mod Possible

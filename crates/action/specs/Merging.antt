@@ -1,0 +1,17 @@
+-- The actions of several matching rules taken together ("Over several matching rules: smallest rates, S if any, marking and redirect from
+-- the first that has one"). Merged actions carry no T, which only says whether the walk goes on.
+use mathlib.Core.Bool.{false, _||_}
+use Rattle.action.specs.declared.Actions.{Actions}
+use Rattle.action.specs.Given.{smallerOf, firstOf}
+
+-- The actions of an earlier and of a later rule.
+unfoldable pub merged : Actions → Actions → Actions
+merged earlier later =
+    record {
+      bytes = smallerOf (earlier .bytes) (later .bytes);
+      packets = smallerOf (earlier .packets) (later .packets);
+      sample = earlier .sample || later .sample;
+      onward = false;
+      marking = firstOf (earlier .marking) (later .marking);
+      redirect = firstOf (earlier .redirect) (later .redirect);
+    }

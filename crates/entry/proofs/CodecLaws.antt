@@ -1,0 +1,246 @@
+-- A record stands for one entry, and an entry has one record: reading and writing undo one another, both ways. Assumes nothing.
+use mathlib.Core.Path.{_≡_, refl, sym, ap, ap₂, _∙_}
+use mathlib.Core.Bool.{Bool, true, false, not, _&&_}
+use mathlib.Core.List.{List, [], _∷_, _++_, append-assoc, append-nil}
+use Prim.Native.Nat.{ℕ, zero, suc, _+_, _-_, _/_, _^_, _<_, _≤_}
+use native.Mathlib.Omega.{arith}
+use lib.Bits.{bitAnd}
+use lib.Dec.{ltb, eqb, lit<}
+use lib.ListN.{length, getD, take, drop, length-append, length-drop, take-append-drop}
+use lib.Seq.{drop-at, take-all}
+use borrow.Author.Tests.{ltb-true, lt-ltb, le-ltb, leb-true, eqb-true, ne-eqb, not-true, not-false}
+use Rattle.octets.specs.Number.{numberAt}
+use Rattle.octets.proofs.Cases.{by-test, apart}
+use Rattle.octets.proofs.Facts.{Octets, below, octets-append}
+use Rattle.prefix.proofs.Bools.{both}
+use Rattle.rule.specs.declared.Family.{Family}
+use Rattle.action.specs.declared.Actions.{Actions}
+use Rattle.action.specs.declared.Given.{Given}
+use Rattle.action.specs.Actions.{flag, flagsOf}
+use Rattle.action.specs.Rate.{rateGiven, fitsFraction}
+use Rattle.action.proofs.GivenLaws.{Fine, by-fine}
+use Rattle.action.proofs.PossibleLaws.{could, sixBits, redirectType}
+use Rattle.action.specs.Possible.{couldBe}
+use Rattle.entry.specs.Entry.{Entry, plainValue, possible}
+use Rattle.entry.specs.Record.{headWidths, headCost, writtenFields, readFields, fieldsOf, recordOf, actionsIn, entryOf, goodRecord}
+use Rattle.entry.proofs.ValueLaws.{Possible, is-possible}
+use Rattle.entry.proofs.RecordLaws.{Fit, length-written, octets-written, one-octet, number-small, fields-back, back-fields}
+
+-- the six flags
+
+flag-small : (set : Bool) (value : ℕ) → flag set value ≤ value
+flag-small true value = omega arith
+flag-small false value = omega arith
+
+pub flags-small : (a : Actions) → flagsOf a < 64
+unfolding flagsOf
+flags-small a =
+    omega (
+      arith,
+      flag-small (a .bytes .present) 1,
+      flag-small (a .packets .present) 2,
+      flag-small (a .sample) 4,
+      flag-small (a .onward) 8,
+      flag-small (a .marking .present) 16,
+      flag-small (a .redirect .present) 32,
+    )
+
+-- flags that are read are written as they stood, by computing all 64
+pub flags-back : (flags dscp bytes packets redirect : ℕ) → flags < 64 → flagsOf (actionsIn flags dscp bytes packets redirect) ≡ flags
+unfolding flagsOf actionsIn
+flags-back flags dscp bytes packets redirect h =
+    eqb-true _ _ (below 64 (λ f. eqb (flagsOf (actionsIn f 0 0 0 0)) f) refl flags h)
+
+-- the test passes at both outcomes, and at all lists of n outcomes
+abbrev either : (Bool → Bool) → Bool
+either f = f true && f false
+
+abbrev allLists : ℕ → (List Bool → Bool) → Bool
+allLists zero f = f []
+allLists (suc n) f = either (λ b. allLists n (λ l. f (b ∷ l)))
+
+at-either : (f : Bool → Bool) → either f ≡ true → (b : Bool) → f b ≡ true
+at-either f h true = both (f true) (f false) h .0
+at-either f h false = both (f true) (f false) h .1
+
+at-list : (f : List Bool → Bool) (l : List Bool) → allLists (length l) f ≡ true → f l ≡ true
+at-list f [] h = h
+at-list f (b ∷ l) h = at-list (λ m. f (b ∷ m)) l (at-either (λ c. allLists (length l) (λ m. f (c ∷ m))) h b)
+
+flag-set : (set : Bool) (value : ℕ) → 0 < value → not (eqb (flag set value) 0) ≡ set
+flag-set true value h = rw (ne-eqb value 0 (λ e. omega arith))
+flag-set false value h = refl
+
+-- the sum of six flags, and whether it has the flag at a place as its bit
+abbrev flagSum : List Bool → ℕ
+flagSum l =
+    flag (getD l 0 false) 1 + flag (getD l 1 false) 2 + flag (getD l 2 false) 4 + flag (getD l 3 false) 8 + flag (getD l 4 false) 16
+    + flag (getD l 5 false) 32
+
+abbrev hasFlag : ℕ → ℕ → List Bool → Bool
+hasFlag bit place l = eqb (bitAnd (flagSum l) bit) (flag (getD l place false) bit)
+
+-- actions that are written are read again, by computing all 64 flags
+pub actions-back : (a : Actions)
+    → actionsIn (flagsOf a) (a .marking .number) (a .bytes .number) (a .packets .number) (a .redirect .number) ≡ a
+unfolding actionsIn flagsOf
+actions-back a =
+    λ i. record {
+      bytes = record { present = says 1 0 (lit< tt) refl i; number = a .bytes .number };
+      packets = record { present = says 2 1 (lit< tt) refl i; number = a .packets .number };
+      sample = says 4 2 (lit< tt) refl i;
+      onward = says 8 3 (lit< tt) refl i;
+      marking = record { present = says 16 4 (lit< tt) refl i; number = a .marking .number };
+      redirect = record { present = says 32 5 (lit< tt) refl i; number = a .redirect .number };
+    }
+  where
+    flags : List Bool
+    flags = a .bytes .present ∷ a .packets .present ∷ a .sample ∷ a .onward ∷ a .marking .present ∷ a .redirect .present ∷ []
+
+    says : (bit place : ℕ) → 0 < bit → allLists 6 (hasFlag bit place) ≡ true → not (eqb (bitAnd (flagSum flags) bit) 0) ≡ getD flags place false
+    says bit place some h =
+        let e = eqb-true (bitAnd (flagSum flags) bit) (flag (getD flags place false) bit) (at-list (hasFlag bit place) flags h) in
+        rw e (flag-set (getD flags place false) bit some)
+
+-- every number fits the width of its field
+fine-small : (test : ℕ → Bool) (limit : ℕ) → ((n : ℕ) → test n ≡ true → n < limit) → 0 < limit → (g : Given) → Fine test g → g .number < limit
+fine-small test limit small some = by-fine test (λ g. g .number < limit) small some
+
+rate-small : (n : ℕ) → rateGiven n ≡ true → n < 256 ^ 8
+unfolding rateGiven
+rate-small n h = omega (arith, leb-true n (2 ^ 63) (both _ (fitsFraction 40 n) h .0))
+
+redirect-small : (n : ℕ) → redirectType n ≡ true → n < 256 ^ 8
+redirect-small n h =
+    let type = n / 2 ^ 48 in
+    by-test (eqb type 0x8008) (λ t. omega (arith, eqb-true type 0x8008 t))
+    (λ t. by-test (eqb type 0x8108) (λ u. omega (arith, eqb-true type 0x8108 u))
+    (λ u. by-test (eqb type 0x8208) (λ w. omega (arith, eqb-true type 0x8208 w)) (λ w. let z : false ≡ true = rw (t, u, w) at h in apart (cc))))
+
+head-fits : (family : Family) (e : Entry) → Possible family e → Fit headWidths (fieldsOf e)
+unfolding fieldsOf
+head-fits family e p =
+    let v = p .value in
+    let o = p .originates in
+    let c = could (e .actions) (p .acts) in
+    let f = flags-small (e .actions) in
+    let marks = fine-small sixBits 256 (λ n h. let t = ltb-true n (2 ^ 6) h in omega arith) (omega arith) (e .actions .marking) (c .marks) in
+    let bytes = fine-small rateGiven (256 ^ 8) rate-small (omega arith) (e .actions .bytes) (c .bytes) in
+    let packets = fine-small rateGiven (256 ^ 8) rate-small (omega arith) (e .actions .packets) (c .packets) in
+    let redirects = fine-small redirectType (256 ^ 8) redirect-small (omega arith) (e .actions .redirect) (c .redirects) in
+    (omega arith, (omega arith, (omega arith, (marks, (bytes, (packets, (redirects, tt)))))))
+
+-- how `record_actions` comes to its answer
+pub head-actions : (s : List ℕ) (a : Actions) (flags dscp bytes packets redirect : ℕ) → flags ≡ getD s 6 0 → dscp ≡ getD s 7 0
+    → bytes ≡ numberAt 8 s 8 → packets ≡ numberAt 8 s 16 → redirect ≡ numberAt 8 s 24
+    → a ≡ actionsIn flags dscp bytes packets redirect → a ≡ entryOf s .actions
+unfolding entryOf readFields
+head-actions s a flags dscp bytes packets redirect f d b p r h =
+    h ∙ rw (f, d, b, p, r, one-octet s 6, one-octet s 7)
+
+-- the record of an entry
+
+pub length-record : (e : Entry) → length (recordOf e) ≡ headCost + length (e .value)
+unfolding recordOf fieldsOf
+length-record e = simp length-append (omega (arith, length-written headWidths (fieldsOf e) refl))
+
+pub octets-record : (e : Entry) → Octets (e .value) → Octets (recordOf e)
+unfolding recordOf
+octets-record e o = octets-append (writtenFields headWidths (fieldsOf e)) (e .value) (octets-written headWidths (fieldsOf e)) o
+
+pub value-record : (e : Entry) → drop headCost (recordOf e) ≡ e .value
+unfolding recordOf fieldsOf
+value-record e = drop-at (writtenFields headWidths (fieldsOf e)) (e .value) headCost (length-written headWidths (fieldsOf e) refl)
+
+module _ (family : Family) (e : Entry) (ok : possible family e ≡ true) where
+  -- whatever follows a record, its head is read again
+  pub head-back : (rest : List ℕ) → readFields headWidths (recordOf e ++ rest) 0 ≡ fieldsOf e
+  unfolding recordOf
+  head-back rest =
+      let w : List ℕ = writtenFields headWidths (fieldsOf e) in
+      rw (append-assoc w (e .value) rest) (fields-back [] headWidths (fieldsOf e) (e .value ++ rest) (head-fits family e (is-possible family e ok)))
+
+  fields-alone : readFields headWidths (recordOf e) 0 ≡ fieldsOf e
+  fields-alone = rw append-nil at (head-back [])
+
+  -- so is its length field
+  pub size-back : (rest : List ℕ) → numberAt 2 (recordOf e ++ rest) 0 ≡ length (e .value)
+  unfolding readFields fieldsOf
+  size-back rest = ap (λ (l : List ℕ). getD l 0 0) (head-back rest)
+
+  pub size-alone : numberAt 2 (recordOf e) 0 ≡ length (e .value)
+  size-alone = rw append-nil at (size-back [])
+
+  -- an entry that is written is read again
+  pub read-written : entryOf (recordOf e) ≡ e
+  unfolding entryOf fieldsOf
+  read-written =
+      let fields = fields-alone in
+      let value = value-record e in
+      let actions
+      = ap (λ (l : List ℕ). actionsIn (getD l 2 0) (getD l 3 0) (getD l 4 0) (getD l 5 0) (getD l 6 0)) fields ∙ actions-back (e .actions) in
+      λ i. record { originator = getD (fields i) 1 0; actions = actions i; value = value i }
+
+  flags-octet : getD (recordOf e) 6 0 ≡ flagsOf (e .actions)
+  unfolding readFields fieldsOf
+  flags-octet = sym (one-octet (recordOf e) 6) ∙ ap (λ (l : List ℕ). getD l 2 0) fields-alone
+
+  -- and its record could be
+  pub good-written : goodRecord family (recordOf e) ≡ true
+  unfolding goodRecord
+  good-written = rw (flags-octet, lt-ltb (flagsOf (e .actions)) 64 (flags-small (e .actions)), read-written) ok
+
+-- two entries that could be have different records
+pub record-only : (family : Family) (a b : Entry) → possible family a ≡ true → possible family b ≡ true → recordOf a ≡ recordOf b → a ≡ b
+record-only family a b p q h = sym (read-written family a p) ∙ ap entryOf h ∙ read-written family b q
+
+-- what a record that could be is
+module _ (family : Family) (r : List ℕ) (good : goodRecord family r ≡ true) where
+  pub good-flags : getD r 6 0 < 64
+  unfolding goodRecord
+  good-flags = ltb-true (getD r 6 0) 64 (both (ltb (getD r 6 0) 64) (possible family (entryOf r)) good .0)
+
+  pub good-possible : possible family (entryOf r) ≡ true
+  unfolding goodRecord
+  good-possible = both (ltb (getD r 6 0) 64) (possible family (entryOf r)) good .1
+
+  -- a record that is read is written as it stood, where its length field says how long it is
+  pub written-read : Octets r → headCost ≤ length r → numberAt 2 r 0 ≡ length r - headCost → recordOf (entryOf r) ≡ r
+  unfolding recordOf entryOf fieldsOf readFields actionsIn
+  written-read o long size =
+      let n : length (drop headCost r) ≡ numberAt 2 r 0 = length-drop headCost r ∙ sym size in
+      let f = flags-back (numberAt 1 r 6) (numberAt 1 r 7) (numberAt 8 r 8) (numberAt 8 r 16) (numberAt 8 r 24) (rw (one-octet r 6) good-flags) in
+      let fields : fieldsOf (entryOf r) ≡ readFields headWidths r 0
+      = ap₂ (λ (a b : ℕ). a ∷ numberAt 4 r 2 ∷ b ∷ numberAt 1 r 7 ∷ numberAt 8 r 8 ∷ numberAt 8 r 16 ∷ numberAt 8 r 24 ∷ []) n f in
+      ap (λ (l : List ℕ). writtenFields headWidths l ++ drop headCost r) fields
+      ∙ ap (λ (l : List ℕ). l ++ drop headCost r) (back-fields headWidths r 0 o (omega arith)) ∙ take-append-drop headCost r
+
+-- how `is_good_record` comes to each of its answers
+module _ (family : Family) (r : List ℕ) where
+  never : (goodRecord family r ≡ true → ⊥) → false ≡ goodRecord family r
+  never h = by-test (goodRecord family r) (λ t. absurd (h t)) (λ t. sym t)
+
+  pub good-short : length r < headCost → false ≡ goodRecord family r
+  unfolding entryOf
+  good-short h =
+      never (λ t. let v = is-possible family (entryOf r) (good-possible family r t) .value .some in omega (arith, length-drop headCost r))
+
+  pub good-no-flags : 64 ≤ getD r 6 0 → false ≡ goodRecord family r
+  unfolding goodRecord
+  good-no-flags h = rw (le-ltb (getD r 6 0) 64 h)
+
+  module _ (actions : Actions) (acts : actions ≡ entryOf r .actions) (could : Bool) (tells : could ≡ couldBe actions) where
+    pub good-no-actions : not could ≡ true → false ≡ goodRecord family r
+    good-no-actions h =
+        never (λ t.
+        let c = is-possible family (entryOf r) (good-possible family r t) .acts in
+        let z : false ≡ true = sym (not-true could h) ∙ tells ∙ ap couldBe acts ∙ c in
+        apart (cc))
+
+    pub good-value : (plain : Bool) → getD r 6 0 < 64 → not could ≡ false → Octets r
+        → plain ≡ plainValue family (take (length r - headCost) (drop headCost r)) → plain ≡ goodRecord family r
+    unfolding goodRecord possible entryOf readFields
+    good-value plain small h o p =
+        let c : couldBe (entryOf r .actions) ≡ true = sym (ap couldBe acts) ∙ sym tells ∙ not-false could h in
+        let value = take-all (length r - headCost) (drop headCost r) (simp length-drop (omega arith)) in
+        rw (lt-ltb (getD r 6 0) 64 small, lt-ltb (numberAt 4 r 2) (2 ^ 32) (number-small 4 r 2 o), c) (p ∙ ap (plainValue family) value)

@@ -1,0 +1,59 @@
+-- Every octet passed is cleared already, so that the answer for all of them is the answer for the rest.
+use borrow.Author.Needs.{needs}
+use Prim.Native.Nat.{_-_}
+use mathlib.Core.Path.{_≡_}
+use lib.ListN.{length, drop}
+use Rattle.rule.specs.Plain.{plain}
+use Rattle.entry.specs.Entry.{sameOctets}
+use Rattle.entry.proofs.ValueLaws.{plainFromHere, plain-starts, plain-on, plain-not, plain-all}
+use Rattle.entry.proofs.is_plain.Statement.{statement}
+use Rattle.entry.proofs.is_plain.Tie as tie
+
+abbrev Inv-loop : tie.InvT-loop
+Inv-loop value expected₀ i₀ expected i = sameOctets (plain value) value ≡ plainFromHere expected (drop i value)
+
+abbrev μ-loop : tie.MeasureT-loop
+μ-loop value expected₀ i₀ expected i = length value - i
+
+loop-holds : tie.Need-loop-holds Inv-loop μ-loop
+loop-holds c = plain-starts _
+
+shared-slice-read-x : tie.Need-shared-slice-read-x Inv-loop μ-loop
+shared-slice-read-x c = search needs
+
+cleared-octet-requires : tie.Need-cleared-octet-requires Inv-loop μ-loop
+cleared-octet-requires c κs = search needs
+
+returns : tie.Need-returns Inv-loop μ-loop
+returns c = search (plain-not, needs)
+
+expected-after-requires : tie.Need-expected-after-requires Inv-loop μ-loop
+expected-after-requires c κs = search needs
+
+add-i : tie.Need-add-i Inv-loop μ-loop
+add-i c = search needs
+
+loop-less : tie.Need-loop-less Inv-loop μ-loop
+loop-less c = search needs
+
+loop-again : tie.Need-loop-again Inv-loop μ-loop
+loop-again c = search (plain-on, needs)
+
+returns-2 : tie.Need-returns-2 Inv-loop μ-loop
+returns-2 c = search (plain-all, needs)
+
+pub is-plain-spec : {M : Type 1} → statement M
+is-plain-spec =
+    tie.close
+    (tie.spec
+    Inv-loop
+    μ-loop
+    loop-holds
+    shared-slice-read-x
+    cleared-octet-requires
+    returns
+    expected-after-requires
+    add-i
+    loop-less
+    loop-again
+    returns-2)

@@ -1,0 +1,42 @@
+-- A rule as the table holds it, and which rules with actions it could hold.
+use Prim.Native.Nat.{ℕ, _^_}
+use mathlib.Core.Bool.{Bool, true, false, _&&_}
+use mathlib.Core.List.{List, [], _∷_}
+use lib.Dec.{ltb, eqb}
+use Rattle.rule.specs.declared.Family.{Family}
+use Rattle.rule.specs.declared.Checked.{Checked}
+use Rattle.rule.specs.declared.Checked.the-variants.{Accepted, Refused}
+use Rattle.rule.specs.Value.{checkValue}
+use Rattle.rule.specs.Plain.{plain}
+use Rattle.order.specs.Key.{keysOf}
+use Rattle.action.specs.declared.Actions.{Actions}
+use Rattle.action.specs.Possible.{couldBe}
+
+-- The originator and the actions of the announcement, and the rule's value in its plain spelling.
+pub record Entry : Type 0 where
+  pub originator : ℕ
+  pub actions : Actions
+  pub value : List ℕ
+
+-- Entries stand in precedence order, which is the order of these keys (RFC 8955 section 5.1).
+abbrev pub entryKey : Family → Entry → List (List ℕ)
+entryKey family e = keysOf family (e .value)
+
+-- Whether two lists of octets are the same.
+unfoldable pub sameOctets : List ℕ → List ℕ → Bool
+sameOctets [] [] = true
+sameOctets [] (y ∷ ys) = false
+sameOctets (x ∷ xs) [] = false
+sameOctets (x ∷ xs) (y ∷ ys) = eqb x y && sameOctets xs ys
+
+abbrev pub isAccepted : Checked → Bool
+isAccepted Accepted = true
+isAccepted (Refused number place) = false
+
+-- A value that the table may hold: accepted, and in its plain spelling.
+unfoldable pub plainValue : Family → List ℕ → Bool
+plainValue family v = isAccepted (checkValue family v) && sameOctets (plain v) v
+
+-- "accepted plain rules and actions": an originator of 32 bits, actions that some communities give, and an accepted plain value.
+unfoldable pub possible : Family → Entry → Bool
+possible family e = ltb (e .originator) (2 ^ 32) && (couldBe (e .actions) && plainValue family (e .value))

@@ -1,0 +1,75 @@
+-- A record: its head, a list of fields of fixed widths, and then the value. 01: "Record: value length (2), originator (4), flags (1),
+-- DSCP (1), byte rate (8), packet rate (8), redirect community (8), then the value; big-endian, absent fields zero."
+use Prim.Native.Nat.{ℕ, _+_, _^_}
+use mathlib.Core.Bool.{Bool, _&&_, not}
+use mathlib.Core.List.{List, [], _∷_, _++_}
+use lib.Bits.{bitAnd}
+use lib.Dec.{ltb, eqb}
+use lib.ListN.{length, getD, drop}
+use Rattle.octets.specs.Number.{numberAt, octetsOf}
+use Rattle.rule.specs.declared.Family.{Family}
+use Rattle.action.specs.declared.Actions.{Actions}
+use Rattle.action.specs.declared.Given.{Given}
+use Rattle.action.specs.Actions.{flagsOf}
+use Rattle.entry.specs.Entry.{Entry, possible}
+
+-- How many octets each field of a head has.
+abbrev pub headWidths : List ℕ
+headWidths = 2 ∷ 4 ∷ 1 ∷ 1 ∷ 8 ∷ 8 ∷ 8 ∷ []
+
+-- The octets of a head; "a rule costs 32 plus its length".
+abbrev pub headCost : ℕ
+headCost = 32
+
+-- Numbers written one behind the other, each in its width.
+unfoldable pub writtenFields : List ℕ → List ℕ → List ℕ
+writtenFields [] numbers = []
+writtenFields (width ∷ widths) [] = []
+writtenFields (width ∷ widths) (number ∷ numbers) = octetsOf width number ++ writtenFields widths numbers
+
+-- Numbers read one behind the other, each in its width.
+unfoldable pub readFields : List ℕ → List ℕ → ℕ → List ℕ
+readFields [] s at = []
+readFields (width ∷ widths) s at = numberAt width s at ∷ readFields widths s (at + width)
+
+-- The fields of a head, in order: value length, originator, flags, DSCP, byte rate, packet rate, redirect community.
+unfoldable pub fieldsOf : Entry → List ℕ
+fieldsOf e =
+    length (e .value) ∷ e .originator ∷ flagsOf (e .actions) ∷ e .actions .marking .number ∷ e .actions .bytes .number
+    ∷ e .actions .packets .number
+    ∷ e .actions .redirect .number
+    ∷ []
+
+-- The record of an entry.
+unfoldable pub recordOf : Entry → List ℕ
+recordOf e = writtenFields headWidths (fieldsOf e) ++ e .value
+
+-- A field with its flag, the number of the flag's bit.
+abbrev pub fieldIf : ℕ → ℕ → ℕ → Given
+fieldIf flags bit number = record { present = not (eqb (bitAnd flags bit) 0); number = number }
+
+-- The actions that fields stand for: "1 byte rate, 2 packet rate, 4 S, 8 T, 16 marking, 32 redirect".
+unfoldable pub actionsIn : ℕ → ℕ → ℕ → ℕ → ℕ → Actions
+actionsIn flags dscp bytes packets redirect =
+    record {
+      bytes = fieldIf flags 1 bytes;
+      packets = fieldIf flags 2 packets;
+      sample = not (eqb (bitAnd flags 4) 0);
+      onward = not (eqb (bitAnd flags 8) 0);
+      marking = fieldIf flags 16 dscp;
+      redirect = fieldIf flags 32 redirect;
+    }
+
+-- The entry that a record's octets stand for.
+unfoldable pub entryOf : List ℕ → Entry
+entryOf r =
+    let fields = readFields headWidths r 0 in
+    record {
+      originator = getD fields 1 0;
+      actions = actionsIn (getD fields 2 0) (getD fields 3 0) (getD fields 4 0) (getD fields 5 0) (getD fields 6 0);
+      value = drop headCost r;
+    }
+
+-- A record that could be: no other flag than the six, and an entry that could be.
+unfoldable pub goodRecord : Family → List ℕ → Bool
+goodRecord family r = ltb (getD r 6 0) 64 && possible family (entryOf r)

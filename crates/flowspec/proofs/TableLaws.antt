@@ -1,0 +1,169 @@
+-- Announcing, withdrawing and looking up: the promises, one law for each way in which the code comes to an answer. Assumes nothing.
+use mathlib.Core.Path.{_≡_, refl, sym, ap, ap₂, subst, _∙_}
+use mathlib.Core.Bool.{Bool, true, false, not, cond}
+use mathlib.Core.List.{List}
+use Prim.Native.Nat.{ℕ, _+_, _-_, _≤_}
+use native.Mathlib.Omega.{arith}
+use native.Mathlib.Nat.{add-sub-cancel-left}
+use lib.ListN.{length, take, drop}
+use Rattle.octets.proofs.Cases.{by-test, apart}
+use Rattle.sorted.specs.History.{costs}
+use Rattle.rule.specs.declared.Family.{Family}
+use Rattle.rule.specs.declared.Checked.the-variants.{Accepted}
+use Rattle.rule.specs.declared.Reading.{Reading}
+use Rattle.rule.specs.declared.Reading.the-variants.{Rule, Refused as NotRead}
+use Rattle.rule.specs.Family.{ipv4}
+use Rattle.rule.specs.Value.{checkValue}
+use Rattle.rule.specs.Plain.{plain}
+use Rattle.rule.specs.Reading.{oneRule}
+use Rattle.rule.proofs.ReadingLaws.{ReadRule, one-read}
+use Rattle.order.specs.Key.{keysOf}
+use Rattle.action.specs.declared.Actions.{Actions}
+use Rattle.action.specs.declared.Reading.{Reading as ActionsReading}
+use Rattle.packet.specs.declared.Packet.{Packet}
+use Rattle.packet.specs.declared.Sight.{Sight}
+use Rattle.packet.specs.declared.Sight.the-variants.{Usable, Unusable}
+use Rattle.packet.specs.Packet.{packetOf}
+use Rattle.table.specs.declared.Soundness.{Soundness}
+use Rattle.table.specs.declared.Soundness.the-variants.{Sound, Unsound}
+use Rattle.table.specs.declared.Verdict.{Verdict}
+use Rattle.table.specs.declared.Place.{Place}
+use Rattle.table.specs.Walk.{entries}
+use Rattle.table.specs.Sound.{cost, soundTable, soundness}
+use Rattle.table.specs.Lookup.{hit, verdictFor, firstPlace}
+use Rattle.table.specs.Change.{Changed, announced, withdrawn}
+use Rattle.flowspec.specs.declared.Request.{Request}
+use Rattle.flowspec.specs.declared.Request.the-variants.{Announce, Refused as NotAsked}
+use Rattle.flowspec.specs.declared.Change.{Change}
+use Rattle.flowspec.specs.declared.Change.the-variants.{Done, Refused as NotChanged}
+use Rattle.flowspec.specs.declared.Looked.{Looked}
+use Rattle.flowspec.specs.declared.Looked.the-variants.{Judged, Refused as NotLookedUp}
+use Rattle.flowspec.specs.Announce.{Outcome, changeOf, outcome, refusal, valueOf, asked, announcing, withdrawing}
+use Rattle.flowspec.specs.Look.{lookingUp, nowhere, firstMatch}
+use Rattle.flowspec.specs.Told.{changeTold, lookupTold}
+use Rattle.flowspec.specs.Promise.{Announces, Withdraws, LooksUp}
+use Rattle.flowspec.proofs.AskLaws.{asked-rule}
+
+-- what the answer on soundness says of a table
+module _ (t : List ℕ) (s : Soundness) (is : s ≡ soundness ipv4 t) where
+  pub was-sound : (used : ℕ) → s ≡ Sound used → (soundTable ipv4 t ≡ true) × (used ≡ costs cost (entries t))
+  unfolding soundness
+  was-sound used e =
+      by-test (soundTable ipv4 t)
+      (λ h. let z : Sound used ≡ Sound (costs cost (entries t)) = sym e ∙ is ∙ rw h in (h, cc))
+      (λ h. let z : Sound used ≡ Unsound = sym e ∙ is ∙ rw h in apart (cc))
+
+  pub was-unsound : s ≡ Unsound → soundTable ipv4 t ≡ false
+  unfolding soundness
+  was-unsound e =
+      by-test (soundTable ipv4 t) (λ h. let z : Unsound ≡ Sound (costs cost (entries t)) = sym e ∙ is ∙ rw h in apart (cc)) (λ h. h)
+
+-- ---- announcing ----
+
+module _ (relaxed : Bool) (words rule : List ℕ) (originator : ℕ) (communities t : List ℕ) where
+  -- a promise from the equation for the outcome
+  announce-kept : (o : Outcome) (answer : Change) (exit : List ℕ) → announcing relaxed words rule originator communities t ≡ o → answer ≡ o .answer → exit ≡ o .table
+      → Announces relaxed words rule originator communities t answer exit
+  announce-kept o answer exit e a x =
+      let q : answer ≡ announcing relaxed words rule originator communities t .answer = rw e a in
+      record { is = q; says = ap changeTold q; leaves = rw e x }
+
+  module _ (s : Soundness) (is : s ≡ soundness ipv4 t) where
+    pub announce-unsound : s ≡ Unsound → Announces relaxed words rule originator communities t (NotChanged 10 0) t
+    unfolding announcing
+    announce-unsound e = announce-kept (refusal 10 0 t) _ _ (rw (was-unsound t s is e)) refl refl
+
+    module _ (used : ℕ) (e : s ≡ Sound used) (request : Request) (asks : request ≡ asked relaxed words rule originator communities) where
+      pub announce-refused : (number place : ℕ) → request ≡ NotAsked number place → Announces relaxed words rule originator communities t (NotChanged number place) t
+      unfolding announcing
+      announce-refused number place f = announce-kept (refusal number place t) _ _ (rw (was-sound t s is used e .0, ← asks, f)) refl refl
+
+      module _ (start size : ℕ) (actions : Actions) (feasible : Bool) (f : request ≡ Announce start size actions feasible) where
+        pub announce-rule : ReadRule ipv4 rule start size
+        announce-rule = asked-rule relaxed words rule originator communities start size actions feasible (sym asks ∙ f)
+
+        pub announce-requires : (soundTable ipv4 t ≡ true) × ((checkValue ipv4 (take (start + size - start) (drop start rule)) ≡ Accepted) × (used ≡ costs cost (entries t)))
+        announce-requires =
+            let h = was-sound t s is used e in
+            (h .0, (rw (add-sub-cancel-left start size) (announce-rule .accepted), h .1))
+
+        pub announce-done : (number : ℕ) (answer : Change) (exit : List ℕ)
+            → (number ≡ announced ipv4 t (record { originator = originator; actions = actions; value = plain (take (start + size - start) (drop start rule)) }) feasible .number)
+            × (exit ≡ announced ipv4 t (record { originator = originator; actions = actions; value = plain (take (start + size - start) (drop start rule)) }) feasible .table)
+            → answer ≡ changeOf number → Announces relaxed words rule originator communities t answer exit
+        unfolding announcing
+        announce-done number answer exit h a =
+            let k = rw (add-sub-cancel-left start size) at h in
+            announce-kept (outcome (announced ipv4 t (record { originator = originator; actions = actions; value = plain (valueOf rule start size) }) feasible)) answer exit
+            (rw (was-sound t s is used e .0, ← asks, f)) (a ∙ ap changeOf (k .0)) (k .1)
+
+-- ---- withdrawing ----
+
+module _ (rule t : List ℕ) where
+  withdraw-kept : (o : Outcome) (answer : Change) (exit : List ℕ) → withdrawing rule t ≡ o → answer ≡ o .answer → exit ≡ o .table → Withdraws rule t answer exit
+  withdraw-kept o answer exit e a x =
+      let q : answer ≡ withdrawing rule t .answer = rw e a in
+      record { is = q; says = ap changeTold q; leaves = rw e x }
+
+  module _ (s : Soundness) (is : s ≡ soundness ipv4 t) where
+    pub withdraw-unsound : s ≡ Unsound → Withdraws rule t (NotChanged 10 0) t
+    unfolding withdrawing
+    withdraw-unsound e = withdraw-kept (refusal 10 0 t) _ _ (rw (was-unsound t s is e)) refl refl
+
+    module _ (used : ℕ) (e : s ≡ Sound used) (family : Family) (four : family ≡ ipv4) (reading : Reading) (read-is : reading ≡ oneRule family rule) where
+      found : oneRule ipv4 rule ≡ reading
+      found = rw (← four) (sym read-is)
+
+      pub withdraw-refused : (number place : ℕ) → reading ≡ NotRead number place → Withdraws rule t (NotChanged number place) t
+      unfolding withdrawing
+      withdraw-refused number place f = withdraw-kept (refusal number place t) _ _ (rw (was-sound t s is used e .0, found, f)) refl refl
+
+      module _ (start size : ℕ) (f : reading ≡ Rule start size) where
+        pub withdraw-rule : ReadRule ipv4 rule start size
+        withdraw-rule = one-read ipv4 rule start size (found ∙ f)
+
+        pub withdraw-requires : (soundTable ipv4 t ≡ true) × (checkValue ipv4 (take (start + size - start) (drop start rule)) ≡ Accepted)
+        withdraw-requires = (was-sound t s is used e .0, rw (add-sub-cancel-left start size) (withdraw-rule .accepted))
+
+        pub withdraw-done : (number : ℕ) (answer : Change) (exit : List ℕ)
+            → (number ≡ withdrawn ipv4 t (keysOf ipv4 (plain (take (start + size - start) (drop start rule)))) .number)
+            × (exit ≡ withdrawn ipv4 t (keysOf ipv4 (plain (take (start + size - start) (drop start rule)))) .table) → answer ≡ changeOf number → Withdraws rule t answer exit
+        unfolding withdrawing
+        withdraw-done number answer exit h a =
+            let k = rw (add-sub-cancel-left start size) at h in
+            withdraw-kept (outcome (withdrawn ipv4 t (keysOf ipv4 (plain (valueOf rule start size))))) answer exit (rw (was-sound t s is used e .0, found, f)) (a ∙ ap changeOf (k .0)) (k .1)
+
+-- ---- looking up ----
+
+module _ (t octets : List ℕ) where
+  look-kept : (answer : Looked) → answer ≡ lookingUp t octets → LooksUp t octets answer
+  look-kept answer e = record { is = e; says = ap lookupTold e }
+
+  module _ (s : Soundness) (is : s ≡ soundness ipv4 t) where
+    pub look-unsound : s ≡ Unsound → LooksUp t octets (NotLookedUp 10 0)
+    unfolding lookingUp
+    look-unsound e = look-kept _ (rw (was-unsound t s is e))
+
+    pub first-unsound : s ≡ Unsound → nowhere ≡ firstMatch t octets
+    unfolding firstMatch
+    first-unsound e = rw (was-unsound t s is e)
+
+    module _ (used : ℕ) (e : s ≡ Sound used) (sight : Sight) (seen : sight ≡ packetOf octets) where
+      pub look-sound : soundTable ipv4 t ≡ true
+      look-sound = was-sound t s is used e .0
+
+      pub look-unusable : sight ≡ Unusable → LooksUp t octets (NotLookedUp 12 0)
+      unfolding lookingUp
+      look-unusable f = look-kept _ (rw (look-sound, ← seen, f))
+
+      pub look-judged : (packet : Packet) (verdict : Verdict) → sight ≡ Usable packet → verdict ≡ verdictFor ipv4 packet (entries t) → LooksUp t octets (Judged verdict)
+      unfolding lookingUp
+      look-judged packet verdict f v = look-kept _ (rw (look-sound, ← seen, f, v))
+
+      pub first-unusable : sight ≡ Unusable → nowhere ≡ firstMatch t octets
+      unfolding firstMatch
+      first-unusable f = rw (look-sound, ← seen, f)
+
+      pub first-found : (packet : Packet) (place : Place) → sight ≡ Usable packet → place ≡ firstPlace (hit ipv4 packet) 0 (entries t) → place ≡ firstMatch t octets
+      unfolding firstMatch
+      first-found packet place f v = rw (look-sound, ← seen, f) v

@@ -1,0 +1,27 @@
+use mathlib.Core.Path.{refl}
+use borrow.Author.Needs.{needs}
+use Rattle.flowspec.proofs.first_match.Statement.{statement}
+use Rattle.flowspec.proofs.first_match.Tie as tie
+use Rattle.flowspec.proofs.first_match.Reads as reads
+use Rattle.flowspec.proofs.first_match.Lts as lts
+use Rattle.flowspec.proofs.first_match_place.Reads as first-match-place-reads
+
+first-match-place-requires : tie.Need-first-match-place-requires
+first-match-place-requires c κs = search needs
+
+sub-result : tie.Need-sub-result
+sub-result c = search needs
+
+part-result-start : tie.Need-part-result-start
+part-result-start c = search needs
+
+part-result-end : tie.Need-part-result-end
+part-result-end c = search needs
+
+returns : tie.Need-returns
+returns c = let e = c .before .first-match-place .ensures .0 in (record { is = rw (← e) refl }, (refl, rw (← e) refl))
+
+pub first-match-spec : {M : Type 1} → statement M
+first-match-spec =
+    tie.close
+    (tie.spec first-match-place-requires sub-result part-result-start part-result-end returns)

@@ -1,0 +1,59 @@
+-- One law for each return; no part lies at octet 0.
+use native.Mathlib.Omega.{arith}
+use Rattle.flowspec.proofs.TableLaws.{look-sound, first-unsound, first-unusable, first-found}
+use borrow.Author.Needs.{needs}
+use Rattle.flowspec.proofs.first_match_place.Statement.{statement}
+use Rattle.flowspec.proofs.first_match_place.Tie as tie
+use Rattle.flowspec.proofs.first_match_place.Reads as reads
+use Rattle.flowspec.proofs.first_match_place.Lts as lts
+use Rattle.packet.proofs.packet_of.Reads as packet-of-reads
+use Rattle.table.proofs.first_place.Reads as first-place-reads
+use Rattle.table.proofs.sound_table.Reads as sound-table-reads
+
+sound-table-requires : tie.Need-sound-table-requires
+sound-table-requires c κs = search needs
+
+enum-told : tie.Need-enum-told
+enum-told c = search needs
+
+enum-told-2 : tie.Need-enum-told-2
+enum-told-2 c = search needs
+
+packet-of-requires : tie.Need-packet-of-requires
+packet-of-requires c κs = search needs
+
+enum-told-3 : tie.Need-enum-told-3
+enum-told-3 c = search needs
+
+enum-known-seen : tie.Need-enum-known-seen
+enum-known-seen c = search needs
+
+first-place-requires : tie.Need-first-place-requires
+first-place-requires c κs = look-sound _ _ _ (c .before .before .before .before .before .before .sound-table .ensures) _ (c .before .before .before .before .enum-told2 .given .1) _ (c .before .before .before .packet-of .ensures)
+
+returns : tie.Need-returns
+returns c = (first-unsound _ _ _ (c .before .before .sound-table .ensures) (c .enum-told .given .1), (omega arith, omega arith))
+
+returns-2 : tie.Need-returns-2
+returns-2 c = (first-unusable _ _ _ (c .before .before .before .before .before .sound-table .ensures) _ (c .before .before .before .enum-told2 .given .1) _ (c .before .before .packet-of .ensures) (c .enum-told3 .given .1), (omega arith, omega arith))
+
+returns-3 : tie.Need-returns-3
+returns-3 c = (
+  first-found _ _ _ (c .before .before .before .before .before .before .before .sound-table .ensures) _ (c .before .before .before .before .before .enum-told2 .given .1) _ (c .before .before .before .before .packet-of .ensures) _ _ (c .before .before .seen .given .1) (c .first-place .ensures .0),
+  c .first-place .ensures .1,
+)
+
+pub first-match-place-spec : {M : Type 1} → statement M
+first-match-place-spec =
+    tie.close
+    (tie.spec
+    sound-table-requires
+    enum-told
+    enum-told-2
+    packet-of-requires
+    enum-told-3
+    enum-known-seen
+    first-place-requires
+    returns
+    returns-2
+    returns-3)

@@ -1,0 +1,18 @@
+-- The answer is the action crate's.
+use mathlib.Core.Path.{ap}
+use Rattle.action.specs.Actions.{told}
+use borrow.Author.Needs.{needs}
+use Rattle.flowspec.proofs.read_actions.Statement.{statement}
+use Rattle.flowspec.proofs.read_actions.Tie as tie
+use Rattle.flowspec.proofs.read_actions.Reads as reads
+use Rattle.flowspec.proofs.read_actions.Lts as lts
+use Rattle.action.proofs.actions_of.Reads as actions-of-reads
+
+actions-of-requires : tie.Need-actions-of-requires
+actions-of-requires c κs = search needs
+
+returns : tie.Need-returns
+returns c = record { is = c .actions-of .ensures; says = ap told (c .actions-of .ensures) }
+
+pub read-actions-spec : {M : Type 1} → statement M
+read-actions-spec = tie.close (tie.spec actions-of-requires returns)

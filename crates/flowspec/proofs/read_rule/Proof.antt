@@ -1,0 +1,24 @@
+-- The answer is the rule crate's.
+use mathlib.Core.Path.{ap, _∙_}
+use Rattle.rule.specs.Reading.{oneRule}
+use Rattle.flowspec.specs.Told.{readingTold}
+use borrow.Author.Needs.{needs}
+use Rattle.flowspec.proofs.read_rule.Statement.{statement}
+use Rattle.flowspec.proofs.read_rule.Tie as tie
+use Rattle.flowspec.proofs.read_rule.Reads as reads
+use Rattle.flowspec.proofs.read_rule.Lts as lts
+use Rattle.rule.proofs.ipv4.Reads as ipv4-reads
+use Rattle.rule.proofs.one_rule.Reads as one-rule-reads
+
+ipv4-requires : tie.Need-ipv4-requires
+ipv4-requires c κs = search needs
+
+one-rule-requires : tie.Need-one-rule-requires
+one-rule-requires c κs = search needs
+
+returns : tie.Need-returns
+returns c = let e = c .one-rule .ensures ∙ ap (λ f. oneRule f (c .before .before .before .args .rule .now)) (c .before .ipv4 .ensures) in
+    record { is = e; says = ap readingTold e }
+
+pub read-rule-spec : {M : Type 1} → statement M
+read-rule-spec = tie.close (tie.spec ipv4-requires one-rule-requires returns)

@@ -1,0 +1,104 @@
+-- A rule that was read lies in its octets; then one law for each return.
+use native.Mathlib.Omega.{arith}
+use Rattle.rule.specs.Family.{ipv4}
+use Rattle.rule.proofs.ReadingLaws.{ReadRule}
+use Rattle.flowspec.proofs.TableLaws.{withdraw-unsound, withdraw-refused, withdraw-rule, withdraw-requires, withdraw-done}
+use borrow.Author.Needs.{needs}
+use Rattle.flowspec.proofs.withdraw.Statement.{statement}
+use Rattle.flowspec.proofs.withdraw.Tie as tie
+use Rattle.flowspec.proofs.withdraw.Reads as reads
+use Rattle.flowspec.proofs.withdraw.Lts as lts
+use Rattle.flowspec.proofs.change_of.Reads as change-of-reads
+use Rattle.rule.proofs.ipv4.Reads as ipv4-reads
+use Rattle.rule.proofs.one_rule.Reads as one-rule-reads
+use Rattle.table.proofs.sound_table.Reads as sound-table-reads
+use Rattle.table.proofs.withdraw_value.Reads as withdraw-value-reads
+
+rule-read : (c : tie.After-known-told2) → ReadRule ipv4 (c .before .before .before .before .before .before .before .before .before .before .before .args .rule .now) (c .before .start .given .0 .0) (c .before .start .given .0 .1 .0)
+rule-read c =
+    withdraw-rule _ (c .before .before .before .before .before .before .before .before .before .before .before .args .table .now) _ (c .before .before .before .before .before .before .before .sound-table .ensures) _ (c .before .before .before .before .before .enum-told2 .given .1) _ (c .before .before .before .before .ipv4 .ensures) _ (c .before .before .before .one-rule .ensures) _ _
+    (c .before .start .given .1)
+
+sound-table-requires : tie.Need-sound-table-requires
+sound-table-requires c κs = search needs
+
+enum-told : tie.Need-enum-told
+enum-told c = search needs
+
+enum-told-2 : tie.Need-enum-told-2
+enum-told-2 c = search needs
+
+ipv4-requires : tie.Need-ipv4-requires
+ipv4-requires c κs = search needs
+
+one-rule-requires : tie.Need-one-rule-requires
+one-rule-requires c κs = search needs
+
+enum-known-number : tie.Need-enum-known-number
+enum-known-number c = search needs
+
+enum-known-start : tie.Need-enum-known-start
+enum-known-start c = search needs
+
+add-end : tie.Need-add-end
+add-end c = omega (arith, rule-read c)
+
+sub-withdraw-value : tie.Need-sub-withdraw-value
+sub-withdraw-value c = search needs
+
+part-withdraw-value-start : tie.Need-part-withdraw-value-start
+part-withdraw-value-start c = search needs
+
+part-withdraw-value-end : tie.Need-part-withdraw-value-end
+part-withdraw-value-end c = omega (arith, rule-read (c .before))
+
+withdraw-value-requires : tie.Need-withdraw-value-requires
+withdraw-value-requires c κs = let k = c .before .before in
+    withdraw-requires _ _ _ (k .before .before .before .before .before .before .before .sound-table .ensures) _ (k .before .before .before .before .before .enum-told2 .given .1) _ (k .before .before .before .before .ipv4 .ensures) _ (k .before .before .before .one-rule .ensures) _ _ (k .before .start .given .1)
+
+change-of-requires : tie.Need-change-of-requires
+change-of-requires c κs = search needs
+
+same-length : tie.Need-same-length
+same-length c = search needs
+
+returns : tie.Need-returns
+returns c = withdraw-unsound _ _ _ (c .before .before .sound-table .ensures) (c .enum-told .given .1)
+
+same-length-2 : tie.Need-same-length-2
+same-length-2 c = search needs
+
+returns-2 : tie.Need-returns-2
+returns-2 c = withdraw-refused _ _ _ (c .before .before .before .before .before .before .before .sound-table .ensures) _ (c .before .before .before .before .before .enum-told2 .given .1) _ (c .before .before .before .before .ipv4 .ensures) _ (c .before .before .before .one-rule .ensures) _ _ (c .before .number .given .1)
+
+same-length-3 : tie.Need-same-length-3
+same-length-3 c = search needs
+
+returns-3 : tie.Need-returns-3
+returns-3 c = let k = c .before .before .before .before .before .before in
+    withdraw-done _ _ _ (k .before .before .before .before .before .before .before .sound-table .ensures) _ (k .before .before .before .before .before .enum-told2 .given .1) _ (k .before .before .before .before .ipv4 .ensures) _ (k .before .before .before .one-rule .ensures) _ _ (k .before .start .given .1)
+    _ _ _ (c .before .before .before .withdraw-value .ensures) (c .change-of .ensures)
+
+pub withdraw-spec : {M : Type 1} → statement M
+withdraw-spec =
+    tie.close
+    (tie.spec
+    sound-table-requires
+    enum-told
+    enum-told-2
+    ipv4-requires
+    one-rule-requires
+    enum-known-number
+    enum-known-start
+    add-end
+    sub-withdraw-value
+    part-withdraw-value-start
+    part-withdraw-value-end
+    withdraw-value-requires
+    change-of-requires
+    same-length
+    returns
+    same-length-2
+    returns-2
+    same-length-3
+    returns-3)

@@ -1,0 +1,24 @@
+use Rattle.flowspec.proofs.WriteLaws.{writes}
+use mathlib.Core.Path.{ap, _∙_}
+use borrow.Author.Needs.{needs}
+use Rattle.flowspec.proofs.write_rule.Statement.{statement}
+use Rattle.flowspec.proofs.write_rule.Tie as tie
+use Rattle.flowspec.proofs.write_rule.Reads as reads
+use Rattle.flowspec.proofs.write_rule.Lts as lts
+use Rattle.rule.proofs.ipv4.Reads as ipv4-reads
+use Rattle.rule.proofs.write_rule.Reads as write-rule-reads
+
+ipv4-requires : tie.Need-ipv4-requires
+ipv4-requires c κs = search needs
+
+write-rule-requires : tie.Need-write-rule-requires
+write-rule-requires c κs = search needs
+
+same-length : tie.Need-same-length
+same-length c = search needs
+
+returns : tie.Need-returns
+returns c = writes _ _ _ (c .before .before .before .before .ipv4 .ensures) _ _ (c .before .before .write-rule .ensures)
+
+pub write-rule-spec : {M : Type 1} → statement M
+write-rule-spec = tie.close (tie.spec ipv4-requires write-rule-requires same-length returns)

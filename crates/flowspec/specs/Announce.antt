@@ -1,0 +1,78 @@
+-- Announcing to and withdrawing from a table: what a call asks, once its input is read and judged, and what it leaves. A call on an
+-- unsound table is 10, and changes nothing.
+use Prim.Native.Nat.{ℕ}
+use mathlib.Core.Bool.{Bool, true, false, cond}
+use mathlib.Core.List.{List}
+use lib.Dec.{eqb}
+use lib.ListN.{take, drop}
+use Rattle.rule.specs.declared.Reading.{Reading}
+use Rattle.rule.specs.declared.Reading.the-variants.{Rule, Refused as NotRead}
+use Rattle.rule.specs.Family.{ipv4}
+use Rattle.rule.specs.Plain.{plain}
+use Rattle.rule.specs.Reading.{oneRule}
+use Rattle.order.specs.Key.{keysOf}
+use Rattle.route.specs.Route.{soundRoutes}
+use Rattle.action.specs.declared.Reading.{Reading as ActionsReading}
+use Rattle.action.specs.declared.Reading.the-variants.{Read, Unsound}
+use Rattle.action.specs.Actions.{actionsOf}
+use Rattle.entry.specs.Entry.{Entry}
+use Rattle.table.specs.Sound.{soundTable}
+use Rattle.table.specs.Change.{Changed, announced, withdrawn}
+use Rattle.flowspec.specs.declared.Change.{Change}
+use Rattle.flowspec.specs.declared.Change.the-variants.{Done, Refused as NotChanged}
+use Rattle.flowspec.specs.declared.Request.{Request}
+use Rattle.flowspec.specs.declared.Request.the-variants.{Announce, Refused as NotAsked}
+use Rattle.flowspec.specs.Feasibility.{isFeasible}
+
+-- What a call on a table leaves: its answer, and the table's octets.
+pub record Outcome : Type 0 where
+  pub answer : Change
+  pub table : List ℕ
+
+-- The answer for a change's number: 0 is done, and the refusals 8, 11 and 14 carry place 0.
+unfoldable pub changeOf : ℕ → Change
+changeOf number = cond (eqb number 0) Done (NotChanged number 0)
+
+-- The value of a rule that was read.
+abbrev pub valueOf : List ℕ → ℕ → ℕ → List ℕ
+valueOf rule start size = take size (drop start rule)
+
+-- What an announcement asks: a rule that is refused is refused so, then unsound actions are 13, then the rule is judged.
+abbrev pub askedBy : Bool → List ℕ → List ℕ → ℕ → Reading → ActionsReading → Request
+askedBy relaxed words rule originator (NotRead number place) actions = NotAsked number place
+askedBy relaxed words rule originator (Rule start size) Unsound = NotAsked 13 0
+askedBy relaxed words rule originator (Rule start size) (Read actions) =
+    Announce start size actions (isFeasible relaxed words (valueOf rule start size) originator)
+
+-- Unsound routes are 9, before all else.
+unfoldable pub asked : Bool → List ℕ → List ℕ → ℕ → List ℕ → Request
+asked relaxed words rule originator communities =
+    cond (soundRoutes 32 words) (askedBy relaxed words rule originator (oneRule ipv4 rule) (actionsOf communities)) (NotAsked 9 0)
+
+-- What a change of the table leaves.
+abbrev pub outcome : Changed → Outcome
+outcome c = record { answer = changeOf (c .number); table = c .table }
+
+-- A refusal gives back the octets it was given.
+abbrev pub refusal : ℕ → ℕ → List ℕ → Outcome
+refusal number place t = record { answer = NotChanged number place; table = t }
+
+-- What an announcement leaves in a sound table.
+abbrev pub announcedBy : List ℕ → List ℕ → ℕ → Request → Outcome
+announcedBy t rule originator (NotAsked number place) = refusal number place t
+announcedBy t rule originator (Announce start size actions feasible) =
+    outcome (announced ipv4 t (record { originator = originator; actions = actions; value = plain (valueOf rule start size) }) feasible)
+
+-- 01: "Announce checks 10, 9, 1 to 7, 15, 13, 8, 11".
+unfoldable pub announcing : Bool → List ℕ → List ℕ → ℕ → List ℕ → List ℕ → Outcome
+announcing relaxed words rule originator communities t =
+    cond (soundTable ipv4 t) (announcedBy t rule originator (asked relaxed words rule originator communities)) (refusal 10 0 t)
+
+-- What a withdrawal leaves in a sound table.
+abbrev pub withdrawnBy : List ℕ → List ℕ → Reading → Outcome
+withdrawnBy t rule (NotRead number place) = refusal number place t
+withdrawnBy t rule (Rule start size) = outcome (withdrawn ipv4 t (keysOf ipv4 (plain (valueOf rule start size))))
+
+-- 01: "withdraw 10, 1 to 7, 15, 14".
+unfoldable pub withdrawing : List ℕ → List ℕ → Outcome
+withdrawing rule t = cond (soundTable ipv4 t) (withdrawnBy t rule (oneRule ipv4 rule)) (refusal 10 0 t)

@@ -1,0 +1,7 @@
+pub mod Compare
+pub mod Feasibility
+pub mod Announce
+pub mod Look
+pub mod Told
+pub mod Promise
+pub mod Examples

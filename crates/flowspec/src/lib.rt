@@ -1,0 +1,288 @@
+// The door: every public call of the flow-rule part, each with its promise (specs/Promise.antt). No call has a `requires`: whatever
+// octets it is lent, it answers, and a refusal is a number and a place of 01's table.
+ghost use mathlib.Core.Path.{_≡_};
+ghost use Rattle.flowspec.specs.Compare.{comparisonOf};
+ghost use Rattle.flowspec.specs.Feasibility.{isFeasible, judged};
+ghost use Rattle.flowspec.specs.Promise.{ReadsOne, WritesOne, ComparesTwo, JudgesOne, ReadsActions, Announces, Withdraws, LooksUp, FirstMatches};
+ghost use Rattle.flowspec.specs.Announce.{changeOf, asked};
+ghost use Rattle.flowspec.specs.Look.{firstMatch};
+ghost use Prim.Native.Nat.{_+_, _≤_};
+ghost use lib.ListN.{length};
+use action::Actions;
+use octets::Order;
+use packet::Sight;
+use rule::Reading;
+use rule::Writing;
+use table::Place;
+use table::Soundness;
+use table::Verdict;
+
+// Which of two rules comes first, that they are the same rule, or a refusal.
+pub enum Comparison {
+    First,
+    Second,
+    Same,
+    Refused { number: u8, place: usize },
+}
+
+// That a rule is feasible, or a refusal.
+pub enum Feasibility {
+    Feasible,
+    Refused { number: u8, place: usize },
+}
+
+// What an announcement asks of a table once its input is read and judged: to hold a rule's value with its actions, where it is
+// feasible, or nothing, since it is refused.
+pub enum Request {
+    Announce {
+        start: usize,
+        size: usize,
+        actions: Actions,
+        feasible: bool,
+    },
+    Refused {
+        number: u8,
+        place: usize,
+    },
+}
+
+// That a table was changed as asked, or a refusal.
+pub enum Change {
+    Done,
+    Refused { number: u8, place: usize },
+}
+
+// What a lookup answers: a verdict, or a refusal.
+pub enum Looked {
+    Judged(Verdict),
+    Refused { number: u8, place: usize },
+}
+
+// Reads one rule: where its value starts and how long it is.
+pub fn read_rule(rule: &[u8]) -> Reading
+    ensures { λ r. ⌜ ReadsOne (now (rule .entry)) r ⌝ }
+{
+    rule::one_rule(rule::ipv4(), rule)
+}
+
+// Writes one rule from its value, in its plain spelling, to the front of a buffer: how many octets were written.
+pub fn write_rule(value: &[u8], buffer: &mut [u8]) -> Writing
+    ensures { λ r. ⌜ WritesOne (now (value .entry)) (now (buffer .entry)) r (now (buffer .exit)) ⌝ }
+{
+    rule::write_rule(rule::ipv4(), value, buffer)
+}
+
+// What an order of two values means for their rules.
+fn comparison_of(which: Order) -> Comparison
+    ensures { λ r. ⌜ r ≡ comparisonOf which ⌝ }
+{
+    match which {
+        Order::First => Comparison::First,
+        Order::Second => Comparison::Second,
+        Order::Same => Comparison::Same,
+    }
+}
+
+// Compares two rules by their precedence.
+pub fn compare_rules(first: &[u8], second: &[u8]) -> Comparison
+    ensures { λ r. ⌜ ComparesTwo (now (first .entry)) (now (second .entry)) r ⌝ }
+{
+    let family = rule::ipv4();
+    let left = rule::one_rule(family, first);
+    let right = rule::one_rule(family, second);
+    match left {
+        Reading::Refused { number, place } => Comparison::Refused { number, place },
+        Reading::Rule { start, size } => match right {
+            Reading::Refused { number, place } => Comparison::Refused { number, place },
+            Reading::Rule {
+                start: begin,
+                size: length,
+            } => {
+                let end = start + size;
+                let stop = begin + length;
+                comparison_of(order::compare_values(&first[start..end], &second[begin..stop]))
+            }
+        },
+    }
+}
+
+// Judges an accepted value by the routes.
+fn judge_value(relaxed: bool, routes: &[u32], value: &[u8], originator: u32) -> Feasibility
+    ensures { λ r. ⌜ r ≡ judged (isFeasible relaxed (now (routes .entry)) (now (value .entry)) originator) ⌝ }
+{
+    let destination = route::destination_of(value);
+    if route::is_feasible(relaxed, destination, originator, routes) {
+        return Feasibility::Feasible;
+    }
+    Feasibility::Refused {
+        number: 8,
+        place: 0,
+    }
+}
+
+// Judges whether a rule is feasible for an originator by the lent routes.
+pub fn judge_rule(relaxed: bool, routes: &[u32], rule: &[u8], originator: u32) -> Feasibility
+    ensures { λ r. ⌜ JudgesOne relaxed (now (routes .entry)) (now (rule .entry)) originator r ⌝ }
+{
+    if !route::sound_routes(routes) {
+        return Feasibility::Refused {
+            number: 9,
+            place: 0,
+        };
+    }
+    match rule::one_rule(rule::ipv4(), rule) {
+        Reading::Refused { number, place } => Feasibility::Refused { number, place },
+        Reading::Rule { start, size } => {
+            let end = start + size;
+            judge_value(relaxed, routes, &rule[start..end], originator)
+        }
+    }
+}
+
+// Reads the filtering actions of a rule's communities.
+pub fn read_actions(communities: &[u8]) -> action::Reading
+    ensures { λ r. ⌜ ReadsActions (now (communities .entry)) r ⌝ }
+{
+    action::actions_of(communities)
+}
+
+// Reads and judges an announcement, in the order in which 01 has the checks.
+fn ask(relaxed: bool, routes: &[u32], rule: &[u8], originator: u32, communities: &[u8]) -> Request
+    ensures { λ r. ⌜ r ≡ asked relaxed (now (routes .entry)) (now (rule .entry)) originator (now (communities .entry)) ⌝ }
+{
+    if !route::sound_routes(routes) {
+        return Request::Refused {
+            number: 9,
+            place: 0,
+        };
+    }
+    match rule::one_rule(rule::ipv4(), rule) {
+        Reading::Refused { number, place } => Request::Refused { number, place },
+        Reading::Rule { start, size } => match action::actions_of(communities) {
+            action::Reading::Unsound => Request::Refused {
+                number: 13,
+                place: 0,
+            },
+            action::Reading::Read(actions) => {
+                let end = start + size;
+                let destination = route::destination_of(&rule[start..end]);
+                let feasible = route::is_feasible(relaxed, destination, originator, routes);
+                Request::Announce {
+                    start,
+                    size,
+                    actions,
+                    feasible,
+                }
+            }
+        },
+    }
+}
+
+// What a refusal's number means for a change: 0 is done.
+fn change_of(number: u8) -> Change
+    ensures { λ r. ⌜ r ≡ changeOf number ⌝ }
+{
+    if number == 0 {
+        return Change::Done;
+    }
+    Change::Refused { number, place: 0 }
+}
+
+// Announces a rule with its actions to a table.
+pub fn announce(
+    table: &mut [u8],
+    relaxed: bool,
+    routes: &[u32],
+    rule: &[u8],
+    originator: u32,
+    communities: &[u8],
+) -> Change
+    ensures { λ r. ⌜ Announces relaxed (now (routes .entry)) (now (rule .entry)) originator (now (communities .entry)) (now (table .entry)) r (now (table .exit)) ⌝ }
+{
+    match table::sound_table(table) {
+        Soundness::Unsound => Change::Refused {
+            number: 10,
+            place: 0,
+        },
+        Soundness::Sound(used) => match ask(relaxed, routes, rule, originator, communities) {
+            Request::Refused { number, place } => Change::Refused { number, place },
+            Request::Announce {
+                start,
+                size,
+                actions,
+                feasible,
+            } => {
+                let end = start + size;
+                change_of(table::announce_value(
+                    table,
+                    used,
+                    originator,
+                    actions,
+                    feasible,
+                    &rule[start..end],
+                ))
+            }
+        },
+    }
+}
+
+// Withdraws a rule from a table.
+pub fn withdraw(table: &mut [u8], rule: &[u8]) -> Change
+    ensures { λ r. ⌜ Withdraws (now (rule .entry)) (now (table .entry)) r (now (table .exit)) ⌝ }
+{
+    match table::sound_table(table) {
+        Soundness::Unsound => Change::Refused {
+            number: 10,
+            place: 0,
+        },
+        Soundness::Sound(_) => match rule::one_rule(rule::ipv4(), rule) {
+            Reading::Refused { number, place } => Change::Refused { number, place },
+            Reading::Rule { start, size } => {
+                let end = start + size;
+                change_of(table::withdraw_value(table, &rule[start..end]))
+            }
+        },
+    }
+}
+
+// Looks a packet up in a table.
+pub fn lookup(table: &[u8], packet: &[u8]) -> Looked
+    ensures { λ r. ⌜ LooksUp (now (table .entry)) (now (packet .entry)) r ⌝ }
+{
+    match table::sound_table(table) {
+        Soundness::Unsound => Looked::Refused {
+            number: 10,
+            place: 0,
+        },
+        Soundness::Sound(_) => match packet::packet_of(packet) {
+            Sight::Unusable => Looked::Refused {
+                number: 12,
+                place: 0,
+            },
+            Sight::Usable(seen) => Looked::Judged(table::look_up(table, seen)),
+        },
+    }
+}
+
+// Where the first match's record stands in a table; 0 and 0 where nothing matches or the lookup is refused.
+fn first_match_place(table: &[u8], packet: &[u8]) -> Place
+    ensures { λ r. ⌜ (r ≡ firstMatch (now (table .entry)) (now (packet .entry))) × ((r .start ≤ r .end) × (r .end ≤ length (now (table .entry)))) ⌝ }
+{
+    match table::sound_table(table) {
+        Soundness::Unsound => Place { start: 0, end: 0 },
+        Soundness::Sound(_) => match packet::packet_of(packet) {
+            Sight::Unusable => Place { start: 0, end: 0 },
+            Sight::Usable(seen) => table::first_place(table, seen),
+        },
+    }
+}
+
+// The first match's record, as a part of the table.
+pub fn first_match<'a>(table: &'a [u8], packet: &[u8]) -> &'a [u8]
+    ensures { λ r. ⌜ FirstMatches (now (table .entry)) (now (packet .entry)) (now r) × ((r .ptr .0 ≡ table .entry .ptr .0) × (r .ptr .1 ≡ firstMatch (now (table .entry)) (now (packet .entry)) .start + table .entry .ptr .1)) ⌝ }
+{
+    let place = first_match_place(table, packet);
+    let start = place.start;
+    let end = place.end;
+    &table[start..end]
+}

@@ -1,0 +1,6 @@
+pub mod Cases
+pub mod Facts
+pub mod NumberLaws
+pub mod OrderLaws
+pub mod StoreLaws
+pub mod WalkLaws

@@ -1,0 +1,80 @@
+use borrow.Author.Needs.{needs}
+use Prim.Native.Nat.{_≤_, _-_, compare}
+use mathlib.Core.Path.{_≡_, refl, ap, sym, _∙_}
+use native.Mathlib.Omega.{arith}
+use lib.ListN.{length, drop, getD}
+use Rattle.octets.specs.Order.{lex, ordered}
+use Rattle.octets.proofs.OrderLaws.{lex-both, lex-first-out, lex-second-out, lt-cmp, gt-cmp, eq-cmp}
+use Rattle.octets.proofs.compare_octets.Statement.{statement}
+use Rattle.octets.proofs.compare_octets.Tie as tie
+use Rattle.octets.proofs.compare_octets.Reads as reads
+use Rattle.octets.proofs.compare_octets.Lts as lts
+use Rattle.octets.proofs.compare_numbers.Reads as compare-numbers-reads
+
+abbrev Inv-loop : tie.InvT-loop
+Inv-loop a b i₀ i = (i ≤ length a) × (i ≤ length b) × (lex compare a b ≡ lex compare (drop i a) (drop i b))
+
+abbrev μ-loop : tie.MeasureT-loop
+μ-loop a b i₀ i = length a - i
+
+loop-holds : tie.Need-loop-holds Inv-loop μ-loop
+loop-holds c = (search needs, search needs, refl)
+
+compare-numbers-requires : tie.Need-compare-numbers-requires Inv-loop μ-loop
+compare-numbers-requires c κs = search needs
+
+returns : tie.Need-returns Inv-loop μ-loop
+returns c = let l = c .before .before .loop in
+    let e = lex-first-out compare 0 (c .before .before .before .before .before .args .a .now) (c .before .before .before .before .before .args .b .now) (l .i) (c .before .if1 .taken) (l .inv .0) (l .inv .1) in
+    c .compare-numbers .ensures ∙ sym (ap ordered (l .inv .2 ∙ e))
+
+returns-2 : tie.Need-returns-2 Inv-loop μ-loop
+returns-2 c = let l = c .before .before .loop in
+    let a = c .before .before .before .before .before .args in
+    rw (l .inv .2, lex-second-out compare 0 (a .a .now) (a .b .now) (l .i) (c .before .if1 .left) (c .if2 .taken))
+
+shared-slice-read-x : tie.Need-shared-slice-read-x Inv-loop μ-loop
+shared-slice-read-x c = search needs
+
+shared-slice-read-y : tie.Need-shared-slice-read-y Inv-loop μ-loop
+shared-slice-read-y c = search needs
+
+returns-3 : tie.Need-returns-3 Inv-loop μ-loop
+returns-3 c = let l = c .before .before .before .before .before .loop in
+    let a = c .before .before .before .before .before .before .before .before .args in
+    rw (l .inv .2, lex-both compare 0 (a .a .now) (a .b .now) (l .i) (omega arith) (omega arith), lt-cmp _ _ (c .if3 .taken))
+
+returns-4 : tie.Need-returns-4 Inv-loop μ-loop
+returns-4 c = let l = c .before .before .before .before .before .before .loop in
+    let a = c .before .before .before .before .before .before .before .before .before .args in
+    rw (l .inv .2, lex-both compare 0 (a .a .now) (a .b .now) (l .i) (omega arith) (omega arith), gt-cmp _ _ (c .if4 .taken))
+
+add-i : tie.Need-add-i Inv-loop μ-loop
+add-i c = search needs
+
+loop-less : tie.Need-loop-less Inv-loop μ-loop
+loop-less c = search needs
+
+loop-again : tie.Need-loop-again Inv-loop μ-loop
+loop-again c = let l = c .before .before .before .before .before .before .loop in
+    let a = c .before .before .before .before .before .before .before .before .before .args in
+    let same = eq-cmp (getD (a .a .now) (l .i) 0) (getD (a .b .now) (l .i) 0) (omega arith) in
+    (omega arith, omega arith, l .inv .2 ∙ lex-both compare 0 (a .a .now) (a .b .now) (l .i) (omega arith) (omega arith) ∙ rw same)
+
+pub compare-octets-spec : {M : Type 1} → statement M
+compare-octets-spec =
+    tie.close
+    (tie.spec
+    Inv-loop
+    μ-loop
+    loop-holds
+    compare-numbers-requires
+    returns
+    returns-2
+    shared-slice-read-x
+    shared-slice-read-y
+    returns-3
+    returns-4
+    add-i
+    loop-less
+    loop-again)

@@ -1,0 +1,63 @@
+use borrow.Author.Needs.{needs}
+use Prim.Native.Nat.{_≤_, _-_}
+use mathlib.Core.Path.{_≡_, refl}
+use native.Mathlib.Omega.{arith}
+use lib.ListN.{length, length-set}
+use lib.Seq.{paste, paste-zero}
+use Rattle.octets.proofs.StoreLaws.{paste-more, paste-all}
+use Rattle.octets.proofs.store.Statement.{statement}
+use Rattle.octets.proofs.store.Tie as tie
+use Rattle.octets.proofs.store.Reads as reads
+use Rattle.octets.proofs.store.Lts as lts
+
+abbrev Inv-loop : tie.InvT-loop
+Inv-loop buffer₀ at s i₀ buffer i = (i ≤ length s) × (length buffer ≡ length buffer₀) × (buffer ≡ paste buffer₀ at s i)
+
+abbrev μ-loop : tie.MeasureT-loop
+μ-loop buffer₀ at s i₀ buffer i = length s - i
+
+loop-holds : tie.Need-loop-holds Inv-loop μ-loop
+loop-holds c = (search needs, refl, paste-zero (c .args .buffer .now) (c .args .at) (c .args .s .now))
+
+add-place : tie.Need-add-place Inv-loop μ-loop
+add-place c = search needs
+
+shared-slice-read-buffer : tie.Need-shared-slice-read-buffer Inv-loop μ-loop
+shared-slice-read-buffer c = search needs
+
+slice-write-buffer : tie.Need-slice-write-buffer Inv-loop μ-loop
+slice-write-buffer c = search needs
+
+add-i : tie.Need-add-i Inv-loop μ-loop
+add-i c = search needs
+
+loop-less : tie.Need-loop-less Inv-loop μ-loop
+loop-less c = search needs
+
+loop-again : tie.Need-loop-again Inv-loop μ-loop
+loop-again c = let l = c .before .before .loop in
+    let a = c .before .before .before .args in
+    (omega arith, simp length-set (l .inv .1), paste-more (l .buffer) (a .buffer .now) (a .at) (a .s .now) (l .i) _ (omega arith) (omega arith) (l .inv .2) refl)
+
+same-length : tie.Need-same-length Inv-loop μ-loop
+same-length c = search needs
+
+returns : tie.Need-returns Inv-loop μ-loop
+returns c = let l = c .before .loop in
+    paste-all (l .buffer) (c .before .before .args .buffer .now) (c .before .before .args .at) (c .before .before .args .s .now) (l .i) (omega arith) (l .inv .2)
+
+pub store-spec : {M : Type 1} → statement M
+store-spec =
+    tie.close
+    (tie.spec
+    Inv-loop
+    μ-loop
+    loop-holds
+    add-place
+    shared-slice-read-buffer
+    slice-write-buffer
+    add-i
+    loop-less
+    loop-again
+    same-length
+    returns)

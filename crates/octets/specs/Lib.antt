@@ -1,0 +1,4 @@
+pub mod Number
+pub mod Order
+pub mod Store
+pub mod Walk

@@ -1,0 +1,48 @@
+use Rattle.octets.specs.Order.{ordered}
+use Rattle.prefix.specs.Prefix.{prefixOrder}
+use mathlib.Core.Path.{_≡_, _∙_, ap₂}
+use Rattle.order.proofs.TurnLaws.{order-prefixes, order-octets}
+use borrow.Author.Needs.{needs}
+use Rattle.order.proofs.compare_bodies.Statement.{statement}
+use Rattle.order.proofs.compare_bodies.Tie as tie
+use Rattle.order.proofs.compare_bodies.Reads as reads
+use Rattle.order.proofs.compare_bodies.Lts as lts
+use Rattle.octets.proofs.compare_octets.Reads as compare-octets-reads
+use Rattle.prefix.proofs.compare_prefixes.Reads as compare-prefixes-reads
+use Rattle.prefix.proofs.prefix_of.Reads as prefix-of-reads
+use Rattle.rule.proofs.is_prefix.Reads as is-prefix-reads
+
+is-prefix-requires : tie.Need-is-prefix-requires
+is-prefix-requires c κs = search needs
+
+prefix-of-requires : tie.Need-prefix-of-requires
+prefix-of-requires c κs = search needs
+
+prefix-of-requires-2 : tie.Need-prefix-of-requires-2
+prefix-of-requires-2 c κs = search needs
+
+compare-prefixes-requires : tie.Need-compare-prefixes-requires
+compare-prefixes-requires c κs = search needs
+
+returns : tie.Need-returns
+returns c = let two = c .before .prefix-of2 .ensures in
+    let one = c .before .before .prefix-of .ensures in
+    order-prefixes _ _ _ _ (c .before .before .before .before .is-prefix .ensures) _ (c .before .before .before .if1 .taken) (c .compare-prefixes .ensures ∙ ap₂ (λ p q. ordered (prefixOrder 32 p q)) one two)
+
+compare-octets-requires : tie.Need-compare-octets-requires
+compare-octets-requires c κs = search needs
+
+returns-2 : tie.Need-returns-2
+returns-2 c = search (order-octets, needs)
+
+pub compare-bodies-spec : {M : Type 1} → statement M
+compare-bodies-spec =
+    tie.close
+    (tie.spec
+    is-prefix-requires
+    prefix-of-requires
+    prefix-of-requires-2
+    compare-prefixes-requires
+    returns
+    compare-octets-requires
+    returns-2)

@@ -1,0 +1,23 @@
+-- The lower type first, then the bodies.
+use Rattle.order.proofs.TurnLaws.{order-lower, order-higher, order-bodies}
+use borrow.Author.Needs.{needs}
+use Rattle.order.proofs.compare_components.Statement.{statement}
+use Rattle.order.proofs.compare_components.Tie as tie
+use Rattle.order.proofs.compare_components.Reads as reads
+use Rattle.order.proofs.compare_components.Lts as lts
+use Rattle.order.proofs.compare_bodies.Reads as compare-bodies-reads
+
+returns : tie.Need-returns
+returns c = search (order-lower, needs)
+
+returns-2 : tie.Need-returns-2
+returns-2 c = search (order-higher, needs)
+
+compare-bodies-requires : tie.Need-compare-bodies-requires
+compare-bodies-requires c κs = search needs
+
+returns-3 : tie.Need-returns-3
+returns-3 c = search (order-bodies, needs)
+
+pub compare-components-spec : {M : Type 1} → statement M
+compare-components-spec = tie.close (tie.spec returns returns-2 compare-bodies-requires returns-3)

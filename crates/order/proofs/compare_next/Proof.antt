@@ -1,0 +1,137 @@
+-- Where both values have a component, its body lies in the value; then one law for each return.
+use Prim.Native.Nat.{_+_, _≤_}
+use native.Mathlib.Omega.{arith}
+use Rattle.rule.specs.Family.{ipv4}
+use Rattle.rule.proofs.ValueLaws.{Found}
+use Rattle.order.proofs.TurnLaws.{left-found, right-found, turn-none, turn-refused, turn-second-none, turn-second-refused, turn-both}
+use borrow.Author.Needs.{needs}
+use Rattle.order.proofs.compare_next.Statement.{statement}
+use Rattle.order.proofs.compare_next.Tie as tie
+use Rattle.order.proofs.compare_next.Reads as reads
+use Rattle.order.proofs.compare_next.Lts as lts
+use Rattle.order.proofs.compare_components.Reads as compare-components-reads
+use Rattle.order.proofs.runs_out.Reads as runs-out-reads
+use Rattle.order.proofs.turn_for.Reads as turn-for-reads
+use Rattle.rule.proofs.component_at.Reads as component-at-reads
+use Rattle.rule.proofs.ipv4.Reads as ipv4-reads
+
+here-found : (c : tie.After-known-told2) → Found ipv4 (c .before .before .before .before .before .before .before .before .before .before .before .args .first .now) (c .before .before .before .before .before .before .before .before .before .before .before .args .here) (c .before .before .before .before .before .before .before .before .before .before .before .args .previous)
+    (c .before .before .before .before .left .given .0 .0) (c .before .before .before .before .left .given .0 .1 .0)
+here-found c =
+    left-found _ _ (c .before .before .before .before .before .before .before .before .before .before .before .args .second .now) (c .before .before .before .before .before .before .before .before .before .before .before .args .there) _ _ (c .before .before .before .before .before .before .before .before .ipv4 .ensures) _ _ (c .before .before .before .before .before .before .before .component-at .ensures)
+    (c .before .before .before .before .before .before .component-at2 .ensures) _ _ (c .before .before .before .before .left .given .1)
+
+there-found : (c : tie.After-known-told2) → Found ipv4 (c .before .before .before .before .before .before .before .before .before .before .before .args .second .now) (c .before .before .before .before .before .before .before .before .before .before .before .args .there) (c .before .before .before .before .before .before .before .before .before .before .before .args .previous)
+    (c .before .right .given .0 .0) (c .before .right .given .0 .1 .0)
+there-found c =
+    right-found _ _ _ _ _ _ (c .before .before .before .before .before .before .before .before .ipv4 .ensures) _ _ (c .before .before .before .before .before .before .before .component-at .ensures) (c .before .before .before .before .before .before .component-at2 .ensures) _ _ (c .before .before .before .before .left .given .1) _ _
+    (c .before .right .given .1)
+
+ipv4-requires : tie.Need-ipv4-requires
+ipv4-requires c κs = search needs
+
+component-at-requires : tie.Need-component-at-requires
+component-at-requires c κs = search needs
+
+component-at-requires-2 : tie.Need-component-at-requires-2
+component-at-requires-2 c κs = search needs
+
+enum-told : tie.Need-enum-told
+enum-told c = search needs
+
+runs-out-requires : tie.Need-runs-out-requires
+runs-out-requires c κs = search needs
+
+enum-told-2 : tie.Need-enum-told-2
+enum-told-2 c = search needs
+
+runs-out-requires-2 : tie.Need-runs-out-requires-2
+runs-out-requires-2 c κs = search needs
+
+enum-known-left : tie.Need-enum-known-left
+enum-known-left c = search needs
+
+enum-told-3 : tie.Need-enum-told-3
+enum-told-3 c = search needs
+
+enum-told-4 : tie.Need-enum-told-4
+enum-told-4 c = search needs
+
+enum-known-right : tie.Need-enum-known-right
+enum-known-right c = search needs
+
+add-start : tie.Need-add-start
+add-start c = omega (arith, here-found c)
+
+add-begin : tie.Need-add-begin
+add-begin c = omega (arith, there-found c)
+
+sub-compare-components : tie.Need-sub-compare-components
+sub-compare-components c = omega (arith, here-found c)
+
+part-compare-components-start : tie.Need-part-compare-components-start
+part-compare-components-start c = omega (arith, here-found c)
+
+part-compare-components-end : tie.Need-part-compare-components-end
+part-compare-components-end c = omega (arith, here-found c)
+
+sub-compare-components-2 : tie.Need-sub-compare-components-2
+sub-compare-components-2 c = omega (arith, there-found (c .before))
+
+part-compare-components-start-2 : tie.Need-part-compare-components-start-2
+part-compare-components-start-2 c = omega (arith, there-found (c .before))
+
+part-compare-components-end-2 : tie.Need-part-compare-components-end-2
+part-compare-components-end-2 c = omega (arith, there-found (c .before))
+
+compare-components-requires : tie.Need-compare-components-requires
+compare-components-requires c κs = search needs
+
+turn-for-requires : tie.Need-turn-for-requires
+turn-for-requires c κs = search needs
+
+returns : tie.Need-returns
+returns c = search (turn-none, needs)
+
+returns-2 : tie.Need-returns-2
+returns-2 c = search (turn-refused, needs)
+
+returns-3 : tie.Need-returns-3
+returns-3 c = search (turn-second-none, needs)
+
+returns-4 : tie.Need-returns-4
+returns-4 c = search (turn-second-refused, needs)
+
+returns-5 : tie.Need-returns-5
+returns-5 c = search (turn-both, needs)
+
+pub compare-next-spec : {M : Type 1} → statement M
+compare-next-spec =
+    tie.close
+    (tie.spec
+    ipv4-requires
+    component-at-requires
+    component-at-requires-2
+    enum-told
+    runs-out-requires
+    enum-told-2
+    runs-out-requires-2
+    enum-known-left
+    enum-told-3
+    enum-told-4
+    enum-known-right
+    add-start
+    add-begin
+    sub-compare-components
+    part-compare-components-start
+    part-compare-components-end
+    sub-compare-components-2
+    part-compare-components-start-2
+    part-compare-components-end-2
+    compare-components-requires
+    turn-for-requires
+    returns
+    returns-2
+    returns-3
+    returns-4
+    returns-5)

@@ -1,0 +1,58 @@
+use borrow.Author.Needs.{needs}
+use Prim.Native.Nat.{_-_}
+use mathlib.Core.Path.{_≡_, refl}
+use native.Mathlib.Omega.{arith}
+use lib.ListN.{length}
+use Rattle.octets.specs.Order.{ordered}
+use Rattle.rule.specs.Family.{ipv4}
+use Rattle.rule.specs.Value.{components}
+use Rattle.order.specs.Precedence.{partsOrder}
+use Rattle.order.specs.Turn.{partsFrom}
+use Rattle.order.proofs.TurnLaws.{plain-decided, plain-tied, plain-ahead}
+use Rattle.order.proofs.compare_plain.Statement.{statement}
+use Rattle.order.proofs.compare_plain.Tie as tie
+use Rattle.order.proofs.compare_plain.Reads as reads
+use Rattle.order.proofs.compare_plain.Lts as lts
+use Rattle.order.proofs.compare_next.Reads as compare-next-reads
+
+abbrev Inv-loop : tie.InvT-loop
+Inv-loop first second at₀ place₀ previous₀ at place previous = ordered (partsOrder ipv4 (components ipv4 first) (components ipv4 second)) ≡ ordered (partsOrder ipv4 (partsFrom first at previous) (partsFrom second place previous))
+
+abbrev μ-loop : tie.MeasureT-loop
+μ-loop first second at₀ place₀ previous₀ at place previous = length first - at
+
+loop-holds : tie.Need-loop-holds Inv-loop μ-loop
+unfolding components
+loop-holds c = refl
+
+compare-next-requires : tie.Need-compare-next-requires Inv-loop μ-loop
+compare-next-requires c κs = search needs
+
+enum-known-turn : tie.Need-enum-known-turn Inv-loop μ-loop
+enum-known-turn c = search needs
+
+returns : tie.Need-returns Inv-loop μ-loop
+returns c = search (plain-decided, needs)
+
+enum-known-turn-2 : tie.Need-enum-known-turn-2 Inv-loop μ-loop
+enum-known-turn-2 c = search needs
+
+loop-less : tie.Need-loop-less Inv-loop μ-loop
+loop-less c = omega (arith, plain-ahead _ (c .before .before .before .before .loop .at) _ _ _ _ (c .before .before .before .compare-next .ensures) _ (c .before .before .before .before .loop .inv) _ _ _ (c .before .turn2 .given .1))
+
+loop-again : tie.Need-loop-again Inv-loop μ-loop
+loop-again c = search (plain-tied, needs)
+
+pub compare-plain-spec : {M : Type 1} → statement M
+compare-plain-spec =
+    tie.close
+    (tie.spec
+    Inv-loop
+    μ-loop
+    loop-holds
+    compare-next-requires
+    enum-known-turn
+    returns
+    enum-known-turn-2
+    loop-less
+    loop-again)

@@ -1,0 +1,3 @@
+pub mod Precedence
+pub mod Key
+pub mod Turn

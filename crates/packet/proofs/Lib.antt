@@ -1,0 +1,9 @@
+pub mod OperatorTable
+pub mod Theorems
+pub mod HeaderLaws
+pub mod TransportLaws
+pub mod PacketLaws
+pub mod OperatorLaws
+pub mod PairListLaws
+pub mod ListLaws
+pub mod MatchLaws

@@ -1,0 +1,105 @@
+-- Components and rules against a packet: one law for each return of the code and each turn of its loop. Assumes nothing.
+use mathlib.Core.Path.{_≡_, refl, sym, ap, _∙_}
+use mathlib.Core.Bool.{Bool, true, false, not, _&&_, _||_}
+use mathlib.Core.List.{List}
+use Prim.Native.Nat.{ℕ, _+_, _-_, _<_}
+use native.Mathlib.Omega.{arith}
+use lib.ListN.{length, take, drop}
+use borrow.Author.Tests.{ne-eqb, not-true, not-false}
+use Rattle.octets.specs.Walk.{Walk}
+use Rattle.prefix.specs.Prefix.{contains, prefixOf}
+use Rattle.prefix.specs.declared.Prefix.{Prefix}
+use Rattle.rule.specs.declared.Family.{Family}
+use Rattle.rule.specs.declared.Next.{Next}
+use Rattle.rule.specs.declared.Next.the-variants.{Nothing, Component, Refused}
+use Rattle.rule.specs.declared.Checked.{Checked}
+use Rattle.rule.specs.Component.{componentAt}
+use Rattle.rule.specs.Value.{Part, componentsFrom, components}
+use Rattle.rule.proofs.ValueLaws.{was-found, components-more, components-none, components-refused}
+use Rattle.packet.specs.declared.Field.{Field}
+use Rattle.packet.specs.declared.Field.the-variants.{Shown, Hidden}
+use Rattle.packet.specs.declared.Transport.{Transport}
+use Rattle.packet.specs.declared.Packet.{Packet}
+use Rattle.packet.specs.PairList.{all}
+use Rattle.packet.specs.Match.{bodyHolds, fieldMatches, fieldFor, covers, eitherPort, part, componentMatches, matches}
+
+-- how `field_matches` comes to each of its answers
+module _ (kind : ℕ) (body : List ℕ) (field : Field) where
+  pub shown-matches : (number : ℕ) (r : Bool) → field ≡ Shown number → r ≡ bodyHolds kind body number → r ≡ fieldMatches kind body field
+  unfolding fieldMatches
+  shown-matches number r e f = rw e f
+
+  pub hidden-matches : field ≡ Hidden → false ≡ fieldMatches kind body field
+  unfolding fieldMatches
+  hidden-matches e = rw e
+
+-- a type that has no list shows no field
+pub no-field : (kind : ℕ) (packet : Packet) → (kind ≡ 3 → ⊥) → (kind ≡ 5 → ⊥) → (kind ≡ 6 → ⊥) → (kind ≡ 7 → ⊥) → (kind ≡ 8 → ⊥)
+    → (kind ≡ 9 → ⊥) → (kind ≡ 10 → ⊥) → (kind ≡ 11 → ⊥) → (kind ≡ 12 → ⊥) → Hidden ≡ fieldFor kind packet
+unfolding fieldFor
+no-field kind packet a b c d e f g h i =
+    rw (
+      ne-eqb kind 3 a,
+      ne-eqb kind 5 b,
+      ne-eqb kind 6 c,
+      ne-eqb kind 7 d,
+      ne-eqb kind 8 e,
+      ne-eqb kind 9 f,
+      ne-eqb kind 10 g,
+      ne-eqb kind 11 h,
+      ne-eqb kind 12 i,
+    )
+
+-- the prefix of a body, and an address as a prefix of all its bits
+pub covered : (body : List ℕ) (address : ℕ) (outer : Prefix) (r : Bool) → outer ≡ prefixOf 32 body
+    → r ≡ contains 32 outer (record { length = 32; address = address }) → r ≡ covers 32 body address
+unfolding covers
+covered body address outer r e f = rw (← e) f
+
+pub port-matches : (body : List ℕ) (transport : Transport) (a b : Bool) → a ≡ fieldMatches 4 body (transport .«source_port»)
+    → b ≡ fieldMatches 4 body (transport .«destination_port») → a || b ≡ eitherPort body transport
+unfolding eitherPort
+port-matches body transport a b e f = rw (e, f)
+
+-- a type that is no prefix and not the port's is judged on its one field
+pub on-field : (kind : ℕ) (body : List ℕ) (packet : Packet) (r : Bool) (field : Field) → (kind ≡ 1 → ⊥) → (kind ≡ 2 → ⊥) → (kind ≡ 4 → ⊥)
+    → field ≡ fieldFor kind packet → r ≡ fieldMatches kind body field → r ≡ componentMatches packet (part kind body)
+unfolding componentMatches
+on-field kind body packet r field a b c e f = rw (ne-eqb kind 1 a, ne-eqb kind 2 b, ne-eqb kind 4 c, ← e) f
+
+-- how `matches_rule` goes on and comes to each of its answers
+abbrev pub matchesFrom : Family → List ℕ → Packet → ℕ → ℕ → Bool
+matchesFrom family v packet at previous =
+    all (componentMatches packet) (componentsFrom family v (record { at = at; previous = previous }) .items)
+
+pub from-start : (family : Family) (v : List ℕ) (packet : Packet) → matches family v packet ≡ matchesFrom family v packet 0 0
+unfolding matches components
+from-start family v packet = refl
+
+module _ (family : Family) (v : List ℕ) (packet : Packet) (at previous : ℕ) (next : Next) (is : next ≡ componentAt family v at previous)
+    (so-far : matches family v packet ≡ matchesFrom family v packet at previous) where
+  abbrev rest : Walk Part Checked → Bool
+  rest w = all (componentMatches packet) (w .items)
+
+  module _ (kind behind : ℕ) (r : Bool) (found : next ≡ Component kind behind)
+      (says : r ≡ componentMatches packet (part kind (take (behind - (at + 1)) (drop (at + 1) v)))) where
+    one-more : matches family v packet ≡ r && matchesFrom family v packet behind kind
+    unfolding all
+    one-more = so-far ∙ ap rest (components-more family v at previous kind behind (sym is ∙ found)) ∙ rw says
+
+    pub rule-on : not r ≡ false → matches family v packet ≡ matchesFrom family v packet behind kind
+    rule-on h = one-more ∙ rw (not-false r h)
+
+    pub rule-out : not r ≡ true → false ≡ matches family v packet
+    rule-out h = sym (one-more ∙ rw (not-true r h))
+
+    pub rule-nearer : length v - behind < length v - at
+    rule-nearer = let w = was-found family v at previous kind behind (sym is ∙ found) .within in omega arith
+
+  pub rule-end : next ≡ Nothing → true ≡ matches family v packet
+  unfolding all
+  rule-end e = sym (so-far ∙ ap rest (components-none family v at previous (sym is ∙ e)))
+
+  pub rule-cut : (number place : ℕ) → next ≡ Refused number place → true ≡ matches family v packet
+  unfolding all
+  rule-cut number place e = sym (so-far ∙ ap rest (components-refused family v at previous number place (sym is ∙ e)))

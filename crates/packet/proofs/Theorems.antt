@@ -1,0 +1,139 @@
+-- What a reader expects of matching, beside the tables of operators: 12 is answered exactly where octets are unusable, a later
+-- fragment meets no rule that asks for its transport header, a list of one range is that range, a list's first AND is no matter, and
+-- what a one-octet value of TCP flags is judged on. Assumes nothing.
+use mathlib.Core.Path.{_≡_, refl, ap, _∙_}
+use mathlib.Core.Bool.{Bool, true, false, cond, _&&_, and-false}
+use mathlib.Core.List.{List, [], _∷_}
+use Prim.Native.Nat.{ℕ, _%_, _<_}
+use native.Mathlib.Omega.{arith}
+use lib.Bits.{bitAnd, and-mask}
+use lib.Dec.{leb, eqb}
+use lib.ListN.{getD}
+use borrow.Author.Tests.{eqb-true, eqb-false, eq-eqb, leb-true}
+use Rattle.octets.specs.Number.{numberAt}
+use Rattle.octets.proofs.Cases.{by-test, apart}
+use Rattle.octets.proofs.Facts.{Octets}
+use Rattle.prefix.proofs.Bools.{both}
+use Rattle.rule.specs.declared.Family.{Family}
+use Rattle.rule.specs.Operator.{sizeOf, isBitmask}
+use Rattle.rule.specs.Component.{Pair}
+use Rattle.rule.specs.Value.{Part, components}
+use Rattle.packet.specs.declared.Field.the-variants.{Hidden}
+use Rattle.packet.specs.declared.Transport.{Transport}
+use Rattle.packet.specs.declared.Packet.{Packet}
+use Rattle.packet.specs.declared.Sight.the-variants.{Usable, Unusable}
+use Rattle.packet.specs.Header.{headerWords, fragmentOffset, isUnusable, protocol}
+use Rattle.packet.specs.Transport.{transportOctets, transportFields}
+use Rattle.packet.specs.Packet.{fieldsOf, packetOf, refusal}
+use Rattle.packet.specs.PairList.{all, any, joins, listHolds}
+use Rattle.packet.specs.Match.{dataFor, holdsFor, pairHolds, fieldMatches, fieldFor, eitherPort, componentMatches, matches}
+use Rattle.packet.proofs.OperatorLaws.{numeric-row}
+use Rattle.packet.proofs.TransportLaws.{later-not-found}
+use Rattle.packet.proofs.PairListLaws.{from-first}
+
+-- a transport header of which nothing is shown
+abbrev pub hidden : Transport
+hidden = record { «source_port» = Hidden; «destination_port» = Hidden; «icmp_type» = Hidden; «icmp_code» = Hidden; flags = Hidden }
+
+-- whether a component asks for the transport header: port, destination port, source port, ICMP type and code, TCP flags
+abbrev pub asksTransport : Part → Bool
+asksTransport component = leb 4 (component .kind) && leb (component .kind) 9
+
+-- no octets show nothing, whatever the protocol
+no-octets : (protocol : ℕ) → transportFields protocol [] ≡ hidden
+unfolding transportFields
+no-octets protocol = simp and-false
+
+-- a component that asks for a hidden transport header never matches
+module _ (packet : Packet) (shows : packet .transport ≡ hidden) where
+  pub never-matches : (component : Part) → asksTransport component ≡ true → componentMatches packet component ≡ false
+  unfolding componentMatches fieldFor fieldMatches eitherPort
+  never-matches component asks =
+      let kind = component .kind in
+      let bounds = both (leb 4 kind) (leb kind 9) asks in
+      let low = leb-true 4 kind (bounds .0) in
+      let high = leb-true kind 9 (bounds .1) in
+      by-test (eqb kind 4) (λ t. rw (eqb-true kind 4 t, shows))
+      (λ t4. by-test (eqb kind 5) (λ t. rw (eqb-true kind 5 t, shows))
+      (λ t5. by-test (eqb kind 6) (λ t. rw (eqb-true kind 6 t, shows))
+      (λ t6. by-test (eqb kind 7) (λ t. rw (eqb-true kind 7 t, shows))
+      (λ t7. by-test (eqb kind 8) (λ t. rw (eqb-true kind 8 t, shows))
+      (λ t8.
+      let n4 = eqb-false kind 4 t4 in
+      let n5 = eqb-false kind 5 t5 in
+      let n6 = eqb-false kind 6 t6 in
+      let n7 = eqb-false kind 7 t7 in
+      let n8 = eqb-false kind 8 t8 in
+      let nine : kind ≡ 9 = omega arith in
+      rw (nine, shows))))))
+
+  one-fails : (components : List Part) → any asksTransport components ≡ true → all (componentMatches packet) components ≡ false
+  unfolding all any
+  one-fails [] h = apart (cc)
+  one-fails (c ∷ cs) h =
+      by-test (asksTransport c) (λ t. rw (never-matches c t))
+      (λ t. rw (one-fails cs (rw t at h), and-false (componentMatches packet c)))
+
+  pub never-met : (family : Family) (value : List ℕ) → any asksTransport (components family value) ≡ true → matches family value packet ≡ false
+  unfolding matches
+  never-met family value = one-fails (components family value)
+
+-- a usable packet shows the fields of its octets
+pub usable-fields : (s : List ℕ) (packet : Packet) → packetOf s ≡ Usable packet → packet ≡ fieldsOf s
+unfolding packetOf
+usable-fields s packet e =
+    by-test (isUnusable s)
+    (λ t. let z : Unusable ≡ Usable packet = rw t at e in apart (cc))
+    (λ t. let z : Usable (fieldsOf s) ≡ Usable packet = rw t at e in cc)
+
+-- 12 is answered exactly where the octets are unusable
+pub refused-exactly : (s : List ℕ) → refusal (packetOf s) ≡ cond (isUnusable s) 12 0
+unfolding packetOf
+refused-exactly s = by-test (isUnusable s) (λ t. rw t) (λ t. rw t)
+
+-- a later fragment shows no transport header
+pub later-hidden : (s : List ℕ) → (fragmentOffset s ≡ 0 → ⊥) → fieldsOf s .transport ≡ hidden
+unfolding fieldsOf transportOctets
+later-hidden s later = rw (later-not-found (headerWords s) (fragmentOffset s) later) (no-octets (protocol s))
+
+-- a later fragment meets no rule with a port, ICMP or flags component, whatever its operators
+pub later-fragment : (family : Family) (value s : List ℕ) (packet : Packet) → packetOf s ≡ Usable packet → (fragmentOffset s ≡ 0 → ⊥)
+    → any asksTransport (components family value) ≡ true → matches family value packet ≡ false
+later-fragment family value s packet seen later asks =
+    never-met packet (ap (λ (p : Packet). p .transport) (usable-fields s packet seen) ∙ later-hidden s later) family value asks
+
+-- section 4.2.1.1: the AND bit of the first operator is treated as unset, so pairs that test alike begin a list alike
+pub first-and : (test : Pair → Bool) (p q : Pair) (ps : List Pair) → test p ≡ test q → listHolds test (p ∷ ps) ≡ listHolds test (q ∷ ps)
+first-and test p q ps e = rw (from-first test p ps, from-first test q ps, e)
+
+-- a numeric list is judged on the data as it is
+whole-data : (kind operator «data» : ℕ) → isBitmask kind ≡ false → dataFor kind operator «data» ≡ «data»
+unfolding dataFor isBitmask
+whole-data kind operator «data» numeric = by-test (eqb kind 9) (λ t. let z : true ≡ false = rw t at numeric in apart (cc)) (λ t. rw t)
+
+-- a numeric list of one range, at least a and at most b, is that range
+pub one-range : (kind «data» : ℕ) (p q : Pair) → isBitmask kind ≡ false → p .operator < 256 → q .operator < 256
+    → bitAnd (p .operator) 7 ≡ 3 → bitAnd (q .operator) 7 ≡ 5 → joins q ≡ true
+    → listHolds (pairHolds kind «data») (p ∷ q ∷ []) ≡ leb (p .value) «data» && leb «data» (q .value)
+unfolding holdsFor
+one-range kind «data» p q numeric small₁ small₂ least most and =
+    from-first (pairHolds kind «data») p (q ∷ [])
+    ∙ rw (
+      and,
+      numeric,
+      whole-data kind (p .operator) «data» numeric,
+      whole-data kind (q .operator) «data» numeric,
+      ← numeric-row (p .operator) «data» (p .value) small₁ 3 refl least,
+      ← numeric-row (q .operator) «data» (q .value) small₂ 5 refl most,
+    )
+
+-- of a number without its top bits the low octet is the number's own
+low-octet : (n : ℕ) → bitAnd (bitAnd n 0x0fff) 0xff ≡ n % 256
+low-octet n = and-mask (bitAnd n 0x0fff) 8 ∙ rw (and-mask n 12) (omega arith)
+
+-- 01: "Flags data is transport octet 13 counted from 0": of the two-octet form the low octet is that one
+pub flags-octet : (operator : ℕ) (t : List ℕ) → Octets t → sizeOf operator ≡ 1 → dataFor 9 operator (bitAnd (numberAt 2 t 12) 0x0fff) ≡ getD t 13 0
+unfolding dataFor numberAt
+flags-octet operator t octets one =
+    let h = octets 13 in
+    rw (eq-eqb (sizeOf operator) 1 one) (low-octet (numberAt 2 t 12) ∙ omega arith)

@@ -1,0 +1,43 @@
+-- One law for each return; the header's length has four bits, so its octets fit.
+use native.Mathlib.Omega.{arith}
+use Rattle.packet.proofs.HeaderLaws.{words-bounded, too-few, other-version, short-header, by-total}
+use borrow.Author.Needs.{needs}
+use Rattle.packet.proofs.is_unusable.Statement.{statement}
+use Rattle.packet.proofs.is_unusable.Tie as tie
+
+returns : tie.Need-returns
+returns c = search (too-few, needs)
+
+shared-slice-read-first : tie.Need-shared-slice-read-first
+shared-slice-read-first c = search needs
+
+returns-2 : tie.Need-returns-2
+returns-2 c = search (other-version, needs)
+
+returns-3 : tie.Need-returns-3
+returns-3 c = search (short-header, needs)
+
+number-at-requires : tie.Need-number-at-requires
+number-at-requires c κs = search needs
+
+cast-header : tie.Need-cast-header
+cast-header c = omega (arith, words-bounded (c .before .before .before .before .before .before .args .octets .now))
+
+mul-header : tie.Need-mul-header
+mul-header c = omega (arith, words-bounded (c .before .before .before .before .before .before .args .octets .now))
+
+returns-4 : tie.Need-returns-4
+returns-4 c = search (by-total, needs)
+
+pub is-unusable-spec : {M : Type 1} → statement M
+is-unusable-spec =
+    tie.close
+    (tie.spec
+    returns
+    shared-slice-read-first
+    returns-2
+    returns-3
+    number-at-requires
+    cast-header
+    mul-header
+    returns-4)

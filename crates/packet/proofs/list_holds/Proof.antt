@@ -1,0 +1,66 @@
+-- The list judged so far with the pairs still to come gives what the whole list gives; each turn judges one pair.
+use borrow.Author.Needs.{needs}
+use Prim.Native.Nat.{_-_}
+use mathlib.Core.Path.{_≡_}
+use lib.ListN.{length}
+use Rattle.packet.specs.Match.{bodyHolds}
+use Rattle.packet.proofs.ListLaws.{bodyTo, body-start, list-on, list-last, list-cut, more-inside, last-inside, more-nearer}
+use Rattle.packet.proofs.list_holds.Statement.{statement}
+use Rattle.packet.proofs.list_holds.Tie as tie
+
+abbrev Inv-loop : tie.InvT-loop
+Inv-loop kind body «data» judged₀ at₀ judged at = bodyHolds kind body «data» ≡ bodyTo kind body «data» at judged
+
+abbrev μ-loop : tie.MeasureT-loop
+μ-loop kind body «data» judged₀ at₀ judged at = length body - at
+
+loop-holds : tie.Need-loop-holds Inv-loop μ-loop
+loop-holds c = search (body-start, needs)
+
+pair-at-requires : tie.Need-pair-at-requires Inv-loop μ-loop
+pair-at-requires c κs = search needs
+
+enum-known-pair : tie.Need-enum-known-pair Inv-loop μ-loop
+enum-known-pair c = search needs
+
+judge-pair-requires : tie.Need-judge-pair-requires Inv-loop μ-loop
+judge-pair-requires c κs = search (more-inside, needs)
+
+loop-less : tie.Need-loop-less Inv-loop μ-loop
+loop-less c = search (more-nearer, needs)
+
+loop-again : tie.Need-loop-again Inv-loop μ-loop
+loop-again c = search (list-on, needs)
+
+enum-told : tie.Need-enum-told Inv-loop μ-loop
+enum-told c = search needs
+
+judge-pair-requires-2 : tie.Need-judge-pair-requires-2 Inv-loop μ-loop
+judge-pair-requires-2 c κs = search (last-inside, needs)
+
+returns : tie.Need-returns Inv-loop μ-loop
+returns c = search (list-last, needs)
+
+enum-told-2 : tie.Need-enum-told-2 Inv-loop μ-loop
+enum-told-2 c = search needs
+
+returns-2 : tie.Need-returns-2 Inv-loop μ-loop
+returns-2 c = search (list-cut, needs)
+
+pub list-holds-spec : {M : Type 1} → statement M
+list-holds-spec =
+    tie.close
+    (tie.spec
+    Inv-loop
+    μ-loop
+    loop-holds
+    pair-at-requires
+    enum-known-pair
+    judge-pair-requires
+    loop-less
+    loop-again
+    enum-told
+    judge-pair-requires-2
+    returns
+    enum-told-2
+    returns-2)

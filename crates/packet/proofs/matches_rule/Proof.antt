@@ -1,0 +1,90 @@
+-- The components from the place on decide what all of them do: those before it match. A component that was found lies in the value.
+use borrow.Author.Needs.{needs}
+use Prim.Native.Nat.{_+_, _-_, _<_, _≤_}
+use mathlib.Core.Path.{_≡_, sym, _∙_}
+use native.Mathlib.Omega.{arith}
+use lib.ListN.{length}
+use Rattle.rule.proofs.ValueLaws.{was-found}
+use Rattle.packet.specs.Match.{matches}
+use Rattle.packet.proofs.MatchLaws.{matchesFrom, from-start, rule-on, rule-out, rule-nearer, rule-end, rule-cut}
+use Rattle.packet.proofs.matches_rule.Statement.{statement}
+use Rattle.packet.proofs.matches_rule.Tie as tie
+
+abbrev Inv-loop : tie.InvT-loop
+Inv-loop family value packet at₀ previous₀ at previous = matches family value packet ≡ matchesFrom family value packet at previous
+
+abbrev μ-loop : tie.MeasureT-loop
+μ-loop family value packet at₀ previous₀ at previous = length value - at
+
+inside : (c : tie.After-known-told Inv-loop μ-loop)
+    → (c .before .before .before .before .loop .at + 1 < c .before .next .given .0 .1 .0)
+    × (c .before .next .given .0 .1 .0 ≤ length (c .before .before .before .before .before .before .args .value .now))
+inside c = let l = c .before .before .before .before .loop in
+    was-found _ _ (l .at) (l .previous) _ _ (sym (c .before .before .before .component-at .ensures) ∙ c .before .next .given .1) .within
+
+loop-holds : tie.Need-loop-holds Inv-loop μ-loop
+loop-holds c = search (from-start, needs)
+
+component-at-requires : tie.Need-component-at-requires Inv-loop μ-loop
+component-at-requires c κs = search needs
+
+enum-known-next : tie.Need-enum-known-next Inv-loop μ-loop
+enum-known-next c = search needs
+
+add-start : tie.Need-add-start Inv-loop μ-loop
+add-start c = omega (arith, inside c)
+
+sub-matches-component : tie.Need-sub-matches-component Inv-loop μ-loop
+sub-matches-component c = omega (arith, inside c)
+
+part-matches-component-start : tie.Need-part-matches-component-start Inv-loop μ-loop
+part-matches-component-start c = omega (arith, inside c)
+
+part-matches-component-end : tie.Need-part-matches-component-end Inv-loop μ-loop
+part-matches-component-end c = omega (arith, inside c)
+
+matches-component-requires : tie.Need-matches-component-requires Inv-loop μ-loop
+matches-component-requires c κs = search needs
+
+returns : tie.Need-returns Inv-loop μ-loop
+returns c = search (rule-out, needs)
+
+loop-less : tie.Need-loop-less Inv-loop μ-loop
+loop-less c = search (rule-nearer, needs)
+
+loop-again : tie.Need-loop-again Inv-loop μ-loop
+loop-again c = search (rule-on, needs)
+
+enum-told : tie.Need-enum-told Inv-loop μ-loop
+enum-told c = search needs
+
+returns-2 : tie.Need-returns-2 Inv-loop μ-loop
+returns-2 c = search (rule-end, needs)
+
+enum-told-2 : tie.Need-enum-told-2 Inv-loop μ-loop
+enum-told-2 c = search needs
+
+returns-3 : tie.Need-returns-3 Inv-loop μ-loop
+returns-3 c = search (rule-cut, needs)
+
+pub matches-rule-spec : {M : Type 1} → statement M
+matches-rule-spec =
+    tie.close
+    (tie.spec
+    Inv-loop
+    μ-loop
+    loop-holds
+    component-at-requires
+    enum-known-next
+    add-start
+    sub-matches-component
+    part-matches-component-start
+    part-matches-component-end
+    matches-component-requires
+    returns
+    loop-less
+    loop-again
+    enum-told
+    returns-2
+    enum-told-2
+    returns-3)

@@ -1,0 +1,8 @@
+pub mod Bit
+pub mod Header
+pub mod Transport
+pub mod Packet
+pub mod Operator
+pub mod PairList
+pub mod Match
+pub mod Judging

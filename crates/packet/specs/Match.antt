@@ -1,0 +1,77 @@
+-- Whether a packet matches a rule (RFC 8955 sections 4.2.2 and 5): when it matches each of the rule's components. A prefix is matched
+-- by an address that it contains, a list of pairs by a field of the packet; a field that the packet hides matches no list.
+use Prim.Native.Nat.{ℕ}
+use mathlib.Core.Bool.{Bool, false, cond, _||_}
+use mathlib.Core.List.{List}
+use lib.Bits.{bitAnd}
+use lib.Dec.{eqb}
+use Rattle.prefix.specs.Prefix.{contains, prefixOf}
+use Rattle.rule.specs.declared.Family.{Family}
+use Rattle.rule.specs.Operator.{sizeOf, isBitmask}
+use Rattle.rule.specs.Component.{Pair, pairsFrom}
+use Rattle.rule.specs.Value.{Part, components}
+use Rattle.packet.specs.declared.Field.{Field}
+use Rattle.packet.specs.declared.Field.the-variants.{Shown, Hidden}
+use Rattle.packet.specs.declared.Packet.{Packet}
+use Rattle.packet.specs.declared.Transport.{Transport}
+use Rattle.packet.specs.Operator.{numericHolds, bitmaskHolds}
+use Rattle.packet.specs.PairList.{all, listHolds}
+
+-- Section 4.2.2.9: TCP flags are in their two-octet form, of which a value of one octet is judged on the low octet.
+unfoldable pub dataFor : ℕ → ℕ → ℕ → ℕ
+dataFor kind operator «data» = cond (eqb kind 9) (cond (eqb (sizeOf operator) 1) (bitAnd «data» 0xff) «data») «data»
+
+-- Whether a pair in a list of the given type holds of the data.
+unfoldable pub holdsFor : ℕ → ℕ → ℕ → ℕ → Bool
+holdsFor kind operator value «data» =
+    cond (isBitmask kind) (bitmaskHolds operator (dataFor kind operator «data») value) (numericHolds operator (dataFor kind operator «data») value)
+
+-- The same of a pair.
+abbrev pub pairHolds : ℕ → ℕ → Pair → Bool
+pairHolds kind «data» pair = holdsFor kind (pair .operator) (pair .value) «data»
+
+-- Whether the list that a body of the given type is holds of the data.
+unfoldable pub bodyHolds : ℕ → List ℕ → ℕ → Bool
+bodyHolds kind body «data» = listHolds (pairHolds kind «data») (pairsFrom kind body 0 .items)
+
+-- Whether the list holds of a field. 01: "Otherwise that component never matches, whatever its operators": so of a hidden one.
+unfoldable pub fieldMatches : ℕ → List ℕ → Field → Bool
+fieldMatches kind body (Shown «data») = bodyHolds kind body «data»
+fieldMatches kind body Hidden = false
+
+-- The field that a list of the given type is judged on, in the order of sections 4.2.2.3 to 4.2.2.12.
+unfoldable pub fieldFor : ℕ → Packet → Field
+fieldFor kind packet =
+    cond (eqb kind 3) (Shown (packet .protocol))
+    (cond (eqb kind 5) (packet .transport .«destination_port»)
+    (cond (eqb kind 6) (packet .transport .«source_port»)
+    (cond (eqb kind 7) (packet .transport .«icmp_type»)
+    (cond (eqb kind 8) (packet .transport .«icmp_code»)
+    (cond (eqb kind 9) (packet .transport .flags)
+    (cond (eqb kind 10) (Shown (packet .length))
+    (cond (eqb kind 11) (Shown (packet .dscp))
+    (cond (eqb kind 12) (Shown (packet .fragment)) Hidden))))))))
+
+-- Whether the prefix that a body spells contains an address of w bits.
+unfoldable pub covers : ℕ → List ℕ → ℕ → Bool
+covers w body address = contains w (prefixOf w body) (record { length = w; address = address })
+
+-- 01: "For type 4 the whole list is judged on one port, then on the other."
+unfoldable pub eitherPort : List ℕ → Transport → Bool
+eitherPort body transport = fieldMatches 4 body (transport .«source_port») || fieldMatches 4 body (transport .«destination_port»)
+
+-- A component of the given type and body.
+abbrev pub part : ℕ → List ℕ → Part
+part kind body = record { kind = kind; body = body }
+
+-- Whether a packet matches a component.
+unfoldable pub componentMatches : Packet → Part → Bool
+componentMatches packet component =
+    cond (eqb (component .kind) 1) (covers 32 (component .body) (packet .destination))
+    (cond (eqb (component .kind) 2) (covers 32 (component .body) (packet .source))
+    (cond (eqb (component .kind) 4) (eitherPort (component .body) (packet .transport))
+    (fieldMatches (component .kind) (component .body) (fieldFor (component .kind) packet))))
+
+-- Section 5: a packet matches a rule where it matches all components of the rule's value.
+unfoldable pub matches : Family → List ℕ → Packet → Bool
+matches family value packet = all (componentMatches packet) (components family value)

@@ -1,0 +1,31 @@
+-- What octets show as a packet: its fields, or that they are unusable as one.
+use Prim.Native.Nat.{ℕ}
+use mathlib.Core.Bool.{cond}
+use mathlib.Core.List.{List}
+use Rattle.packet.specs.declared.Packet.{Packet}
+use Rattle.packet.specs.declared.Sight.{Sight}
+use Rattle.packet.specs.declared.Sight.the-variants.{Usable, Unusable}
+use Rattle.packet.specs.Header.{isUnusable, destination, source, protocol, totalLength, dscp, fragmentField, fragmentData}
+use Rattle.packet.specs.Transport.{transportOctets, transportFields}
+
+-- The fields of a usable packet. 01: "Length data is the total length field".
+unfoldable pub fieldsOf : List ℕ → Packet
+fieldsOf s =
+    record {
+      destination = destination s;
+      source = source s;
+      protocol = protocol s;
+      length = totalLength s;
+      dscp = dscp s;
+      fragment = fragmentData (fragmentField s);
+      transport = transportFields (protocol s) (transportOctets s);
+    }
+
+-- What octets show as a packet.
+unfoldable pub packetOf : List ℕ → Sight
+packetOf s = cond (isUnusable s) Unusable (Usable (fieldsOf s))
+
+-- 01's number for each case: 0 is no refusal, 12 "packet unusable".
+abbrev pub refusal : Sight → ℕ
+refusal (Usable packet) = 0
+refusal Unusable = 12

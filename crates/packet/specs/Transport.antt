@@ -1,0 +1,50 @@
+-- The transport header behind the IPv4 header (RFC 8955 sections 4.2.2.4 to 4.2.2.9): which of its octets are there, and what they
+-- show. What they do not show is hidden, and a component that asks for it never matches.
+use Prim.Native.Nat.{ℕ, _*_, min}
+use mathlib.Core.Bool.{Bool, cond, _&&_, _||_}
+use mathlib.Core.List.{List, []}
+use lib.Bits.{bitAnd}
+use lib.Dec.{leb, eqb}
+use lib.ListN.{length, getD}
+use Rattle.octets.specs.Number.{numberAt}
+use Rattle.rule.specs.Value.{between}
+use Rattle.packet.specs.declared.Field.{Field}
+use Rattle.packet.specs.declared.Field.the-variants.{Shown, Hidden}
+use Rattle.packet.specs.declared.Transport.{Transport}
+use Rattle.packet.specs.Header.{headerWords, totalLength, fragmentOffset}
+
+-- 01: transport octets "are found only if header length is 5 words and fragment offset 0".
+abbrev pub transportFound : ℕ → ℕ → Bool
+transportFound words offset = eqb words 5 && eqb offset 0
+
+-- 01: "Transport octets count only up to the smaller of lent and total length"; they begin behind the header.
+unfoldable pub transportOctets : List ℕ → List ℕ
+transportOctets s =
+    cond (transportFound (headerWords s) (fragmentOffset s)) (between s (4 * headerWords s) (min (length s) (totalLength s))) []
+
+-- 01: "Ports need protocol 6 or 17 and 4 transport octets".
+abbrev pub hasPorts : ℕ → ℕ → Bool
+hasPorts protocol there = (eqb protocol 6 || eqb protocol 17) && leb 4 there
+
+-- 01: "ICMP needs protocol 1 and 2 octets".
+abbrev pub hasIcmp : ℕ → ℕ → Bool
+hasIcmp protocol there = eqb protocol 1 && leb 2 there
+
+-- 01: "flags need protocol 6 and 14 octets".
+abbrev pub hasFlags : ℕ → ℕ → Bool
+hasFlags protocol there = eqb protocol 6 && leb 14 there
+
+-- A field that is shown where a test holds.
+abbrev pub shownIf : Bool → ℕ → Field
+shownIf holds number = cond holds (Shown number) Hidden
+
+-- The fields that transport octets show. Flags are in their two-octet form, 01: "octets 12 and 13 with the top four bits as 0".
+unfoldable pub transportFields : ℕ → List ℕ → Transport
+transportFields protocol t =
+    record {
+      «source_port» = shownIf (hasPorts protocol (length t)) (numberAt 2 t 0);
+      «destination_port» = shownIf (hasPorts protocol (length t)) (numberAt 2 t 2);
+      «icmp_type» = shownIf (hasIcmp protocol (length t)) (getD t 0 0);
+      «icmp_code» = shownIf (hasIcmp protocol (length t)) (getD t 1 0);
+      flags = shownIf (hasFlags protocol (length t)) (bitAnd (numberAt 2 t 12) 0x0fff);
+    }

@@ -1,0 +1,411 @@
+// One packet and one rule (RFC 8955 sections 4.2 and 5): what an IPv4 packet shows, what an operator asks of a number, what a list of
+// pairs asks of a field, and whether a packet matches a rule. `packet_of` alone reads the packet's octets; what follows goes by what
+// it found. Every public function answers whatever octets it is lent.
+ghost use mathlib.Core.Path.{_≡_};
+ghost use Prim.Native.Nat.{_<_, min};
+ghost use lib.ListN.{length};
+ghost use Rattle.packet.specs.Bit.{bitIf};
+ghost use Rattle.packet.specs.Header.{isUnusable, fragmentData};
+ghost use Rattle.packet.specs.Transport.{transportFound, transportOctets, shownIf, hasPorts, hasIcmp, hasFlags, transportFields};
+ghost use Rattle.packet.specs.Packet.{packetOf};
+ghost use Rattle.packet.specs.Operator.{numericHolds, bitmaskHolds};
+ghost use Rattle.packet.specs.Judging.{withPair, judgePair};
+ghost use Rattle.packet.specs.Match.{dataFor, holdsFor, bodyHolds, fieldMatches, fieldFor, covers, eitherPort, part, componentMatches, matches};
+use octets::number_at;
+use octets::octet_at;
+use prefix::Prefix;
+use rule::Family;
+use rule::Next;
+use rule::NextPair;
+
+// ---- Answers ----
+
+// A field of a packet: its number, or nothing where the packet does not show it.
+pub enum Field {
+    Shown(u16),
+    Hidden,
+}
+
+// The fields of the transport header.
+pub struct Transport {
+    pub source_port: Field,
+    pub destination_port: Field,
+    pub icmp_type: Field,
+    pub icmp_code: Field,
+    pub flags: Field,
+}
+
+// What a packet shows.
+pub struct Packet {
+    pub destination: u32,
+    pub source: u32,
+    pub protocol: u8,
+    pub length: u16,
+    pub dscp: u8,
+    pub fragment: u8,
+    pub transport: Transport,
+}
+
+// What is seen in octets: a packet, or that they are unusable as one.
+pub enum Sight {
+    Usable(Packet),
+    Unusable,
+}
+
+// A list of pairs judged so far: whether a group before the present one holds, and whether the present one does.
+struct Judged {
+    pub found: bool,
+    pub group: bool,
+}
+
+// ---- What a packet shows (section 4.2.2) ----
+
+// Whether octets are unusable as a packet: too few, another version, or lengths that do not agree.
+fn is_unusable(octets: &[u8]) -> bool
+    ensures { λ r. ⌜ r ≡ isUnusable (now (octets .entry)) ⌝ }
+{
+    if octets.len() < 20 {
+        return true;
+    }
+    let first = octets[0];
+    let version = first >> 4;
+    if version != 4 {
+        return true;
+    }
+    let words = first & 0x0f;
+    if words < 5 {
+        return true;
+    }
+    let total = number_at(2, octets, 2);
+    let header = 4 * words as u64;
+    total < header
+}
+
+// A bit where a test holds, and 0 where it does not.
+fn bit_if(holds: bool, bit: u8) -> u8
+    ensures { λ r. ⌜ r ≡ bitIf holds bit ⌝ }
+{
+    if holds { bit } else { 0 }
+}
+
+// The fragment component's data, from the header's field of three flags and the fragment offset.
+fn fragment_data(field: u64) -> u8
+    ensures { λ r. ⌜ r ≡ fragmentData field ⌝ }
+{
+    let whole = field & 0x4000 != 0;
+    let later = field & 0x1fff != 0;
+    let more = field & 0x2000 != 0;
+    let first = !later & more;
+    let last = later & !more;
+    bit_if(whole, 0x01) | bit_if(later, 0x02) | bit_if(first, 0x04) | bit_if(last, 0x08)
+}
+
+// The smaller of two numbers.
+fn smaller(a: usize, b: usize) -> usize
+    ensures { λ r. ⌜ r ≡ min a b ⌝ }
+{
+    if a <= b { a } else { b }
+}
+
+// Whether the transport header is found, behind a header of so many words and at this fragment offset.
+fn transport_found(words: u8, offset: u64) -> bool
+    ensures { λ r. ⌜ r ≡ transportFound words offset ⌝ }
+{
+    (words == 5) & (offset == 0)
+}
+
+// The octets of the transport header and all behind it that are there; none where it is not found.
+fn transport_octets(octets: &[u8]) -> &[u8]
+    ensures { λ r. ⌜ now r ≡ transportOctets (now (octets .entry)) ⌝ }
+{
+    let words = octet_at(octets, 0) & 0x0f;
+    let field = number_at(2, octets, 6);
+    let offset = field & 0x1fff;
+    let total = number_at(2, octets, 2);
+    let start = 4 * words as usize;
+    let end = smaller(octets.len(), total as usize);
+    if !transport_found(words, offset) {
+        return &octets[end..end];
+    }
+    if end < start {
+        return &octets[end..end];
+    }
+    &octets[start..end]
+}
+
+// A field that is shown where a test holds.
+fn shown_if(holds: bool, number: u16) -> Field
+    ensures { λ r. ⌜ r ≡ shownIf holds number ⌝ }
+{
+    if holds {
+        return Field::Shown(number);
+    }
+    Field::Hidden
+}
+
+// Whether ports are shown, by the protocol and how many transport octets are there.
+fn has_ports(protocol: u8, there: usize) -> bool
+    ensures { λ r. ⌜ r ≡ hasPorts protocol there ⌝ }
+{
+    ((protocol == 6) | (protocol == 17)) & (4 <= there)
+}
+
+// Whether ICMP's type and code are shown.
+fn has_icmp(protocol: u8, there: usize) -> bool
+    ensures { λ r. ⌜ r ≡ hasIcmp protocol there ⌝ }
+{
+    (protocol == 1) & (2 <= there)
+}
+
+// Whether TCP's flags are shown.
+fn has_flags(protocol: u8, there: usize) -> bool
+    ensures { λ r. ⌜ r ≡ hasFlags protocol there ⌝ }
+{
+    (protocol == 6) & (14 <= there)
+}
+
+// The fields that transport octets show under a protocol.
+fn transport_fields(protocol: u8, octets: &[u8]) -> Transport
+    ensures { λ r. ⌜ r ≡ transportFields protocol (now (octets .entry)) ⌝ }
+{
+    let ports = has_ports(protocol, octets.len());
+    let icmp = has_icmp(protocol, octets.len());
+    let control = has_flags(protocol, octets.len());
+    let flags = number_at(2, octets, 12) as u16;
+    Transport {
+        source_port: shown_if(ports, number_at(2, octets, 0) as u16),
+        destination_port: shown_if(ports, number_at(2, octets, 2) as u16),
+        icmp_type: shown_if(icmp, octet_at(octets, 0) as u16),
+        icmp_code: shown_if(icmp, octet_at(octets, 1) as u16),
+        flags: shown_if(control, flags & 0x0fff),
+    }
+}
+
+// What octets show as a packet.
+pub fn packet_of(octets: &[u8]) -> Sight
+    ensures { λ r. ⌜ r ≡ packetOf (now (octets .entry)) ⌝ }
+{
+    if is_unusable(octets) {
+        return Sight::Unusable;
+    }
+    let protocol = octet_at(octets, 9);
+    let transport = transport_fields(protocol, transport_octets(octets));
+    Sight::Usable(Packet {
+        destination: number_at(4, octets, 16) as u32,
+        source: number_at(4, octets, 12) as u32,
+        protocol,
+        length: number_at(2, octets, 2) as u16,
+        dscp: octet_at(octets, 1) >> 2,
+        fragment: fragment_data(number_at(2, octets, 6)),
+        transport,
+    })
+}
+
+// ---- Operators (section 4.2.1) ----
+
+// Whether a numeric operator holds between data and value: the low three bits choose the comparison.
+fn numeric_holds(operator: u8, data: u64, value: u64) -> bool
+    ensures { λ r. ⌜ r ≡ numericHolds operator «data» value ⌝ }
+{
+    let comparison = operator & 7;
+    match comparison {
+        0 => false,
+        1 => data == value,
+        2 => value < data,
+        3 => value <= data,
+        4 => data < value,
+        5 => data <= value,
+        6 => data != value,
+        // 7: all three, so always.
+        _ => true,
+    }
+}
+
+// Whether a bitmask operator holds between data and value: the low two bits choose the test.
+fn bitmask_holds(operator: u8, data: u64, value: u64) -> bool
+    ensures { λ r. ⌜ r ≡ bitmaskHolds operator «data» value ⌝ }
+{
+    let common = data & value;
+    let test = operator & 3;
+    match test {
+        0 => common != 0,
+        1 => common == value,
+        2 => common == 0,
+        _ => common != value,
+    }
+}
+
+// ---- Lists of pairs (section 4.2.1.1) ----
+
+// The data that a pair of a type is judged on: of TCP flags only the low octet where the value has one octet.
+fn data_for(kind: u8, operator: u8, data: u64) -> u64
+    ensures { λ r. ⌜ r ≡ dataFor kind operator «data» ⌝ }
+{
+    if kind != 9 {
+        return data;
+    }
+    if rule::size_of(operator) == 1 {
+        return data & 0xff;
+    }
+    data
+}
+
+// Whether a pair of a list of the given type holds of the data.
+fn pair_holds(kind: u8, operator: u8, value: u64, data: u64) -> bool
+    ensures { λ r. ⌜ r ≡ holdsFor kind operator value «data» ⌝ }
+{
+    let judged = data_for(kind, operator, data);
+    if rule::is_bitmask(kind) {
+        return bitmask_holds(operator, judged, value);
+    }
+    numeric_holds(operator, judged, value)
+}
+
+// A list judged one pair further: a pair that AND joins goes with the group before it, any other begins a new group.
+fn with_pair(judged: Judged, joined: bool, holds: bool) -> Judged
+    ensures { λ r. ⌜ r ≡ withPair judged joined holds ⌝ }
+{
+    Judged {
+        found: judged.found | (judged.group & !joined),
+        group: holds & (judged.group | !joined),
+    }
+}
+
+// A list judged one pair further, by the pair at a place; the first pair's AND is ignored.
+fn judge_pair(kind: u8, body: &[u8], at: usize, data: u64, judged: Judged) -> Judged
+    requires { ⌜ at < length (now body) ⌝ }
+    ensures { λ r. ⌜ r ≡ judgePair (now (body .entry)) kind at «data» judged ⌝ }
+{
+    let operator = octet_at(body, at);
+    let size = rule::size_of(operator);
+    let value = number_at(size, body, at + 1);
+    let joined = (operator & 0x40 != 0) & (at != 0);
+    let holds = pair_holds(kind, operator, value, data);
+    with_pair(judged, joined, holds)
+}
+
+// Whether the list that a body of the given type is holds of the data: an OR of ANDs, in one pass.
+fn list_holds(kind: u8, body: &[u8], data: u64) -> bool
+    ensures { λ r. ⌜ r ≡ bodyHolds kind (now (body .entry)) «data» ⌝ }
+{
+    let mut judged = Judged {
+        found: false,
+        group: false,
+    };
+    let mut at = 0;
+    loop {
+        let pair = rule::pair_at(kind, body, at);
+        match pair {
+            NextPair::More(next) => {
+                judged = judge_pair(kind, body, at, data, judged);
+                at = next;
+            }
+            NextPair::Last(_) => {
+                let whole = judge_pair(kind, body, at, data, judged);
+                return whole.found | whole.group;
+            }
+            NextPair::Refused {
+                number: _,
+                place: _,
+            } => {
+                return judged.found | judged.group;
+            }
+        }
+    }
+}
+
+// ---- Components and rules (sections 4.2.2 and 5) ----
+
+// Whether the list that a body of the given type is holds of a field; of a hidden one it never does.
+fn field_matches(kind: u8, body: &[u8], field: Field) -> bool
+    ensures { λ r. ⌜ r ≡ fieldMatches kind (now (body .entry)) field ⌝ }
+{
+    match field {
+        Field::Shown(number) => list_holds(kind, body, number as u64),
+        Field::Hidden => false,
+    }
+}
+
+// The field that a list of the given type is judged on.
+fn field_for(kind: u8, packet: Packet) -> Field
+    ensures { λ r. ⌜ r ≡ fieldFor kind packet ⌝ }
+{
+    let transport = packet.transport;
+    match kind {
+        3 => Field::Shown(packet.protocol as u16),
+        5 => transport.destination_port,
+        6 => transport.source_port,
+        7 => transport.icmp_type,
+        8 => transport.icmp_code,
+        9 => transport.flags,
+        10 => Field::Shown(packet.length),
+        11 => Field::Shown(packet.dscp as u16),
+        12 => Field::Shown(packet.fragment as u16),
+        _ => Field::Hidden,
+    }
+}
+
+// Whether the prefix that a body spells contains an address.
+fn covers_address(body: &[u8], address: u32) -> bool
+    ensures { λ r. ⌜ r ≡ covers 32 (now (body .entry)) address ⌝ }
+{
+    let outer = prefix::prefix_of(body);
+    let inner = Prefix {
+        length: 32,
+        address,
+    };
+    prefix::contains_prefix(outer, inner)
+}
+
+// Whether a port list holds of one port or of the other, each judged by the whole list.
+fn either_port(body: &[u8], transport: Transport) -> bool
+    ensures { λ r. ⌜ r ≡ eitherPort (now (body .entry)) transport ⌝ }
+{
+    let source_port = transport.source_port;
+    let destination_port = transport.destination_port;
+    let source = field_matches(4, body, source_port);
+    let destination = field_matches(4, body, destination_port);
+    source | destination
+}
+
+// Whether a packet matches a component, given by its type and body.
+fn matches_component(kind: u8, body: &[u8], packet: Packet) -> bool
+    ensures { λ r. ⌜ r ≡ componentMatches packet (part kind (now (body .entry))) ⌝ }
+{
+    match kind {
+        1 => covers_address(body, packet.destination),
+        2 => covers_address(body, packet.source),
+        4 => either_port(body, packet.transport),
+        _ => field_matches(kind, body, field_for(kind, packet)),
+    }
+}
+
+// Whether a packet matches a rule, given by its value: whether it matches each component.
+pub fn matches_rule(family: Family, value: &[u8], packet: Packet) -> bool
+    ensures { λ r. ⌜ r ≡ matches family (now (value .entry)) packet ⌝ }
+{
+    let mut at = 0;
+    let mut previous = 0;
+    loop {
+        let next = rule::component_at(family, value, at, previous);
+        match next {
+            Next::Component { kind, next } => {
+                let start = at + 1;
+                if !matches_component(kind, &value[start..next], packet) {
+                    return false;
+                }
+                at = next;
+                previous = kind;
+            }
+            Next::Nothing => {
+                return true;
+            }
+            Next::Refused {
+                number: _,
+                place: _,
+            } => {
+                return true;
+            }
+        }
+    }
+}

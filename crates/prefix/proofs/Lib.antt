@@ -1,0 +1,5 @@
+pub mod BitLaws
+pub mod BodyLaws
+pub mod Bools
+pub mod ContainLaws
+pub mod PrefixLaws

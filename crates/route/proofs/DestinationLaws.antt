@@ -1,0 +1,75 @@
+-- The destination of a value: types rise strictly, so only the first component can be of type 1. Assumes nothing.
+use mathlib.Core.Path.{_≡_, refl, sym, ap, _∙_}
+use mathlib.Core.Bool.{cond}
+use mathlib.Core.List.{List, [], _∷_}
+use Prim.Native.Nat.{ℕ, _+_, _-_, _<_, _≤_}
+use native.Mathlib.Omega.{arith}
+use lib.Dec.{eqb}
+use borrow.Author.Tests.{eq-eqb, ne-eqb}
+use Rattle.octets.specs.Walk.{Walk, before}
+use Rattle.octets.proofs.Cases.{by-test}
+use Rattle.prefix.specs.declared.Prefix.{Prefix}
+use Rattle.prefix.specs.Prefix.{prefixOf}
+use Rattle.rule.specs.declared.Family.{Family}
+use Rattle.rule.specs.declared.Next.{Next}
+use Rattle.rule.specs.declared.Next.the-variants.{Nothing, Component, Refused}
+use Rattle.rule.specs.declared.Checked.{Checked}
+use Rattle.rule.specs.Family.{ipv4}
+use Rattle.rule.specs.Component.{componentAt}
+use Rattle.rule.specs.Value.{Part, between, componentsFrom, components}
+use Rattle.rule.proofs.ValueLaws.{Found, was-found, components-more, components-none, components-refused, components-ind}
+use Rattle.route.specs.declared.Destination.{Destination}
+use Rattle.route.specs.declared.Destination.the-variants.{Missing, At}
+use Rattle.route.specs.Destination.{destinationFor, destinationAmong, destinationOf}
+
+-- how `destination_for` comes to its answers
+module _ (kind : ℕ) (body : List ℕ) where
+  pub one-prefix : (p : Prefix) → kind ≡ 1 → p ≡ prefixOf 32 body → At p ≡ destinationFor ipv4 (record { kind = kind; body = body }) Missing
+  unfolding destinationFor
+  one-prefix p h e = rw (eq-eqb kind 1 h, e)
+
+  pub other-kind : (kind ≡ 1 → ⊥) → Missing ≡ destinationFor ipv4 (record { kind = kind; body = body }) Missing
+  unfolding destinationFor
+  other-kind h = rw (ne-eqb kind 1 h)
+
+module _ (family : Family) (v : List ℕ) where
+  -- behind a component there is no destination
+  Later : ℕ → ℕ → Walk Part Checked → Type 0
+  Later at previous w = 1 ≤ previous → destinationAmong family (w .items) ≡ Missing
+
+  later : (at previous : ℕ) → Later at previous (componentsFrom family v (record { at = at; previous = previous }))
+  unfolding Later destinationAmong destinationFor
+  later =
+      components-ind family v Later (λ at previous e h. refl) (λ at previous number place e h. refl)
+      (λ at previous kind next w e rest h.
+      let f = was-found family v at previous kind next e in
+      let rises = f .rises in
+      rw (ne-eqb kind 1 (omega arith)) (rest (omega arith)))
+
+  parts : Walk Part Checked → List Part
+  parts w = w .items
+
+  -- how `destination_of` comes to its answers
+  module _ (given : Family) (four : given ≡ family) (next : Next) (is : next ≡ componentAt given v 0 0) where
+    found : componentAt family v 0 0 ≡ next
+    found = rw (← four) (sym is)
+
+    pub first-found : (kind behind : ℕ) → next ≡ Component kind behind → Found family v 0 0 kind behind
+    first-found kind behind e = was-found family v 0 0 kind behind (found ∙ e)
+
+    pub by-first : (kind behind : ℕ) (r : Destination) → next ≡ Component kind behind
+        → r ≡ destinationFor family (record { kind = kind; body = between v 1 behind }) Missing → r ≡ destinationOf family v
+    unfolding destinationOf components destinationAmong parts Later
+    by-first kind behind r e s =
+        let f = first-found kind behind e in
+        let given = f .given in
+        let c = ap parts (components-more family v 0 0 kind behind (found ∙ e)) in
+        s ∙ rw (c, later behind kind (omega arith))
+
+    pub by-none : next ≡ Nothing → Missing ≡ destinationOf family v
+    unfolding destinationOf components destinationAmong parts
+    by-none e = rw (ap parts (components-none family v 0 0 (found ∙ e)))
+
+    pub by-refused : (number place : ℕ) → next ≡ Refused number place → Missing ≡ destinationOf family v
+    unfolding destinationOf components destinationAmong parts
+    by-refused number place e = rw (ap parts (components-refused family v 0 0 number place (found ∙ e)))

@@ -1,0 +1,189 @@
+-- What an operator relies on: the best match is the longest route that covers the destination, a sound list has one such route at
+-- most, and no route that neither covers the destination nor lies inside it matters. Assumes nothing.
+use mathlib.Core.Path.{_≡_, refl, ap, sym, _∙_}
+use mathlib.Core.Bool.{Bool, true, false, cond, _||_}
+use mathlib.Core.List.{List, [], _∷_, List·Memᴰ, List·Memᴰ·head, List·Memᴰ·tail, List·Memᴰ·cases-cons, List·Memᴰ·not-nil}
+use mathlib.Core.Logic.{_↔_, ⊎-elim}
+use Prim.Native.Nat.{ℕ, _^_, _≤_, _<_}
+use native.Mathlib.Omega.{arith}
+use lib.Dec.{ltb}
+use lib.ListN.{getD}
+use borrow.Author.Tests.{ltb-true, ltb-false}
+use Rattle.octets.proofs.Cases.{by-test, apart}
+use Rattle.prefix.specs.declared.Prefix.{Prefix}
+use Rattle.prefix.proofs.ContainLaws.{nested, contains-both-ways}
+use Rattle.route.specs.declared.Route.{Route}
+use Rattle.route.specs.declared.Destination.the-variants.{Missing, At}
+use Rattle.route.specs.declared.BestMatch.{BestMatch}
+use Rattle.route.specs.declared.BestMatch.the-variants.{Nothing, Found}
+use Rattle.route.specs.Route.{routesOf, rising, soundRoutes}
+use Rattle.route.specs.Feasible.{covers, moreSpecific, longer, matched, bestMatch, undisputed, judged, feasible}
+use Rattle.route.proofs.PassLaws.{validated-same}
+use Rattle.route.proofs.SoundLaws.{every-plain, plain-formed, only-once, sound-rising, addresses-fit}
+
+-- section 6 b) in its own words: the unicast route with the longest possible prefix length covering the destination
+pub record Longest (w : ℕ) (d : Prefix) (rs : List Route) (r : Route) : Type 0 where
+  pub among : List·Memᴰ r rs
+  pub covering : covers w d r ≡ true
+  pub longest : (s : Route) → List·Memᴰ s rs → covers w d s ≡ true → s .prefix .length ≤ r .prefix .length
+
+-- a route is a match where it covers the destination
+covering-match : (w : ℕ) (d : Prefix) (r : Route) → covers w d r ≡ true → matched w d r ≡ Found r
+unfolding matched
+covering-match w d r e = rw e
+
+no-match : (w : ℕ) (d : Prefix) (r : Route) → covers w d r ≡ false → matched w d r ≡ Nothing
+unfolding matched
+no-match w d r e = rw e
+
+-- a list with no best match has no route that covers the destination
+found-stays : {P : Type 0} (r : Route) (b : BestMatch) → longer (Found r) b ≡ Nothing → P
+unfolding longer
+found-stays r Nothing e = apart (cc)
+found-stays r (Found s) e =
+    by-test (ltb (r .prefix .length) (s .prefix .length)) (λ t. let f = rw t at e in apart (cc)) (λ t. let f = rw t at e in apart (cc))
+
+pub none-covers : (w : ℕ) (d : Prefix) (rs : List Route) → bestMatch w d rs ≡ Nothing → (s : Route) → List·Memᴰ s rs → covers w d s ≡ false
+unfolding bestMatch longer
+none-covers w d [] e s m = absurd (List·Memᴰ·not-nil m)
+none-covers w d (r ∷ rs) e s m =
+    by-test (covers w d r) (λ t. found-stays r (bestMatch w d rs) (rw (covering-match w d r t) at e))
+    (λ t.
+    let below = none-covers w d rs (rw (no-match w d r t) at e) s in
+    ⊎-elim (λ f. rw f t) below (List·Memᴰ·cases-cons m))
+
+-- no route that covers the destination is longer than n
+abbrev AtMost : ℕ → Prefix → List Route → ℕ → Type 0
+AtMost w d rs n = (s : Route) → List·Memᴰ s rs → covers w d s ≡ true → s .prefix .length ≤ n
+
+at-most : (w : ℕ) (d : Prefix) (r : Route) (rs : List Route) (n : ℕ) → (covers w d r ≡ true → r .prefix .length ≤ n) → AtMost w d rs n
+    → AtMost w d (r ∷ rs) n
+at-most w d r rs n h k s m c = ⊎-elim (λ e. rw e (h (rw e at c))) (λ l. k s l c) (List·Memᴰ·cases-cons m)
+
+-- one covering route before others, by the best match of those
+module _ (w : ℕ) (d : Prefix) (s : Route) (rs : List Route) (c : covers w d s ≡ true) where
+  alone : bestMatch w d rs ≡ Nothing → Longest w d (s ∷ rs) s
+  alone none =
+      record {
+        among = List·Memᴰ·head refl;
+        covering = c;
+        longest =
+            at-most w d s rs (s .prefix .length) (λ e. omega arith)
+            (λ t m e. let f = none-covers w d rs none t m in apart (cc));
+      }
+
+  before : (t : Route) → Longest w d rs t → (r : Route) → longer (Found s) (Found t) ≡ Found r → Longest w d (s ∷ rs) r
+  unfolding longer
+  before t T r e =
+      by-test (ltb (s .prefix .length) (t .prefix .length))
+      (λ l.
+      let same : t ≡ r = let f = rw l at e in cc in
+      let h = ltb-true (s .prefix .length) (t .prefix .length) l in
+      rw (← same)
+      (record {
+        among = List·Memᴰ·tail (T .among);
+        covering = T .covering;
+        longest = at-most w d s rs (t .prefix .length) (λ e. omega arith) (T .longest);
+      }))
+      (λ l.
+      let same : s ≡ r = let f = rw l at e in cc in
+      let h = ltb-false (s .prefix .length) (t .prefix .length) l in
+      rw (← same)
+      (record {
+        among = List·Memᴰ·head refl;
+        covering = c;
+        longest = at-most w d s rs (s .prefix .length) (λ e. omega arith) (λ u m f. let k = T .longest u m f in omega arith);
+      }))
+
+-- the best match is the longest
+pub best-longest : (w : ℕ) (d : Prefix) (rs : List Route) (r : Route) → bestMatch w d rs ≡ Found r → Longest w d rs r
+unfolding bestMatch longer
+best-longest w d [] r e = apart (cc)
+best-longest w d (s ∷ rs) r e =
+    by-test (covers w d s) (λ t. go (bestMatch w d rs) refl t (rw (covering-match w d s t) at e) (best-longest w d rs))
+    (λ t.
+    let below = best-longest w d rs r (rw (no-match w d s t) at e) in
+    record {
+      among = List·Memᴰ·tail (below .among);
+      covering = below .covering;
+      longest = at-most w d s rs (r .prefix .length) (λ f. apart (cc)) (below .longest);
+    })
+  where
+    go : (b : BestMatch) → bestMatch w d rs ≡ b → covers w d s ≡ true → longer (Found s) (bestMatch w d rs) ≡ Found r
+        → ((t : Route) → bestMatch w d rs ≡ Found t → Longest w d rs t) → Longest w d (s ∷ rs) r
+    go Nothing f t g below = let same : s ≡ r = let h = rw f at g in cc in rw (← same) (alone w d s rs t f)
+    go (Found u) f t g below = before w d s rs t u (below u f) r (rw f at g)
+
+-- a sound list has one longest route at most
+pub one-longest : (w : ℕ) (d : Prefix) (rs : List Route) → rising w rs ≡ true → ((r : Route) → List·Memᴰ r rs → r .prefix .address < 2 ^ w)
+    → (r s : Route) → Longest w d rs r → Longest w d rs s → r ≡ s
+unfolding covers
+one-longest w d rs sound fits r s R S =
+    let h = R .longest s (S .among) (S .covering) in
+    let k = S .longest r (R .among) (R .covering) in
+    let P = plain-formed w (r .prefix) (every-plain w rs sound r (R .among)) (fits r (R .among)) in
+    let Q = plain-formed w (s .prefix) (every-plain w rs sound s (S .among)) (fits s (S .among)) in
+    let there = nested w (r .prefix) (s .prefix) d (omega arith) (R .covering) (S .covering) in
+    let back = nested w (s .prefix) (r .prefix) d (omega arith) (S .covering) (R .covering) in
+    only-once w rs sound r s (R .among) (S .among) (contains-both-ways w (r .prefix) (s .prefix) P Q there back)
+
+-- and in it the longest route is the best match
+pub longest-best : (w : ℕ) (d : Prefix) (rs : List Route) → rising w rs ≡ true → ((r : Route) → List·Memᴰ r rs → r .prefix .address < 2 ^ w)
+    → (r : Route) → Longest w d rs r → bestMatch w d rs ≡ Found r
+longest-best w d rs sound fits r R = go (bestMatch w d rs) refl
+  where
+    go : (b : BestMatch) → bestMatch w d rs ≡ b → bestMatch w d rs ≡ Found r
+    go Nothing e = let f = none-covers w d rs e r (R .among) in let g = R .covering in apart (cc)
+    go (Found s) e = e ∙ ap Found (one-longest w d rs sound fits s r (best-longest w d rs s e) R)
+
+-- so among the routes that sound words spell, each word a number of w bits, the best match is the one longest route
+pub sound-best : (w : ℕ) (d : Prefix) (ws : List ℕ) → soundRoutes w ws ≡ true → ((i : ℕ) → getD ws i 0 < 2 ^ w)
+    → (r : Route) → (bestMatch w d (routesOf ws) ≡ Found r) ↔ Longest w d (routesOf ws) r
+sound-best w d ws sound fits r =
+    (best-longest w d (routesOf ws) r, longest-best w d (routesOf ws) (sound-rising w ws sound) (addresses-fit (2 ^ w) ws fits) r)
+
+-- the routes that matter: those that cover the destination or lie strictly inside it
+abbrev pub matters : ℕ → Prefix → Route → Bool
+matters w d r = covers w d r || moreSpecific w d r
+
+abbrev pub only : {A : Type 0} → (A → Bool) → List A → List A
+only test [] = []
+only test (x ∷ xs) = cond (test x) (x ∷ only test xs) (only test xs)
+
+best-only : (w : ℕ) (d : Prefix) (rs : List Route) → bestMatch w d (only (matters w d) rs) ≡ bestMatch w d rs
+unfolding bestMatch longer
+best-only w d [] = refl
+best-only w d (r ∷ rs) =
+    by-test (covers w d r) (λ e. rw (e, best-only w d rs))
+    (λ e. by-test (moreSpecific w d r) (λ f. rw (e, f, best-only w d rs)) (λ f. rw (e, f, no-match w d r e, best-only w d rs)))
+
+undisputed-only : (w : ℕ) (d : Prefix) (rs : List Route) (n : ℕ) → undisputed w d (only (matters w d) rs) n ≡ undisputed w d rs n
+unfolding undisputed
+undisputed-only w d [] n = refl
+undisputed-only w d (r ∷ rs) n =
+    by-test (covers w d r) (λ e. rw (e, undisputed-only w d rs n))
+    (λ e. by-test (moreSpecific w d r) (λ f. rw (e, f, f, undisputed-only w d rs n)) (λ f. rw (e, f, undisputed-only w d rs n)))
+
+-- a destination is judged by the routes that matter
+pub judged-only : (w : ℕ) (d : Prefix) (originator : ℕ) (rs : List Route) → judged w d originator (only (matters w d) rs) ≡ judged w d originator rs
+unfolding judged
+judged-only w d originator rs =
+    rw (best-only w d rs)
+    (validated-same (bestMatch w d rs) originator (undisputed w d (only (matters w d) rs)) (undisputed w d rs) (undisputed-only w d rs))
+
+-- lists with the same routes that matter judge a rule alike
+pub feasible-alike : (w : ℕ) (relaxed : Bool) (d : Prefix) (originator : ℕ) (rs ss : List Route) → only (matters w d) rs ≡ only (matters w d) ss
+    → feasible w relaxed (At d) originator rs ≡ feasible w relaxed (At d) originator ss
+unfolding feasible
+feasible-alike w relaxed d originator rs ss e =
+    sym (judged-only w d originator rs) ∙ ap (judged w d originator) e ∙ judged-only w d originator ss
+
+-- a rule with a destination is judged the same whatever the setting, and one with none is feasible exactly where the setting allows it
+pub whatever-setting : (w : ℕ) (s t : Bool) (d : Prefix) (originator : ℕ) (rs : List Route)
+    → feasible w s (At d) originator rs ≡ feasible w t (At d) originator rs
+unfolding feasible
+whatever-setting w s t d originator rs = refl
+
+pub by-setting : (w : ℕ) (s : Bool) (originator : ℕ) (rs : List Route) → feasible w s Missing originator rs ≡ s
+unfolding feasible
+by-setting w s originator rs = refl

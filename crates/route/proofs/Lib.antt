@@ -1,0 +1,6 @@
+pub mod Examples
+pub mod FeasibleLaws
+pub mod PassLaws
+pub mod RouteLaws
+pub mod SoundLaws
+pub mod DestinationLaws

@@ -1,0 +1,165 @@
+-- One pass over the routes: the best match so far and the neighbour ASes seen inside the destination settle what the whole list
+-- says, together with the routes to come. Assumes nothing.
+use mathlib.Core.Path.{_≡_, refl, sym, _∙_}
+use mathlib.Core.Bool.{Bool, true, false, not, _&&_, _||_, and-true, and-false, and-self, and-assoc}
+use mathlib.Core.List.{List}
+use Prim.Native.Nat.{ℕ, _+_, _-_, _≤_, _<_}
+use native.Mathlib.Omega.{arith}
+use lib.Dec.{ltb, eqb}
+use lib.ListN.{length, drop}
+use borrow.Author.Tests.{lt-ltb, le-ltb, ltb-true, ltb-false, eq-eqb, ne-eqb, eqb-true, eqb-false, not-true, not-false}
+use Rattle.octets.proofs.Cases.{by-test}
+use Rattle.prefix.specs.declared.Prefix.{Prefix}
+use Rattle.prefix.specs.Prefix.{contains}
+use Rattle.route.specs.declared.Route.{Route}
+use Rattle.route.specs.declared.Destination.{Destination}
+use Rattle.route.specs.declared.Destination.the-variants.{Missing, At}
+use Rattle.route.specs.declared.BestMatch.{BestMatch}
+use Rattle.route.specs.declared.BestMatch.the-variants.{Nothing, Found}
+use Rattle.route.specs.declared.Neighbours.{Neighbours}
+use Rattle.route.specs.declared.Neighbours.the-variants.{Nobody, One, Several}
+use Rattle.route.specs.Route.{routeAt, routesOf}
+use Rattle.route.specs.Feasible.{covers, moreSpecific, longer, matched, bestMatch, undisputed, validated, judged, feasible}
+use Rattle.route.specs.Pass.{added, noted, agrees}
+use Rattle.route.proofs.RouteLaws.{routes-next, routes-end}
+
+-- the longer of three matches is the same however they are taken together
+pub longer-none : (a : BestMatch) → longer a Nothing ≡ a
+unfolding longer
+longer-none Nothing = refl
+longer-none (Found r) = refl
+
+longer-three : (r s t : Route) → longer (longer (Found r) (Found s)) (Found t) ≡ longer (Found r) (longer (Found s) (Found t))
+unfolding longer
+longer-three r s t =
+    let l = r .prefix .length in
+    let m = s .prefix .length in
+    let n = t .prefix .length in
+    by-test (ltb l m)
+    (λ e.
+    by-test (ltb m n)
+    (λ f. let a = ltb-true l m e in let b = ltb-true m n f in rw (e, f, lt-ltb l n (omega arith)))
+    (λ f. rw (e, f, e)))
+    (λ e.
+    by-test (ltb m n) (λ f. rw (e, f))
+    (λ f. let a = ltb-false l m e in let b = ltb-false m n f in rw (e, f, le-ltb l n (omega arith), e)))
+
+pub longer-assoc : (a b c : BestMatch) → longer (longer a b) c ≡ longer a (longer b c)
+unfolding longer
+longer-assoc Nothing b c = refl
+longer-assoc (Found r) Nothing c = refl
+longer-assoc (Found r) (Found s) Nothing = longer-none (longer (Found r) (Found s))
+longer-assoc (Found r) (Found s) (Found t) = longer-three r s t
+
+-- all neighbour ASes agree with one more exactly where they do and it does
+added-agrees : (seen : Neighbours) (m n : ℕ) → agrees (added seen m) n ≡ agrees seen n && eqb m n
+unfolding agrees added
+added-agrees Nobody m n = refl
+added-agrees (One k) m n =
+    by-test (eqb k m) (λ e. rw (e, ← eqb-true k m e) (sym (and-self (eqb k n))))
+    (λ e.
+    by-test (eqb k n)
+    (λ f. rw (e, f) (sym (ne-eqb m n (λ g. eqb-false k m e (eqb-true k n f ∙ sym g)))))
+    (λ f. rw (e, f)))
+added-agrees Several m n = refl
+
+pub noted-agrees : (w : ℕ) (d : Prefix) (seen : Neighbours) (r : Route) (n : ℕ)
+    → agrees (noted w d seen r) n ≡ agrees seen n && (not (moreSpecific w d r) || eqb (r .neighbour) n)
+unfolding noted
+noted-agrees w d seen r n =
+    by-test (moreSpecific w d r) (λ e. rw e (added-agrees seen (r .neighbour) n)) (λ e. rw e (sym (and-true (agrees seen n))))
+
+-- what holds before each route of the pass
+pub record Passed (w : ℕ) (d : Prefix) (ws : List ℕ) (best : BestMatch) (seen : Neighbours) (at : ℕ) : Type 0 where
+  pub within : at ≤ length ws
+  pub matching : longer best (bestMatch w d (routesOf (drop at ws))) ≡ bestMatch w d (routesOf ws)
+  pub agreeing : (n : ℕ) → agrees seen n && undisputed w d (routesOf (drop at ws)) n ≡ undisputed w d (routesOf ws) n
+
+pub pass-start : (w : ℕ) (d : Prefix) (ws : List ℕ) → Passed w d ws Nothing Nobody 0
+unfolding longer agrees
+pass-start w d ws = record { within = omega arith; matching = refl; agreeing = λ n. refl }
+
+pub pass-on : (w : ℕ) (d : Prefix) (ws : List ℕ) (best : BestMatch) (seen : Neighbours) (at : ℕ) (r : Route) (b : BestMatch) (s : Neighbours)
+    → Passed w d ws best seen at → 4 ≤ length ws - at → r ≡ routeAt ws at → b ≡ longer best (matched w d r) → s ≡ noted w d seen r
+    → Passed w d ws b s (at + 4)
+unfolding bestMatch undisputed
+pass-on w d ws best seen at r b s c h e f g =
+    record {
+      within = omega arith;
+      matching =
+          rw (f, longer-assoc best (matched w d r) (bestMatch w d (routesOf (drop (at + 4) ws))))
+          (rw (routes-next ws at (omega arith), ← e) at (c .matching));
+      agreeing = λ n. rw (g, noted-agrees w d seen r n, and-assoc) (rw (routes-next ws at (omega arith), ← e) at (c .agreeing n));
+    }
+
+-- the verdict hangs on the neighbour ASes' answers alone
+pub validated-same : (best : BestMatch) (originator : ℕ) (f g : ℕ → Bool) → ((n : ℕ) → f n ≡ g n) → validated best originator f ≡ validated best originator g
+unfolding validated
+validated-same Nothing originator f g e = refl
+validated-same (Found r) originator f g e = rw (e (r .neighbour))
+
+pub pass-end : (w : ℕ) (d : Prefix) (ws : List ℕ) (best : BestMatch) (seen : Neighbours) (at originator : ℕ) (v : Bool)
+    → Passed w d ws best seen at → length ws - at < 4 → v ≡ validated best originator (agrees seen) → v ≡ judged w d originator (routesOf ws)
+unfolding bestMatch undisputed judged
+pass-end w d ws best seen at originator v c h e =
+    let none = routes-end ws at (omega arith) in
+    let b : best ≡ bestMatch w d (routesOf ws) = sym (longer-none best) ∙ (rw none at (c .matching)) in
+    let s : (n : ℕ) → agrees seen n ≡ undisputed w d (routesOf ws) n = λ n. sym (and-true (agrees seen n)) ∙ (rw none at (c .agreeing n)) in
+    e ∙ rw b (validated-same (bestMatch w d (routesOf ws)) originator (agrees seen) (undisputed w d (routesOf ws)) s)
+
+-- one route more: the best match stays where the route does not cover the destination, or is no longer
+module _ (w : ℕ) (d : Prefix) (best : BestMatch) (r : Route) (t : Bool) (says : t ≡ contains w (r .prefix) d) where
+  pub not-covering : not t ≡ true → best ≡ longer best (matched w d r)
+  unfolding matched covers
+  not-covering e = rw (← says, not-true t e) (sym (longer-none best))
+
+  pub first-match : not t ≡ false → best ≡ Nothing → Found r ≡ longer best (matched w d r)
+  unfolding matched covers longer
+  first-match e f = rw (f, ← says, not-false t e)
+
+  pub longer-match : (s : Route) → not t ≡ false → best ≡ Found s → s .prefix .length < r .prefix .length → Found r ≡ longer best (matched w d r)
+  unfolding matched covers longer
+  longer-match s e f h = rw (f, ← says, not-false t e, lt-ltb (s .prefix .length) (r .prefix .length) h)
+
+  pub no-longer : (s : Route) → not t ≡ false → best ≡ Found s → r .prefix .length ≤ s .prefix .length → Found s ≡ longer best (matched w d r)
+  unfolding matched covers longer
+  no-longer s e f h = rw (f, ← says, not-false t e, le-ltb (s .prefix .length) (r .prefix .length) h)
+
+-- one route more: its neighbour AS is noted where the route is longer than the destination and inside it
+module _ (w : ℕ) (d : Prefix) (seen : Neighbours) (r : Route) where
+  pub not-inside : r .prefix .length ≤ d .length → seen ≡ noted w d seen r
+  unfolding noted moreSpecific
+  not-inside h = rw (le-ltb (d .length) (r .prefix .length) h, and-false (contains w d (r .prefix)))
+
+  pub outside : (t : Bool) → t ≡ contains w d (r .prefix) → not t ≡ true → seen ≡ noted w d seen r
+  unfolding noted moreSpecific
+  outside t says e = rw (← says, not-true t e)
+
+  pub inside : (t : Bool) (s : Neighbours) → t ≡ contains w d (r .prefix) → not t ≡ false → d .length < r .prefix .length
+      → s ≡ added seen (r .neighbour) → s ≡ noted w d seen r
+  unfolding noted moreSpecific
+  inside t s says e h f = rw (← says, not-false t e, lt-ltb (d .length) (r .prefix .length) h) f
+
+-- the three ways to conclude
+module _ (best : BestMatch) (originator : ℕ) (f : ℕ → Bool) where
+  pub no-match : best ≡ Nothing → false ≡ validated best originator f
+  unfolding validated
+  no-match e = rw e
+
+  pub other-originator : (r : Route) → best ≡ Found r → (r .originator ≡ originator → ⊥) → false ≡ validated best originator f
+  unfolding validated
+  other-originator r e h = rw (e, ne-eqb (r .originator) originator h)
+
+  pub by-neighbour : (r : Route) (v : Bool) → best ≡ Found r → r .originator ≡ originator → v ≡ f (r .neighbour) → v ≡ validated best originator f
+  unfolding validated
+  by-neighbour r v e h g = rw (e, eq-eqb (r .originator) originator h) g
+
+-- with no destination the setting decides, and with one the routes do
+module _ (w : ℕ) (relaxed : Bool) (destination : Destination) (originator : ℕ) (routes : List Route) where
+  pub no-destination : destination ≡ Missing → relaxed ≡ feasible w relaxed destination originator routes
+  unfolding feasible
+  no-destination e = rw e
+
+  pub by-routes : (d : Prefix) (v : Bool) → destination ≡ At d → v ≡ judged w d originator routes → v ≡ feasible w relaxed destination originator routes
+  unfolding feasible
+  by-routes d v e f = rw e f

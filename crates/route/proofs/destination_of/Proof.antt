@@ -1,0 +1,68 @@
+use Rattle.rule.proofs.ValueLaws.{Found}
+use native.Mathlib.Omega.{arith}
+use Rattle.rule.specs.Family.{ipv4}
+use Rattle.route.proofs.DestinationLaws.{first-found, by-first, by-none, by-refused}
+use borrow.Author.Needs.{needs}
+use Rattle.route.proofs.destination_of.Statement.{statement}
+use Rattle.route.proofs.destination_of.Tie as tie
+use Rattle.route.proofs.destination_of.Reads as reads
+use Rattle.route.proofs.destination_of.Lts as lts
+use Rattle.route.proofs.destination_for.Reads as destination-for-reads
+use Rattle.rule.proofs.component_at.Reads as component-at-reads
+use Rattle.rule.proofs.ipv4.Reads as ipv4-reads
+
+found-first : (c : tie.After-known-told) → Found ipv4 (c .before .before .before .before .before .before .args .value .now) 0 0 (c .before .kind .given .0 .0) (c .before .kind .given .0 .1 .0)
+found-first c = first-found ipv4 _ _ (c .before .before .before .before .ipv4 .ensures) _ (c .before .before .before .component-at .ensures) _ _ (c .before .kind .given .1)
+
+ipv4-requires : tie.Need-ipv4-requires
+ipv4-requires c κs = search needs
+
+component-at-requires : tie.Need-component-at-requires
+component-at-requires c κs = search needs
+
+enum-known-kind : tie.Need-enum-known-kind
+enum-known-kind c = search needs
+
+sub-destination-for : tie.Need-sub-destination-for
+sub-destination-for c = omega (arith, found-first c)
+
+part-destination-for-start : tie.Need-part-destination-for-start
+part-destination-for-start c = omega (arith, found-first c)
+
+part-destination-for-end : tie.Need-part-destination-for-end
+part-destination-for-end c = omega (arith, found-first c)
+
+destination-for-requires : tie.Need-destination-for-requires
+destination-for-requires c κs = search needs
+
+enum-told : tie.Need-enum-told
+enum-told c = search needs
+
+enum-told-2 : tie.Need-enum-told-2
+enum-told-2 c = search needs
+
+returns : tie.Need-returns
+returns c = search (by-first, needs)
+
+returns-2 : tie.Need-returns-2
+returns-2 c = search (by-none, needs)
+
+returns-3 : tie.Need-returns-3
+returns-3 c = search (by-refused, needs)
+
+pub destination-of-spec : {M : Type 1} → statement M
+destination-of-spec =
+    tie.close
+    (tie.spec
+    ipv4-requires
+    component-at-requires
+    enum-known-kind
+    sub-destination-for
+    part-destination-for-start
+    part-destination-for-end
+    destination-for-requires
+    enum-told
+    enum-told-2
+    returns
+    returns-2
+    returns-3)

@@ -1,0 +1,23 @@
+-- The destination of a rule: the prefix of its component of type 1, if it has one (RFC 8955 section 4.2.2.1).
+use Prim.Native.Nat.{ℕ}
+use mathlib.Core.Bool.{cond}
+use mathlib.Core.List.{List, [], _∷_}
+use lib.Dec.{eqb}
+use Rattle.prefix.specs.Prefix.{prefixOf}
+use Rattle.rule.specs.declared.Family.{Family}
+use Rattle.rule.specs.Value.{Part, components}
+use Rattle.route.specs.declared.Destination.{Destination}
+use Rattle.route.specs.declared.Destination.the-variants.{Missing, At}
+
+-- One component's say: a component of type 1 is the destination, and any other leaves it to the rest.
+unfoldable pub destinationFor : Family → Part → Destination → Destination
+destinationFor family p rest = cond (eqb (p .kind) 1) (At (prefixOf (family .width) (p .body))) rest
+
+-- The destination among components.
+unfoldable pub destinationAmong : Family → List Part → Destination
+destinationAmong family [] = Missing
+destinationAmong family (p ∷ parts) = destinationFor family p (destinationAmong family parts)
+
+-- The destination of a value.
+unfoldable pub destinationOf : Family → List ℕ → Destination
+destinationOf family v = destinationAmong family (components family v)

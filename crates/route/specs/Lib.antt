@@ -1,0 +1,4 @@
+pub mod Route
+pub mod Destination
+pub mod Feasible
+pub mod Pass

@@ -1,0 +1,25 @@
+-- What one pass over the routes keeps of those strictly inside the destination: whether they have no neighbour AS, one, or several.
+use Prim.Native.Nat.{ℕ}
+use mathlib.Core.Bool.{Bool, true, false, cond}
+use lib.Dec.{eqb}
+use Rattle.prefix.specs.declared.Prefix.{Prefix}
+use Rattle.route.specs.declared.Route.{Route}
+use Rattle.route.specs.declared.Neighbours.{Neighbours}
+use Rattle.route.specs.declared.Neighbours.the-variants.{Nobody, One, Several}
+use Rattle.route.specs.Feasible.{moreSpecific}
+
+-- The neighbour ASes with one more.
+unfoldable pub added : Neighbours → ℕ → Neighbours
+added Nobody n = One n
+added (One m) n = cond (eqb m n) (One m) Several
+added Several n = Several
+
+-- A route's neighbour AS is noted where the route is more specific than the destination.
+unfoldable pub noted : ℕ → Prefix → Neighbours → Route → Neighbours
+noted w destination seen r = cond (moreSpecific w destination r) (added seen (r .neighbour)) seen
+
+-- All neighbour ASes noted are this one.
+unfoldable pub agrees : Neighbours → ℕ → Bool
+agrees Nobody n = true
+agrees (One m) n = eqb m n
+agrees Several n = false

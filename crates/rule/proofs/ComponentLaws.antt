@@ -1,0 +1,237 @@
+-- The cursor's answers: one law for each way in which the code comes to one, and where an answer lies in the value. Assumes nothing.
+use mathlib.Core.Path.{_≡_, refl, sym, ap, subst, _∙_}
+use mathlib.Core.Bool.{Bool, true, false, not, cond}
+use mathlib.Core.List.{List, [], _∷_}
+use Prim.Native.Nat.{ℕ, zero, suc, _+_, _-_, _/_, _<_, _≤_}
+use native.Mathlib.Omega.{arith}
+use lib.Dec.{leb, ltb, eqb}
+use lib.ListN.{length, getD}
+use borrow.Author.Tests.{le-leb, lt-leb, lt-ltb, le-ltb, leb-false, ltb-false, not-true, not-false, eq-eqb, ne-eqb}
+use Rattle.octets.specs.Walk.{Step, more, last, stop, Walk, before, walk}
+use Rattle.octets.proofs.Cases.{by-test, apart}
+use Rattle.octets.proofs.WalkLaws.{walk-stop, walk-last, walk-more, walk-ind}
+use Rattle.rule.specs.declared.Family.{Family}
+use Rattle.rule.specs.declared.NextPair.{NextPair}
+use Rattle.rule.specs.declared.NextPair.the-variants.{More, Last, Refused as RefusedPair}
+use Rattle.rule.specs.declared.BodyEnd.{BodyEnd}
+use Rattle.rule.specs.declared.BodyEnd.the-variants.{At, Refused as RefusedBody}
+use Rattle.rule.specs.declared.Next.{Next}
+use Rattle.rule.specs.declared.Next.the-variants.{Nothing, Component, Refused}
+use Rattle.rule.specs.Operator.{endsList, sizeOf, isPrefix, sizeAllowed}
+use Rattle.rule.specs.Component.{pairAt, Pair, pairOf, pairStep, pairsFrom, prefixEnd, bodyEnd, found, componentAt}
+
+-- how `pair_at` comes to each of its answers
+module _ (kind : ℕ) (v : List ℕ) (at : ℕ) where
+  pub pair-missing : length v ≤ at → RefusedPair 6 (length v) ≡ pairAt kind v at
+  unfolding pairAt
+  pair-missing h = rw (le-leb _ _ h)
+
+  module _ (size : ℕ) (allowed : Bool) (is : size ≡ sizeOf (getD v at 0)) (says : allowed ≡ sizeAllowed kind size) (within : at < length v) where
+    pub pair-size : not allowed ≡ true → RefusedPair 7 at ≡ pairAt kind v at
+    unfolding pairAt
+    pair-size h = rw (lt-leb _ _ within, ← is, ← says, not-true allowed h)
+
+    pub pair-short : not allowed ≡ false → length v - (at + 1) < size → RefusedPair 6 (length v) ≡ pairAt kind v at
+    unfolding pairAt
+    pair-short h k = rw (lt-leb _ _ within, ← is, ← says, not-false allowed h, lt-ltb _ _ k)
+
+    module _ (ends : Bool) (tells : ends ≡ endsList (getD v at 0)) (fits : size ≤ length v - (at + 1)) where
+      pub pair-last : not allowed ≡ false → ends ≡ true → Last (at + 1 + size) ≡ pairAt kind v at
+      unfolding pairAt
+      pair-last h k = rw (lt-leb _ _ within, ← is, ← says, not-false allowed h, le-ltb _ _ fits, ← tells, k)
+
+      pub pair-more : not allowed ≡ false → ends ≡ false → More (at + 1 + size) ≡ pairAt kind v at
+      unfolding pairAt
+      pair-more h k = rw (lt-leb _ _ within, ← is, ← says, not-false allowed h, le-ltb _ _ fits, ← tells, k)
+
+-- a place behind another and still in the value
+abbrev pub Within : List ℕ → ℕ → ℕ → Type 0
+Within v at next = (at < next) × (next ≤ length v)
+
+abbrev pub PairWithin : List ℕ → ℕ → NextPair → Type 0
+PairWithin v at (More next) = Within v at next
+PairWithin v at (Last next) = Within v at next
+PairWithin v at (RefusedPair number place) = Unit {0}
+
+module _ (kind : ℕ) (v : List ℕ) where
+  pub pair-within : (at : ℕ) → PairWithin v at (pairAt kind v at)
+  unfolding pairAt
+  pair-within at =
+      let operator = getD v at 0 in
+      by-test (leb (length v) at) (λ t. rw t tt)
+      (λ t. by-test (sizeAllowed kind (sizeOf operator))
+      (λ u. by-test (ltb (length v - (at + 1)) (sizeOf operator)) (λ w. rw (t, u, w) tt)
+      (λ w.
+      let inside = leb-false (length v) at t in
+      let fits = ltb-false (length v - (at + 1)) (sizeOf operator) w in
+      let q : Within v at (at + 1 + sizeOf operator) = (omega arith, omega arith) in
+      by-test (endsList operator) (λ x. rw (t, u, w, x) q) (λ x. rw (t, u, w, x) q)))
+      (λ u. rw (t, u) tt))
+
+  pub more-within : (at next : ℕ) → pairAt kind v at ≡ More next → Within v at next
+  more-within at next e = subst (PairWithin v at) e (pair-within at)
+
+  pub last-within : (at next : ℕ) → pairAt kind v at ≡ Last next → Within v at next
+  last-within at next e = subst (PairWithin v at) e (pair-within at)
+
+  -- a step on along a list goes towards the value's end
+  falls : (i j : ℕ) (a : Pair) → pairStep v i (pairAt kind v i) ≡ more a j → length v - j < length v - i
+  falls i j a = go (pairAt kind v i) refl
+    where
+      go : (x : NextPair) → pairAt kind v i ≡ x → pairStep v i x ≡ more a j → length v - j < length v - i
+      go (More next) e q = let w = more-within i next e in let s : next ≡ j = cc in omega arith
+      go (Last next) e q = apart (cc)
+      go (RefusedPair number place) e q = apart (cc)
+
+  -- the pairs from a place on: one more and the rest, the last, or none
+  pub pairs-more : (at next : ℕ) → pairAt kind v at ≡ More next → pairsFrom kind v at ≡ before (pairOf v at next) (pairsFrom kind v next)
+  unfolding pairsFrom
+  pairs-more at next e =
+      walk-more (RefusedBody 6 (length v)) (λ i. pairStep v i (pairAt kind v i)) (λ i. length v - i) falls (length v + 1) at next (pairOf v at next) (omega arith)
+      (ap (pairStep v at) e)
+
+  pub pairs-last : (at next : ℕ) → pairAt kind v at ≡ Last next → pairsFrom kind v at ≡ record { items = pairOf v at next ∷ []; ending = At next }
+  unfolding pairsFrom
+  pairs-last at next e =
+      walk-last (RefusedBody 6 (length v)) (λ i. pairStep v i (pairAt kind v i)) (length v + 1) at (pairOf v at next) (At next) (omega arith) (ap (pairStep v at) e)
+
+  pub pairs-refused : (at number place : ℕ) → pairAt kind v at ≡ RefusedPair number place
+      → pairsFrom kind v at ≡ record { items = []; ending = RefusedBody number place }
+  unfolding pairsFrom
+  pairs-refused at number place e =
+      walk-stop (RefusedBody 6 (length v)) (λ i. pairStep v i (pairAt kind v i)) (length v + 1) at (RefusedBody number place) (omega arith) (ap (pairStep v at) e)
+
+  -- what holds of the last pair and of a refusal, and before a pair where it holds behind it, holds of every list of pairs
+  pub pairs-ind : (P : ℕ → Walk Pair BodyEnd → Type 0)
+      → ((at number place : ℕ) → pairAt kind v at ≡ RefusedPair number place → P at (record { items = []; ending = RefusedBody number place }))
+      → ((at next : ℕ) → pairAt kind v at ≡ Last next → P at (record { items = pairOf v at next ∷ []; ending = At next }))
+      → ((at next : ℕ) (w : Walk Pair BodyEnd) → pairAt kind v at ≡ More next → P next w → P at (before (pairOf v at next) w))
+      → (at : ℕ) → P at (pairsFrom kind v at)
+  unfolding pairsFrom
+  pairs-ind P refused ends goes at =
+      walk-ind (RefusedBody 6 (length v)) (λ i. pairStep v i (pairAt kind v i)) (λ i. length v - i) falls P
+      (λ i e q. stops i e (pairAt kind v i) refl q)
+      (λ i a e q. lasts i a e (pairAt kind v i) refl q)
+      (λ i j a w q h. mores i j a w (pairAt kind v i) refl q h)
+      (length v + 1) at (omega arith)
+    where
+      stops : (i : ℕ) (e : BodyEnd) (x : NextPair) → pairAt kind v i ≡ x → pairStep v i x ≡ stop e → P i (record { items = []; ending = e })
+      stops i e (More next) f q = apart (cc)
+      stops i e (Last next) f q = apart (cc)
+      stops i e (RefusedPair number place) f q = let s : RefusedBody number place ≡ e = cc in rw (← s) (refused i number place f)
+
+      lasts : (i : ℕ) (a : Pair) (e : BodyEnd) (x : NextPair) → pairAt kind v i ≡ x → pairStep v i x ≡ last a e → P i (record { items = a ∷ []; ending = e })
+      lasts i a e (More next) f q = apart (cc)
+      lasts i a e (Last next) f q =
+          let s : At next ≡ e = cc in
+          let u : pairOf v i next ≡ a = cc in
+          rw (← s, ← u) (ends i next f)
+      lasts i a e (RefusedPair number place) f q = apart (cc)
+
+      mores : (i j : ℕ) (a : Pair) (w : Walk Pair BodyEnd) (x : NextPair) → pairAt kind v i ≡ x → pairStep v i x ≡ more a j → P j w → P i (before a w)
+      mores i j a w (More next) f q h =
+          let s : next ≡ j = cc in
+          let u : pairOf v i next ≡ a = cc in
+          rw (← u) (goes i next w f (rw s h))
+      mores i j a w (Last next) f q h = apart (cc)
+      mores i j a w (RefusedPair number place) f q h = apart (cc)
+
+-- how `list_end` goes on and comes to each of its answers
+module _ (kind : ℕ) (v : List ℕ) (start at : ℕ) (pair : NextPair) (is : pair ≡ pairAt kind v at)
+    (so-far : pairsFrom kind v start .ending ≡ pairsFrom kind v at .ending) where
+  pub list-on : (next : ℕ) → pair ≡ More next → pairsFrom kind v start .ending ≡ pairsFrom kind v next .ending
+  list-on next e = so-far ∙ rw (pairs-more kind v at next (sym is ∙ e))
+
+  pub list-last : (next : ℕ) → pair ≡ Last next → At next ≡ pairsFrom kind v start .ending
+  list-last next e = sym (so-far ∙ rw (pairs-last kind v at next (sym is ∙ e)))
+
+  pub list-refused : (number place : ℕ) → pair ≡ RefusedPair number place → RefusedBody number place ≡ pairsFrom kind v start .ending
+  list-refused number place e = sym (so-far ∙ rw (pairs-refused kind v at number place (sym is ∙ e)))
+
+-- an end of a body lies behind the body's start and in the value
+abbrev pub EndWithin : List ℕ → ℕ → BodyEnd → Type 0
+EndWithin v at (At next) = Within v at next
+EndWithin v at (RefusedBody number place) = Unit {0}
+
+module _ (v : List ℕ) where
+  pub list-within : (kind at : ℕ) → EndWithin v at (pairsFrom kind v at .ending)
+  list-within kind at =
+      pairs-ind kind v (λ i w. EndWithin v i (w .ending)) (λ i number place e. tt) (λ i next e. last-within kind v i next e)
+      (λ i next w e h. further i next (w .ending) (more-within kind v i next e) h) at
+    where
+      further : (i next : ℕ) (e : BodyEnd) → Within v i next → EndWithin v next e → EndWithin v i e
+      further i next (At j) h k = (omega arith, k .1)
+      further i next (RefusedBody number place) h k = tt
+
+  pub prefix-within : (family : Family) (at : ℕ) → EndWithin v at (prefixEnd family v at)
+  unfolding prefixEnd
+  prefix-within family at =
+      by-test (leb (length v) at) (λ t. rw t tt)
+      (λ t. by-test (ltb (family .width) (getD v at 0)) (λ u. rw (t, u) tt)
+      (λ u. by-test (ltb (length v - (at + 1)) ((getD v at 0 + 7) / 8)) (λ w. rw (t, u, w) tt)
+      (λ w.
+      let inside = leb-false (length v) at t in
+      let fits = ltb-false (length v - (at + 1)) ((getD v at 0 + 7) / 8) w in
+      let q : Within v at (at + 1 + (getD v at 0 + 7) / 8) = (omega arith, omega arith) in
+      rw (t, u, w) q)))
+
+  pub body-within : (family : Family) (kind at : ℕ) → EndWithin v at (bodyEnd family kind v at)
+  unfolding bodyEnd
+  body-within family kind at = by-test (isPrefix kind) (λ t. rw t (prefix-within family at)) (λ t. rw t (list-within kind at))
+
+-- how `prefix_end` comes to each of its answers
+module _ (family : Family) (v : List ℕ) (at : ℕ) where
+  pub prefix-missing : length v ≤ at → RefusedBody 6 (length v) ≡ prefixEnd family v at
+  unfolding prefixEnd
+  prefix-missing h = rw (le-leb _ _ h)
+
+  pub prefix-long : at < length v → family .width < getD v at 0 → RefusedBody 5 at ≡ prefixEnd family v at
+  unfolding prefixEnd
+  prefix-long h k = rw (lt-leb _ _ h, lt-ltb _ _ k)
+
+  pub prefix-short : at < length v → getD v at 0 ≤ family .width → length v - (at + 1) < (getD v at 0 + 7) / 8 → RefusedBody 6 (length v) ≡ prefixEnd family v at
+  unfolding prefixEnd
+  prefix-short h k l = rw (lt-leb _ _ h, le-ltb _ _ k, lt-ltb _ _ l)
+
+  pub prefix-whole : at < length v → getD v at 0 ≤ family .width → (getD v at 0 + 7) / 8 ≤ length v - (at + 1)
+      → At (at + 1 + (getD v at 0 + 7) / 8) ≡ prefixEnd family v at
+  unfolding prefixEnd
+  prefix-whole h k l = rw (lt-leb _ _ h, le-ltb _ _ k, le-ltb _ _ l)
+
+-- how `body_end` comes to each of its answers
+module _ (family : Family) (kind : ℕ) (v : List ℕ) (at : ℕ) (end : BodyEnd) (says : Bool) (is : says ≡ isPrefix kind) where
+  pub body-prefix : says ≡ true → end ≡ prefixEnd family v at → end ≡ bodyEnd family kind v at
+  unfolding bodyEnd
+  body-prefix h e = rw (← is, h) e
+
+  pub body-list : says ≡ false → end ≡ pairsFrom kind v at .ending → end ≡ bodyEnd family kind v at
+  unfolding bodyEnd
+  body-list h e = rw (← is, h) e
+
+-- how the cursor comes to each of its answers
+module _ (family : Family) (v : List ℕ) (at previous : ℕ) where
+  pub component-none : length v ≤ at → Nothing ≡ componentAt family v at previous
+  unfolding componentAt
+  component-none h = rw (le-leb _ _ h)
+
+  pub component-zero : at < length v → getD v at 0 ≡ 0 → Refused 3 at ≡ componentAt family v at previous
+  unfolding componentAt
+  component-zero h e = rw (lt-leb _ _ h, eq-eqb _ _ e)
+
+  pub component-above : at < length v → (getD v at 0 ≡ 0 → ⊥) → family .highest < getD v at 0 → Refused 3 at ≡ componentAt family v at previous
+  unfolding componentAt
+  component-above h z k = rw (lt-leb _ _ h, ne-eqb _ _ z, lt-ltb _ _ k)
+
+  pub component-order : at < length v → (getD v at 0 ≡ 0 → ⊥) → getD v at 0 ≤ family .highest → getD v at 0 ≤ previous → Refused 4 at ≡ componentAt family v at previous
+  unfolding componentAt
+  component-order h z k l = rw (lt-leb _ _ h, ne-eqb _ _ z, le-ltb _ _ k, le-leb _ _ l)
+
+  module _ (within : at < length v) (given : getD v at 0 ≡ 0 → ⊥) (had : getD v at 0 ≤ family .highest) (rises : previous < getD v at 0)
+      (end : BodyEnd) (is : end ≡ bodyEnd family (getD v at 0) v (at + 1)) where
+    pub component-whole : (next : ℕ) → end ≡ At next → Component (getD v at 0) next ≡ componentAt family v at previous
+    unfolding componentAt
+    component-whole next e = rw (lt-leb _ _ within, ne-eqb _ _ given, le-ltb _ _ had, lt-leb _ _ rises, ← is, e)
+
+    pub component-refused : (number place : ℕ) → end ≡ RefusedBody number place → Refused number place ≡ componentAt family v at previous
+    unfolding componentAt
+    component-refused number place e = rw (lt-leb _ _ within, ne-eqb _ _ given, le-ltb _ _ had, lt-leb _ _ rises, ← is, e)

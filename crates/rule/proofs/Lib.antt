@@ -1,0 +1,11 @@
+pub mod OperatorLaws
+pub mod ComponentLaws
+pub mod ValueLaws
+pub mod PlainLaws
+pub mod ClearedLaws
+pub mod SpellingLaws
+pub mod FillLaws
+pub mod ReadingLaws
+pub mod WritingLaws
+pub mod PartLaws
+pub mod RoundTripLaws

@@ -1,0 +1,136 @@
+-- An accepted value is its components, one after the other, and what holds of each of them: its type is one of the family's, above
+-- the type before, and a prefix has the octets that its length asks for. By induction along the walk. Assumes nothing.
+use mathlib.Core.Path.{_≡_, refl, sym, ap, subst, _∙_}
+use mathlib.Core.Bool.{true}
+use mathlib.Core.List.{List, [], _∷_, _++_}
+use Prim.Native.Nat.{ℕ, _+_, _-_, _/_, _<_, _≤_}
+use native.Mathlib.Omega.{arith}
+use native.Mathlib.Decide.{decLt}
+use native.Mathlib.Numerals.{add-one}
+use native.Mathlib.Nat.{add-zero}
+use lib.Dec.{leb, ltb}
+use lib.ListN.{length, getD, drop, take-append-drop, drop-of-length-le, length-drop, List·getD-eq-default}
+use lib.Seq.{drop-cons, drop-drop, getD-take, getD-drop, length-take-le}
+use borrow.Author.Tests.{ltb-false}
+use Rattle.octets.proofs.Cases.{by-test}
+use Rattle.octets.proofs.Facts.{Octets}
+use Rattle.rule.specs.declared.Family.{Family}
+use Rattle.rule.specs.declared.BodyEnd.{BodyEnd}
+use Rattle.rule.specs.declared.BodyEnd.the-variants.{At, Refused as RefusedBody}
+use Rattle.rule.specs.declared.Checked.the-variants.{Accepted}
+use Rattle.rule.specs.Operator.{isPrefix}
+use Rattle.rule.specs.Component.{prefixEnd, bodyEnd}
+use Rattle.rule.specs.Value.{Part, spelled, between, componentsFrom, components, checkValue}
+use Rattle.rule.proofs.ValueLaws.{Found, was-found, none-left, components-ind, accepted-walk}
+
+-- the octets up to a place, and those from it on
+between-then : (v : List ℕ) (from to : ℕ) → from ≤ to → between v from to ++ drop to v ≡ drop from v
+between-then v from to h =
+    let e : from + (to - from) ≡ to = omega arith in
+    ap (λ n. between v from to ++ drop n v) (sym e) ∙ rw (← drop-drop (to - from) from v) (take-append-drop (to - from) (drop from v))
+
+module _ (family : Family) (v : List ℕ) where
+  spelled-from : (at previous : ℕ) → componentsFrom family v (record { at = at; previous = previous }) .ending ≡ Accepted
+      → spelled (componentsFrom family v (record { at = at; previous = previous }) .items) ≡ drop at v
+  unfolding spelled
+  spelled-from =
+      components-ind family v (λ at previous w. w .ending ≡ Accepted → spelled (w .items) ≡ drop at v)
+      (λ at previous e ok. sym (drop-of-length-le v (none-left family v at previous e)))
+      (λ at previous number place e ok. cc)
+      (λ at previous kind next w e h ok.
+      let f = was-found family v at previous kind next e in
+      let inside = f .inside in
+      let within = f .within .0 in
+      rw (h ok, between-then v (at + 1) next (omega arith), drop-cons v at 0 inside, f .is, add-one))
+
+  -- an accepted value is what its components spell
+  pub spelled-whole : checkValue family v ≡ Accepted → spelled (components family v) ≡ v
+  unfolding components
+  spelled-whole ok = spelled-from 0 0 (accepted-walk family v ok)
+
+-- types that rise strictly, all above `previous`
+abbrev pub Rising : ℕ → List Part → Type 0
+Rising previous [] = Unit {0}
+Rising previous (p ∷ ps) = (previous < p .kind) × Rising (p .kind) ps
+
+-- what holds of each component
+abbrev pub Each : (Part → Type 0) → List Part → Type 0
+Each P [] = Unit {0}
+Each P (p ∷ ps) = P p × Each P ps
+
+module _ (family : Family) (v : List ℕ) where
+  pub types-rise : Rising 0 (components family v)
+  unfolding components
+  types-rise =
+      components-ind family v (λ at previous w. Rising previous (w .items)) (λ at previous e. tt) (λ at previous number place e. tt)
+      (λ at previous kind next w e h. (was-found family v at previous kind next e .rises, h)) 0 0
+
+  -- what holds of all that the cursor finds holds of each component
+  pub each-found : (P : Part → Type 0)
+      → ((at previous kind next : ℕ) → Found family v at previous kind next → P (record { kind = kind; body = between v (at + 1) next }))
+      → Each P (components family v)
+  unfolding components
+  each-found P holds =
+      components-ind family v (λ at previous w. Each P (w .items)) (λ at previous e. tt) (λ at previous number place e. tt)
+      (λ at previous kind next w e h. (holds at previous kind next (was-found family v at previous kind next e), h)) 0 0
+
+-- a prefix's body: its length is within the width, and it has just the octets that this asks for
+pub record PrefixBody (family : Family) (body : List ℕ) : Type 0 where
+  pub within : getD body 0 0 ≤ family .width
+  pub whole : length body ≡ 1 + (getD body 0 0 + 7) / 8
+
+-- a component that the cursor can find
+pub record SoundPart (family : Family) (p : Part) : Type 0 where
+  pub given : 1 ≤ p .kind
+  pub had : p .kind ≤ family .highest
+  pub prefix : isPrefix (p .kind) ≡ true → PrefixBody family (p .body)
+
+-- where a prefix that begins at a place ends
+PrefixEnds : Family → List ℕ → ℕ → BodyEnd → Type 0
+PrefixEnds family v at (At next) = (getD v at 0 ≤ family .width) × (next ≡ at + 1 + (getD v at 0 + 7) / 8)
+PrefixEnds family v at (RefusedBody number place) = Unit {0}
+
+module _ (family : Family) (v : List ℕ) where
+  prefix-ends : (at : ℕ) → PrefixEnds family v at (prefixEnd family v at)
+  unfolding prefixEnd PrefixEnds
+  prefix-ends at =
+      by-test (leb (length v) at) (λ t. rw t tt)
+      (λ t. by-test (ltb (family .width) (getD v at 0)) (λ u. rw (t, u) tt)
+      (λ u. by-test (ltb (length v - (at + 1)) ((getD v at 0 + 7) / 8)) (λ w. rw (t, u, w) tt)
+      (λ w. rw (t, u, w) (ltb-false (family .width) (getD v at 0) u, refl))))
+
+  module _ (at next : ℕ) (some : at < next) (inside : next ≤ length v) where
+    body-length : length (between v at next) ≡ next - at
+    body-length = let l = length-drop at v in length-take-le (next - at) (drop at v) (omega arith)
+
+    body-first : getD (between v at next) 0 0 ≡ getD v at 0
+    body-first = getD-take (next - at) (drop at v) 0 0 (omega arith) ∙ getD-drop at v 0 0 ∙ ap (λ n. getD v n 0) (add-zero at)
+
+    prefix-body : (kind : ℕ) → isPrefix kind ≡ true → bodyEnd family kind v at ≡ At next → PrefixBody family (between v at next)
+    unfolding bodyEnd PrefixEnds
+    prefix-body kind t e =
+        let ends = subst (PrefixEnds family v at) (rw t at e) (prefix-ends at) in
+        let size = ends .1 in
+        record { within = rw body-first (ends .0); whole = rw (body-first, body-length) (omega arith) }
+
+  -- each component of a value is sound
+  pub each-sound : Each (SoundPart family) (components family v)
+  each-sound =
+      each-found family v (SoundPart family)
+      (λ at previous kind next f.
+      let rises = f .rises in
+      let within = f .within in
+      record { given = omega arith; had = f .had; prefix = λ t. prefix-body (at + 1) next (within .0) (within .1) kind t (f .ends) })
+
+  -- each body of a value of octets is one of octets
+  pub each-octets : Octets v → Each (λ p. Octets (p .body)) (components family v)
+  each-octets o =
+      each-found family v (λ p. Octets (p .body))
+      (λ at previous kind next f i.
+      elim (decLt i (next - (at + 1))) [
+        | yes h ↦ rw (getD-take (next - (at + 1)) (drop (at + 1) v) i 0 h, getD-drop (at + 1) v i 0) (o (at + 1 + i))
+        | no h ↦
+            let within = f .within in
+            let l = body-length (at + 1) next (within .0) (within .1) in
+            rw (List·getD-eq-default (between v (at + 1) next) 0 {n = i} (omega arith)) (omega arith)
+      ])

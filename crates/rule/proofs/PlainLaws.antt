@@ -1,0 +1,97 @@
+-- The plain spelling, octet by octet. What clearing keeps of an octet is computed at all 256. Assumes nothing.
+use mathlib.Core.Path.{_≡_, refl, sym, ap, ap₂, subst, _∙_}
+use mathlib.Core.Bool.{Bool, true, false, cond}
+use mathlib.Core.List.{List, [], _∷_, _++_}
+use Prim.Native.Nat.{ℕ, zero, suc, _+_, _-_, _*_, _/_, _%_, _^_, _<_, _≤_}
+use native.Mathlib.Omega.{arith}
+use native.Mathlib.Nat.{mod-eq-of-lt}
+use native.Mathlib.Numerals.{add-one}
+use lib.Bits.{bitAnd}
+use lib.Dec.{leb, ltb, eqb}
+use lib.ListN.{length, getD, take, drop, set}
+use lib.Pow.{split}
+use lib.Seq.{drop-cons, take-suc-set, drop-set-lt}
+use borrow.Author.Tests.{eq-eqb, ne-eqb, le-leb, lt-leb}
+use Rattle.octets.proofs.Cases.{by-test}
+use Rattle.octets.proofs.Facts.{Octets, octet, below}
+use Rattle.rule.specs.declared.Expected.{Expected}
+use Rattle.rule.specs.declared.Expected.the-variants.{Kind, Length, Address, Operator, Operand}
+use Rattle.rule.specs.Operator.{endsList, sizeOf, isPrefix, isBitmask}
+use Rattle.rule.specs.Plain.{bodyOf, operandAfter, after, plainOperator, plainOperand, plainAddress, cleared, plainFrom, plain}
+
+-- what the shifts of `plain_address` leave
+pub shifted : (x k : ℕ) → x < 256 → x / 2 ^ k * 2 ^ k % 2 ^ 32 ≡ x / 2 ^ k * 2 ^ k
+shifted x k h = mod-eq-of-lt (omega (arith, split x k))
+
+pub shifted-small : (x k : ℕ) → x < 256 → x / 2 ^ k * 2 ^ k % 2 ^ 32 < 256
+shifted-small x k h = rw (shifted x k h) (omega (arith, split x k))
+
+pub whole-octet : (left x : ℕ) → 8 ≤ left → x ≡ plainAddress left x
+unfolding plainAddress
+whole-octet left x h = let z : 8 - left ≡ 0 = omega arith in rw z (omega arith)
+
+-- the length never changes
+pub length-plain-from : (e : Expected) (v : List ℕ) → length (plainFrom e v) ≡ length v
+unfolding plainFrom
+length-plain-from e [] = refl
+length-plain-from e (x ∷ xs) = ap suc (length-plain-from (after e x) xs)
+
+pub length-plain : (v : List ℕ) → length (plain v) ≡ length v
+unfolding plain
+length-plain v = length-plain-from Kind v
+
+-- how `expected_after` comes to each of its answers
+module _ (e : Expected) (x : ℕ) where
+  pub after-kind : (r : Expected) → e ≡ Kind → r ≡ bodyOf x → r ≡ after e x
+  unfolding after
+  after-kind r h k = rw h k
+
+  pub after-length-zero : e ≡ Length → x ≡ 0 → Kind ≡ after e x
+  unfolding after
+  after-length-zero h z = rw (h, eq-eqb x 0 z)
+
+  pub after-length : e ≡ Length → (x ≡ 0 → ⊥) → Address x ≡ after e x
+  unfolding after
+  after-length h z = rw (h, ne-eqb x 0 z)
+
+  pub after-address-last : (left : ℕ) → e ≡ Address left → left ≤ 8 → Kind ≡ after e x
+  unfolding after
+  after-address-last left h k = rw (h, le-leb left 8 k)
+
+  pub after-address : (left : ℕ) → e ≡ Address left → 8 < left → Address (left - 8) ≡ after e x
+  unfolding after
+  after-address left h k = rw (h, lt-leb left 8 k)
+
+  pub after-operator : (kind size : ℕ) (first ends : Bool) → e ≡ Operator kind first → size ≡ sizeOf x → ends ≡ endsList x
+      → Operand kind size ends ≡ after e x
+  unfolding after
+  after-operator kind size first ends h s t = rw (h, s, t)
+
+  pub after-operand : (kind left : ℕ) (last : Bool) (r : Expected) → e ≡ Operand kind left last → r ≡ operandAfter kind left last → r ≡ after e x
+  unfolding after
+  after-operand kind left last r h k = rw h k
+
+  -- how `cleared_octet` comes to each of its answers
+  pub cleared-kind : e ≡ Kind → x ≡ cleared e x
+  unfolding cleared
+  cleared-kind h = rw h
+
+  pub cleared-length : e ≡ Length → x ≡ cleared e x
+  unfolding cleared
+  cleared-length h = rw h
+
+  pub cleared-address : (left r : ℕ) → e ≡ Address left → r ≡ plainAddress left x → r ≡ cleared e x
+  unfolding cleared
+  cleared-address left r h k = rw h k
+
+  pub cleared-first : (kind r : ℕ) (first : Bool) → e ≡ Operator kind first → first ≡ true → r ≡ plainOperator kind x → bitAnd r 0xbf ≡ cleared e x
+  unfolding cleared
+  cleared-first kind r first h f k = rw (h, f, k)
+
+  pub cleared-later : (kind r : ℕ) (first : Bool) → e ≡ Operator kind first → first ≡ false → r ≡ plainOperator kind x → r ≡ cleared e x
+  unfolding cleared
+  cleared-later kind r first h f k = rw (h, f) k
+
+  pub cleared-operand : (kind left r : ℕ) (last : Bool) → e ≡ Operand kind left last → r ≡ plainOperand kind x → r ≡ cleared e x
+  unfolding cleared
+  cleared-operand kind left r last h k = rw h k

@@ -1,0 +1,118 @@
+-- Reading one rule: one law for each way in which the code comes to an answer. Assumes nothing.
+use mathlib.Core.Path.{_≡_, refl, sym, subst, _∙_}
+use mathlib.Core.Bool.{Bool, true, false, cond}
+use mathlib.Core.List.{List}
+use Prim.Native.Nat.{ℕ, _+_, _-_, _*_, _<_, _≤_}
+use native.Mathlib.Omega.{arith}
+use native.Mathlib.Nat.{add-sub-cancel-left}
+use lib.Bits.{bitAnd, and-le-r}
+use lib.Dec.{ltb, eqb}
+use lib.ListN.{length, getD, take, drop}
+use borrow.Author.Tests.{lt-ltb, le-ltb, ltb-false, eq-eqb, ne-eqb}
+use Rattle.octets.proofs.Cases.{by-test}
+use Rattle.rule.specs.declared.Family.{Family}
+use Rattle.rule.specs.declared.Checked.{Checked}
+use Rattle.rule.specs.declared.Checked.the-variants.{Accepted, Refused as RefusedValue}
+use Rattle.rule.specs.declared.Reading.{Reading}
+use Rattle.rule.specs.declared.Reading.the-variants.{Rule, Refused}
+use Rattle.rule.specs.Value.{checkValue}
+use Rattle.rule.specs.Reading.{fieldSize, fieldLength, readAs, firstRule, alone, oneRule}
+
+-- the length field in both forms
+module _ (s : List ℕ) (first : ℕ) (is : first ≡ getD s 0 0) where
+  pub short-size : first < 0xf0 → 1 ≡ fieldSize s
+  unfolding fieldSize
+  short-size h = rw (← is, lt-ltb _ _ h)
+
+  pub long-size : 0xf0 ≤ first → 2 ≡ fieldSize s
+  unfolding fieldSize
+  long-size h = rw (← is, le-ltb _ _ h)
+
+  pub short-length : first < 0xf0 → first ≡ fieldLength s
+  unfolding fieldLength
+  short-length h = rw (← is, lt-ltb _ _ h)
+
+  pub long-length : (second : ℕ) → 0xf0 ≤ first → second ≡ getD s 1 0 → bitAnd first 0x0f * 256 + second ≡ fieldLength s
+  unfolding fieldLength
+  long-length second h e = rw (← is, le-ltb _ _ h, e)
+
+pub high-small : (x : ℕ) → bitAnd x 0x0f ≤ 15
+high-small x = and-le-r x 15
+
+module _ (family : Family) (s : List ℕ) (start size : ℕ) (is : start ≡ fieldSize s) (tells : size ≡ fieldLength s) where
+  pub read-no-field : length s < start → Refused 1 0 ≡ firstRule family s
+  unfolding firstRule
+  read-no-field h = rw (← is, lt-ltb _ _ h)
+
+  pub read-short : start ≤ length s → length s - start < size → Refused 1 0 ≡ firstRule family s
+  unfolding firstRule
+  read-short h k = rw (← is, ← tells, le-ltb _ _ h, lt-ltb _ _ k)
+
+  module _ (checked : Checked) (says : checked ≡ checkValue family (take (start + size - start) (drop start s))) (field : start ≤ length s)
+      (value : size ≤ length s - start) where
+    pub read-accepted : checked ≡ Accepted → Rule start size ≡ firstRule family s
+    unfolding firstRule
+    read-accepted e = let c = sym says ∙ e in rw (← is, ← tells, le-ltb _ _ field, le-ltb _ _ value, rw (add-sub-cancel-left start size) at c)
+
+    pub read-refused : (number place : ℕ) → checked ≡ RefusedValue number place → Refused number place ≡ firstRule family s
+    unfolding firstRule
+    read-refused number place e =
+        let c = sym says ∙ e in
+        rw (← is, ← tells, le-ltb _ _ field, le-ltb _ _ value, rw (add-sub-cancel-left start size) at c)
+
+-- a rule that was read: where its value stands, that it lies in the octets, and that it is accepted
+pub record ReadRule (family : Family) (s : List ℕ) (start size : ℕ) : Type 0 where
+  pub field : start ≡ fieldSize s
+  pub tells : size ≡ fieldLength s
+  pub inside : start + size ≤ length s
+  pub accepted : checkValue family (take size (drop start s)) ≡ Accepted
+
+abbrev pub SaysRule : Family → List ℕ → Reading → Type 0
+SaysRule family s (Rule start size) = ReadRule family s start size
+SaysRule family s (Refused number place) = Unit {0}
+
+module _ (family : Family) (s : List ℕ) where
+  pub reading-says : SaysRule family s (firstRule family s)
+  unfolding firstRule
+  reading-says =
+      by-test (ltb (length s) (fieldSize s)) (λ t. rw t tt)
+      (λ t. by-test (ltb (length s - fieldSize s) (fieldLength s)) (λ u. rw (t, u) tt)
+      (λ u. rw (t, u) (go t u (checkValue family (take (fieldLength s) (drop (fieldSize s) s))) refl)))
+    where
+      go : ltb (length s) (fieldSize s) ≡ false → ltb (length s - fieldSize s) (fieldLength s) ≡ false → (c : Checked)
+          → checkValue family (take (fieldLength s) (drop (fieldSize s) s)) ≡ c → SaysRule family s (readAs (fieldSize s) (fieldLength s) c)
+      go t u Accepted e =
+          let h = ltb-false (length s) (fieldSize s) t in
+          let k = ltb-false (length s - fieldSize s) (fieldLength s) u in
+          record { field = refl; tells = refl; inside = omega arith; accepted = e }
+      go t u (RefusedValue number place) e = tt
+
+  pub rule-read : (start size : ℕ) → firstRule family s ≡ Rule start size → ReadRule family s start size
+  rule-read start size e = subst (SaysRule family s) e reading-says
+
+  module _ (reading : Reading) (is : reading ≡ firstRule family s) where
+    pub alone-whole : (start size : ℕ) → reading ≡ Rule start size → start + size ≡ length s → Rule start size ≡ oneRule family s
+    unfolding oneRule
+    alone-whole start size e h = rw (← is, e, eq-eqb _ _ h)
+
+    pub alone-more : (start size : ℕ) → reading ≡ Rule start size → (start + size ≡ length s → ⊥) → Refused 15 0 ≡ oneRule family s
+    unfolding oneRule
+    alone-more start size e h = rw (← is, e, ne-eqb _ _ h)
+
+    pub alone-refused : (number place : ℕ) → reading ≡ Refused number place → Refused number place ≡ oneRule family s
+    unfolding oneRule
+    alone-refused number place e = rw (← is, e)
+
+  -- the one rule that octets are is the rule they begin with
+  SaysOne : Reading → Type 0
+  SaysOne (Rule start size) = ReadRule family s start size
+  SaysOne (Refused number place) = Unit {0}
+
+  pub one-read : (start size : ℕ) → oneRule family s ≡ Rule start size → ReadRule family s start size
+  unfolding oneRule SaysOne
+  one-read start size e = subst SaysOne e (go (firstRule family s) refl)
+    where
+      go : (r : Reading) → firstRule family s ≡ r → SaysOne (alone (length s) r)
+      go (Rule begin extent) f =
+          by-test (eqb (begin + extent) (length s)) (λ t. rw t (rule-read begin extent f)) (λ t. rw t tt)
+      go (Refused number place) f = tt

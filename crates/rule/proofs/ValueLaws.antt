@@ -1,0 +1,189 @@
+-- The components of a value, from a place on: what the cursor found there, one more and the rest, the end, or a refusal. Assumes nothing.
+use mathlib.Core.Path.{_≡_, refl, sym, ap, subst, _∙_}
+use mathlib.Core.Bool.{false}
+use mathlib.Core.List.{List, [], _∷_}
+use Prim.Native.Nat.{ℕ, _+_, _-_, _<_, _≤_}
+use native.Mathlib.Omega.{arith}
+use lib.Dec.{leb, ltb, eqb}
+use lib.ListN.{length, getD}
+use borrow.Author.Tests.{leb-false, leb-true, ltb-false, eqb-false, lt-ltb, le-ltb, eq-eqb, ne-eqb}
+use Rattle.octets.specs.Walk.{Step, more, last, stop, Walk, before}
+use Rattle.octets.proofs.Cases.{by-test, apart}
+use Rattle.octets.proofs.WalkLaws.{walk-stop, walk-more, walk-ind}
+use Rattle.rule.specs.declared.Family.{Family}
+use Rattle.rule.specs.declared.BodyEnd.{BodyEnd}
+use Rattle.rule.specs.declared.BodyEnd.the-variants.{At, Refused as RefusedBody}
+use Rattle.rule.specs.declared.Next.{Next}
+use Rattle.rule.specs.declared.Next.the-variants.{Nothing, Component, Refused as RefusedNext}
+use Rattle.rule.specs.declared.Checked.{Checked}
+use Rattle.rule.specs.declared.Checked.the-variants.{Accepted, Refused}
+use Rattle.rule.specs.Component.{bodyEnd, found, componentAt}
+use Rattle.rule.specs.Value.{Part, between, Progress, componentStep, componentsFrom, checkValue}
+use Rattle.rule.proofs.ComponentLaws.{Within, EndWithin, body-within}
+
+-- what the cursor found: a type octet of the family, above the one before, and a body behind it that ends in the value
+pub record Found (family : Family) (v : List ℕ) (at previous kind next : ℕ) : Type 0 where
+  pub inside : at < length v
+  pub is : kind ≡ getD v at 0
+  pub given : kind ≡ 0 → ⊥
+  pub had : kind ≤ family .highest
+  pub rises : previous < kind
+  pub ends : bodyEnd family kind v (at + 1) ≡ At next
+  pub within : Within v (at + 1) next
+
+abbrev pub Says : Family → List ℕ → ℕ → ℕ → Next → Type 0
+Says family v at previous Nothing = length v ≤ at
+Says family v at previous (Component kind next) = Found family v at previous kind next
+Says family v at previous (RefusedNext number place) = Unit {0}
+
+module _ (family : Family) (v : List ℕ) where
+  pub cursor-says : (at previous : ℕ) → Says family v at previous (componentAt family v at previous)
+  unfolding componentAt
+  cursor-says at previous =
+      let kind = getD v at 0 in
+      by-test (leb (length v) at) (λ t. rw t (leb-true _ _ t))
+      (λ t. by-test (eqb kind 0) (λ u. rw (t, u) tt)
+      (λ u. by-test (ltb (family .highest) kind) (λ w. rw (t, u, w) tt)
+      (λ w. by-test (leb kind previous) (λ x. rw (t, u, w, x) tt)
+      (λ x. rw (t, u, w, x) (go t u w x (bodyEnd family kind v (at + 1)) refl)))))
+    where
+      go : leb (length v) at ≡ false → eqb (getD v at 0) 0 ≡ false → ltb (family .highest) (getD v at 0) ≡ false → leb (getD v at 0) previous ≡ false
+          → (e : BodyEnd) → bodyEnd family (getD v at 0) v (at + 1) ≡ e → Says family v at previous (found (getD v at 0) e)
+      go t u w x (At next) e =
+          record {
+            inside = leb-false _ _ t;
+            is = refl;
+            given = eqb-false _ _ u;
+            had = ltb-false _ _ w;
+            rises = leb-false _ _ x;
+            ends = e;
+            within = subst (EndWithin v (at + 1)) e (body-within v family (getD v at 0) (at + 1));
+          }
+      go t u w x (RefusedBody number place) e = tt
+
+  pub was-found : (at previous kind next : ℕ) → componentAt family v at previous ≡ Component kind next → Found family v at previous kind next
+  was-found at previous kind next e = subst (Says family v at previous) e (cursor-says at previous)
+
+  pub none-left : (at previous : ℕ) → componentAt family v at previous ≡ Nothing → length v ≤ at
+  none-left at previous e = subst (Says family v at previous) e (cursor-says at previous)
+
+  falls : (p q : Progress) (a : Part) → componentStep v (p .at) (componentAt family v (p .at) (p .previous)) ≡ more a q
+      → length v - q .at < length v - p .at
+  falls p q a = go (componentAt family v (p .at) (p .previous)) refl
+    where
+      go : (x : Next) → componentAt family v (p .at) (p .previous) ≡ x → componentStep v (p .at) x ≡ more a q → length v - q .at < length v - p .at
+      go Nothing e s = apart (cc)
+      go (Component kind next) e s =
+          let f = was-found (p .at) (p .previous) kind next e in
+          let n : next ≡ q .at = ap (λ (r : Progress). r .at) (same-state s) in
+          let w = f .within in
+          omega arith
+        where
+          same-state : {a b : Part} {r q : Progress} → _≡_ {A = Step Progress Part Checked} (more a r) (more b q) → r ≡ q
+          same-state e = cc
+      go (RefusedNext number place) e s = apart (cc)
+
+  -- the components from a place on: one more and the rest, none, or a refusal
+  pub components-more : (at previous kind next : ℕ) → componentAt family v at previous ≡ Component kind next
+      → componentsFrom family v (record { at = at; previous = previous })
+      ≡ before (record { kind = kind; body = between v (at + 1) next }) (componentsFrom family v (record { at = next; previous = kind }))
+  unfolding componentsFrom
+  components-more at previous kind next e =
+      walk-more (Refused 6 (length v)) (λ (q : Progress). componentStep v (q .at) (componentAt family v (q .at) (q .previous))) (λ q. length v - q .at) falls
+      (length v + 1) (record { at = at; previous = previous }) (record { at = next; previous = kind }) (record { kind = kind; body = between v (at + 1) next })
+      (omega arith) (ap (componentStep v at) e)
+
+  pub components-none : (at previous : ℕ) → componentAt family v at previous ≡ Nothing
+      → componentsFrom family v (record { at = at; previous = previous }) ≡ record { items = []; ending = Accepted }
+  unfolding componentsFrom
+  components-none at previous e =
+      walk-stop (Refused 6 (length v)) (λ (q : Progress). componentStep v (q .at) (componentAt family v (q .at) (q .previous))) (length v + 1)
+      (record { at = at; previous = previous }) Accepted (omega arith) (ap (componentStep v at) e)
+
+  pub components-refused : (at previous number place : ℕ) → componentAt family v at previous ≡ RefusedNext number place
+      → componentsFrom family v (record { at = at; previous = previous }) ≡ record { items = []; ending = Refused number place }
+  unfolding componentsFrom
+  components-refused at previous number place e =
+      walk-stop (Refused 6 (length v)) (λ (q : Progress). componentStep v (q .at) (componentAt family v (q .at) (q .previous))) (length v + 1)
+      (record { at = at; previous = previous }) (Refused number place) (omega arith) (ap (componentStep v at) e)
+
+  -- what holds at the end and at a refusal, and before a component where it holds behind it, holds of every walk over the value
+  pub components-ind : (P : ℕ → ℕ → Walk Part Checked → Type 0)
+      → ((at previous : ℕ) → componentAt family v at previous ≡ Nothing → P at previous (record { items = []; ending = Accepted }))
+      → ((at previous number place : ℕ) → componentAt family v at previous ≡ RefusedNext number place → P at previous (record { items = []; ending = Refused number place }))
+      → ((at previous kind next : ℕ) (w : Walk Part Checked) → componentAt family v at previous ≡ Component kind next → P next kind w
+      → P at previous (before (record { kind = kind; body = between v (at + 1) next }) w))
+      → (at previous : ℕ) → P at previous (componentsFrom family v (record { at = at; previous = previous }))
+  unfolding componentsFrom
+  components-ind P none refused goes at previous =
+      walk-ind (Refused 6 (length v)) (λ (q : Progress). componentStep v (q .at) (componentAt family v (q .at) (q .previous))) (λ q. length v - q .at) falls
+      (λ p w. P (p .at) (p .previous) w)
+      (λ p e q. stops p e (componentAt family v (p .at) (p .previous)) refl q)
+      (λ p a e q. lasts p a e (componentAt family v (p .at) (p .previous)) q)
+      (λ p r a w q h. mores p r a w (componentAt family v (p .at) (p .previous)) refl q h)
+      (length v + 1) (record { at = at; previous = previous }) (omega arith)
+    where
+      stops : (p : Progress) (e : Checked) (x : Next) → componentAt family v (p .at) (p .previous) ≡ x → componentStep v (p .at) x ≡ stop e
+          → P (p .at) (p .previous) (record { items = []; ending = e })
+      stops p e Nothing f q = let s : Accepted ≡ e = cc in rw (← s) (none (p .at) (p .previous) f)
+      stops p e (Component kind next) f q = apart (cc)
+      stops p e (RefusedNext number place) f q = let s : Refused number place ≡ e = cc in rw (← s) (refused (p .at) (p .previous) number place f)
+
+      lasts : (p : Progress) (a : Part) (e : Checked) (x : Next) → componentStep v (p .at) x ≡ last a e → P (p .at) (p .previous) (record { items = a ∷ []; ending = e })
+      lasts p a e Nothing q = apart (cc)
+      lasts p a e (Component kind next) q = apart (cc)
+      lasts p a e (RefusedNext number place) q = apart (cc)
+
+      mores : (p r : Progress) (a : Part) (w : Walk Part Checked) (x : Next) → componentAt family v (p .at) (p .previous) ≡ x → componentStep v (p .at) x ≡ more a r
+          → P (r .at) (r .previous) w → P (p .at) (p .previous) (before a w)
+      mores p r a w Nothing f q h = apart (cc)
+      mores p r a w (Component kind next) f q h =
+          let s : record { at = next; previous = kind } ≡ r = cc in
+          let u : record { kind = kind; body = between v (p .at + 1) next } ≡ a = cc in
+          rw (← u) (goes (p .at) (p .previous) kind next w f (subst (λ (x : Progress). P (x .at) (x .previous) w) (sym s) h))
+      mores p r a w (RefusedNext number place) f q h = apart (cc)
+
+-- how `check_value` goes on and comes to each of its answers
+abbrev how : Walk Part Checked → Checked
+how w = w .ending
+
+abbrev pub accepts : Family → List ℕ → ℕ → ℕ → Checked
+accepts family v at previous = componentsFrom family v (record { at = at; previous = previous }) .ending
+
+module _ (family : Family) (v : List ℕ) (at previous : ℕ) (next : Next) (is : next ≡ componentAt family v at previous)
+    (so-far : checkValue family v ≡ accepts family v at previous) where
+  pub check-on : (kind behind : ℕ) → next ≡ Component kind behind → checkValue family v ≡ accepts family v behind kind
+  check-on kind behind e = so-far ∙ ap how (components-more family v at previous kind behind (sym is ∙ e))
+
+  pub check-accepted : next ≡ Nothing → Accepted ≡ checkValue family v
+  check-accepted e = sym (so-far ∙ ap how (components-none family v at previous (sym is ∙ e)))
+
+  pub check-refused : (number place : ℕ) → next ≡ RefusedNext number place → Refused number place ≡ checkValue family v
+  check-refused number place e = sym (so-far ∙ ap how (components-refused family v at previous number place (sym is ∙ e)))
+
+-- the checks before the walk
+module _ (family : Family) (v : List ℕ) where
+  pub check-long : 4095 < length v → Refused 1 0 ≡ checkValue family v
+  unfolding checkValue
+  check-long h = rw (lt-ltb _ _ h)
+
+  pub check-empty : length v ≤ 4095 → length v ≡ 0 → Refused 2 0 ≡ checkValue family v
+  unfolding checkValue
+  check-empty h e = rw (le-ltb _ _ h, eq-eqb _ _ e)
+
+  pub check-walk : length v ≤ 4095 → (length v ≡ 0 → ⊥) → checkValue family v ≡ accepts family v 0 0
+  unfolding checkValue
+  check-walk h e = rw (le-ltb _ _ h, ne-eqb _ _ e)
+
+-- an accepted value has 1 to 4,095 octets, and its walk is accepted
+module _ (family : Family) (v : List ℕ) (ok : checkValue family v ≡ Accepted) where
+  pub accepted-small : length v ≤ 4095
+  unfolding checkValue
+  accepted-small = by-test (ltb 4095 (length v)) (λ t. let z : Accepted ≡ Refused 1 0 = sym ok ∙ rw t in apart (cc)) (λ t. ltb-false _ _ t)
+
+  pub accepted-some : length v ≡ 0 → ⊥
+  unfolding checkValue
+  accepted-some e = let z : Accepted ≡ Refused 2 0 = sym ok ∙ rw (le-ltb _ _ accepted-small, eq-eqb _ _ e) in apart (cc)
+
+  pub accepted-walk : accepts family v 0 0 ≡ Accepted
+  accepted-walk = sym (check-walk family v accepted-small accepted-some) ∙ ok

@@ -1,0 +1,29 @@
+use mathlib.Core.Path.{sym, _∙_}
+use Rattle.rule.proofs.ComponentLaws.{body-prefix, body-list}
+use borrow.Author.Needs.{needs}
+use Rattle.rule.proofs.body_end.Statement.{statement}
+use Rattle.rule.proofs.body_end.Tie as tie
+use Rattle.rule.proofs.body_end.Reads as reads
+use Rattle.rule.proofs.body_end.Lts as lts
+use Rattle.rule.proofs.is_prefix.Reads as is-prefix-reads
+use Rattle.rule.proofs.list_end.Reads as list-end-reads
+use Rattle.rule.proofs.prefix_end.Reads as prefix-end-reads
+
+is-prefix-requires : tie.Need-is-prefix-requires
+is-prefix-requires c κs = search needs
+
+prefix-end-requires : tie.Need-prefix-end-requires
+prefix-end-requires c κs = search needs
+
+returns : tie.Need-returns
+returns c = search (body-prefix, needs)
+
+list-end-requires : tie.Need-list-end-requires
+list-end-requires c κs = search needs
+
+returns-2 : tie.Need-returns-2
+returns-2 c = search (body-list, needs)
+
+pub body-end-spec : {M : Type 1} → statement M
+body-end-spec =
+    tie.close (tie.spec is-prefix-requires prefix-end-requires returns list-end-requires returns-2)

@@ -1,0 +1,24 @@
+-- A prefix begins with its length, a list with its first operator.
+use mathlib.Core.Path.{sym, _∙_}
+use borrow.Author.Tests.{not-false}
+use Rattle.rule.specs.Plain.{bodyOf}
+use borrow.Author.Needs.{needs}
+use Rattle.rule.proofs.body_of.Statement.{statement}
+use Rattle.rule.proofs.body_of.Tie as tie
+use Rattle.rule.proofs.body_of.Reads as reads
+use Rattle.rule.proofs.body_of.Lts as lts
+use Rattle.rule.proofs.is_prefix.Reads as is-prefix-reads
+
+is-prefix-requires : tie.Need-is-prefix-requires
+is-prefix-requires c κs = search needs
+
+returns : tie.Need-returns
+unfolding bodyOf
+returns c = rw (← c .before .is-prefix .ensures, c .if1 .taken)
+
+returns-2 : tie.Need-returns-2
+unfolding bodyOf
+returns-2 c = rw (← c .before .is-prefix .ensures, c .if1 .left)
+
+pub body-of-spec : {M : Type 1} → statement M
+body-of-spec = tie.close (tie.spec is-prefix-requires returns returns-2)

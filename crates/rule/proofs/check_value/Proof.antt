@@ -1,0 +1,71 @@
+use borrow.Author.Needs.{needs}
+use Prim.Native.Nat.{_-_}
+use mathlib.Core.Path.{_≡_, sym, _∙_}
+use native.Mathlib.Omega.{arith}
+use lib.ListN.{length}
+use Rattle.rule.specs.Value.{checkValue}
+use Rattle.rule.proofs.ValueLaws.{Found, was-found, accepts, check-on, check-accepted, check-refused, check-long, check-empty, check-walk}
+use Rattle.rule.proofs.check_value.Statement.{statement}
+use Rattle.rule.proofs.check_value.Tie as tie
+use Rattle.rule.proofs.check_value.Reads as reads
+use Rattle.rule.proofs.check_value.Lts as lts
+use Rattle.rule.proofs.component_at.Reads as component-at-reads
+
+abbrev Inv-loop : tie.InvT-loop
+Inv-loop family value at₀ previous₀ at previous = checkValue family value ≡ accepts family value at previous
+
+abbrev μ-loop : tie.MeasureT-loop
+μ-loop family value at₀ previous₀ at previous = length value - at
+
+returns : tie.Need-returns Inv-loop μ-loop
+returns c = search (check-long, needs)
+
+returns-2 : tie.Need-returns-2 Inv-loop μ-loop
+returns-2 c = search (check-empty, needs)
+
+loop-holds : tie.Need-loop-holds Inv-loop μ-loop
+loop-holds c = search (check-walk, needs)
+
+component-at-requires : tie.Need-component-at-requires Inv-loop μ-loop
+component-at-requires c κs = search needs
+
+enum-told : tie.Need-enum-told Inv-loop μ-loop
+enum-told c = search needs
+
+returns-3 : tie.Need-returns-3 Inv-loop μ-loop
+returns-3 c = search (check-accepted, needs)
+
+enum-known-next : tie.Need-enum-known-next Inv-loop μ-loop
+enum-known-next c = search needs
+
+loop-less : tie.Need-loop-less Inv-loop μ-loop
+loop-less c = let l = c .before .before .before .before .loop in
+    let f = was-found _ _ (l .at) (l .previous) _ _ (sym (c .before .before .before .component-at .ensures) ∙ c .before .next .given .1) in
+    omega (arith, f .within)
+
+loop-again : tie.Need-loop-again Inv-loop μ-loop
+loop-again c = search (check-on, needs)
+
+enum-known-next-2 : tie.Need-enum-known-next-2 Inv-loop μ-loop
+enum-known-next-2 c = search needs
+
+returns-4 : tie.Need-returns-4 Inv-loop μ-loop
+returns-4 c = search (check-refused, needs)
+
+pub check-value-spec : {M : Type 1} → statement M
+check-value-spec =
+    tie.close
+    (tie.spec
+    Inv-loop
+    μ-loop
+    returns
+    returns-2
+    loop-holds
+    component-at-requires
+    enum-told
+    returns-3
+    enum-known-next
+    loop-less
+    loop-again
+    enum-known-next-2
+    returns-4)

@@ -1,0 +1,71 @@
+-- One law for each return.
+use Rattle.rule.proofs.PlainLaws.{cleared-kind, cleared-length, cleared-address, cleared-first, cleared-later, cleared-operand}
+use borrow.Author.Needs.{needs}
+use Rattle.rule.proofs.cleared_octet.Statement.{statement}
+use Rattle.rule.proofs.cleared_octet.Tie as tie
+use Rattle.rule.proofs.cleared_octet.Reads as reads
+use Rattle.rule.proofs.cleared_octet.Lts as lts
+use Rattle.rule.proofs.plain_address.Reads as plain-address-reads
+use Rattle.rule.proofs.plain_operand.Reads as plain-operand-reads
+use Rattle.rule.proofs.plain_operator.Reads as plain-operator-reads
+
+enum-told : tie.Need-enum-told
+enum-told c = search needs
+
+enum-told-2 : tie.Need-enum-told-2
+enum-told-2 c = search needs
+
+enum-known-expected : tie.Need-enum-known-expected
+enum-known-expected c = search needs
+
+plain-address-requires : tie.Need-plain-address-requires
+plain-address-requires c κs = search needs
+
+enum-known-expected-2 : tie.Need-enum-known-expected-2
+enum-known-expected-2 c = search needs
+
+plain-operator-requires : tie.Need-plain-operator-requires
+plain-operator-requires c κs = search needs
+
+returns : tie.Need-returns
+returns c = search (cleared-first, needs)
+
+enum-known-expected-3 : tie.Need-enum-known-expected-3
+enum-known-expected-3 c = search needs
+
+plain-operand-requires : tie.Need-plain-operand-requires
+plain-operand-requires c κs = search needs
+
+returns-2 : tie.Need-returns-2
+returns-2 c = search (cleared-kind, needs)
+
+returns-3 : tie.Need-returns-3
+returns-3 c = search (cleared-length, needs)
+
+returns-4 : tie.Need-returns-4
+returns-4 c = search (cleared-address, needs)
+
+returns-5 : tie.Need-returns-5
+returns-5 c = search (cleared-later, needs)
+
+returns-6 : tie.Need-returns-6
+returns-6 c = search (cleared-operand, needs)
+
+pub cleared-octet-spec : {M : Type 1} → statement M
+cleared-octet-spec =
+    tie.close
+    (tie.spec
+    enum-told
+    enum-told-2
+    enum-known-expected
+    plain-address-requires
+    enum-known-expected-2
+    plain-operator-requires
+    returns
+    enum-known-expected-3
+    plain-operand-requires
+    returns-2
+    returns-3
+    returns-4
+    returns-5
+    returns-6)

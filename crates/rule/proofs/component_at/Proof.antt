@@ -1,0 +1,57 @@
+-- One law for each return.
+use Rattle.rule.proofs.ComponentLaws.{component-none, component-zero, component-above, component-order, component-whole, component-refused}
+use borrow.Author.Needs.{needs}
+use Rattle.rule.proofs.component_at.Statement.{statement}
+use Rattle.rule.proofs.component_at.Tie as tie
+use Rattle.rule.proofs.component_at.Reads as reads
+use Rattle.rule.proofs.component_at.Lts as lts
+use Rattle.rule.proofs.body_end.Reads as body-end-reads
+
+returns : tie.Need-returns
+returns c = search (component-none, needs)
+
+shared-slice-read-kind : tie.Need-shared-slice-read-kind
+shared-slice-read-kind c = search needs
+
+returns-2 : tie.Need-returns-2
+returns-2 c = search (component-zero, needs)
+
+returns-3 : tie.Need-returns-3
+returns-3 c = search (component-above, needs)
+
+returns-4 : tie.Need-returns-4
+returns-4 c = search (component-order, needs)
+
+add-body-end : tie.Need-add-body-end
+add-body-end c = search needs
+
+body-end-requires : tie.Need-body-end-requires
+body-end-requires c κs = search needs
+
+enum-known-next : tie.Need-enum-known-next
+enum-known-next c = search needs
+
+enum-known-number : tie.Need-enum-known-number
+enum-known-number c = search needs
+
+returns-5 : tie.Need-returns-5
+returns-5 c = search (component-whole, needs)
+
+returns-6 : tie.Need-returns-6
+returns-6 c = search (component-refused, needs)
+
+pub component-at-spec : {M : Type 1} → statement M
+component-at-spec =
+    tie.close
+    (tie.spec
+    returns
+    shared-slice-read-kind
+    returns-2
+    returns-3
+    returns-4
+    add-body-end
+    body-end-requires
+    enum-known-next
+    enum-known-number
+    returns-5
+    returns-6)

@@ -1,0 +1,15 @@
+-- The code's test is the definition's.
+use mathlib.Core.Path.{refl}
+use Rattle.rule.specs.Operator.{endsList}
+use borrow.Author.Needs.{needs}
+use Rattle.rule.proofs.ends_list.Statement.{statement}
+use Rattle.rule.proofs.ends_list.Tie as tie
+use Rattle.rule.proofs.ends_list.Reads as reads
+use Rattle.rule.proofs.ends_list.Lts as lts
+
+returns : tie.Need-returns
+unfolding endsList
+returns c = refl
+
+pub ends-list-spec : {M : Type 1} → statement M
+ends-list-spec = tie.close (tie.spec returns)

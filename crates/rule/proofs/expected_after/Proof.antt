@@ -1,0 +1,84 @@
+-- One law for each return.
+use Rattle.rule.proofs.PlainLaws.{after-kind, after-length-zero, after-length, after-address-last, after-address, after-operator, after-operand}
+use borrow.Author.Needs.{needs}
+use Rattle.rule.proofs.expected_after.Statement.{statement}
+use Rattle.rule.proofs.expected_after.Tie as tie
+use Rattle.rule.proofs.expected_after.Reads as reads
+use Rattle.rule.proofs.expected_after.Lts as lts
+use Rattle.rule.proofs.body_of.Reads as body-of-reads
+use Rattle.rule.proofs.ends_list.Reads as ends-list-reads
+use Rattle.rule.proofs.operand_after.Reads as operand-after-reads
+use Rattle.rule.proofs.size_of.Reads as size-of-reads
+
+enum-told : tie.Need-enum-told
+enum-told c = search needs
+
+body-of-requires : tie.Need-body-of-requires
+body-of-requires c κs = search needs
+
+enum-told-2 : tie.Need-enum-told-2
+enum-told-2 c = search needs
+
+returns : tie.Need-returns
+returns c = search (after-length-zero, needs)
+
+enum-known-expected : tie.Need-enum-known-expected
+enum-known-expected c = search needs
+
+returns-2 : tie.Need-returns-2
+returns-2 c = search (after-address-last, needs)
+
+sub-t13 : tie.Need-sub-t13
+sub-t13 c = search needs
+
+enum-known-expected-2 : tie.Need-enum-known-expected-2
+enum-known-expected-2 c = search needs
+
+size-of-requires : tie.Need-size-of-requires
+size-of-requires c κs = search needs
+
+ends-list-requires : tie.Need-ends-list-requires
+ends-list-requires c κs = search needs
+
+enum-known-expected-3 : tie.Need-enum-known-expected-3
+enum-known-expected-3 c = search needs
+
+operand-after-requires : tie.Need-operand-after-requires
+operand-after-requires c κs = search needs
+
+returns-3 : tie.Need-returns-3
+returns-3 c = search (after-kind, needs)
+
+returns-4 : tie.Need-returns-4
+returns-4 c = search (after-length, needs)
+
+returns-5 : tie.Need-returns-5
+returns-5 c = search (after-address, needs)
+
+returns-6 : tie.Need-returns-6
+returns-6 c = search (after-operator, needs)
+
+returns-7 : tie.Need-returns-7
+returns-7 c = search (after-operand, needs)
+
+pub expected-after-spec : {M : Type 1} → statement M
+expected-after-spec =
+    tie.close
+    (tie.spec
+    enum-told
+    body-of-requires
+    enum-told-2
+    returns
+    enum-known-expected
+    returns-2
+    sub-t13
+    enum-known-expected-2
+    size-of-requires
+    ends-list-requires
+    enum-known-expected-3
+    operand-after-requires
+    returns-3
+    returns-4
+    returns-5
+    returns-6
+    returns-7)

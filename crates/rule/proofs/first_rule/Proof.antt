@@ -1,0 +1,70 @@
+use Rattle.rule.proofs.ReadingLaws.{read-no-field, read-short, read-accepted, read-refused}
+use borrow.Author.Needs.{needs}
+use Rattle.rule.proofs.first_rule.Statement.{statement}
+use Rattle.rule.proofs.first_rule.Tie as tie
+use Rattle.rule.proofs.first_rule.Reads as reads
+use Rattle.rule.proofs.first_rule.Lts as lts
+use Rattle.rule.proofs.check_value.Reads as check-value-reads
+use Rattle.rule.proofs.field_length.Reads as field-length-reads
+use Rattle.rule.proofs.field_size.Reads as field-size-reads
+
+field-size-requires : tie.Need-field-size-requires
+field-size-requires c κs = search needs
+
+field-length-requires : tie.Need-field-length-requires
+field-length-requires c κs = search needs
+
+returns : tie.Need-returns
+returns c = search (read-no-field, needs)
+
+sub-if2 : tie.Need-sub-if2
+sub-if2 c = search needs
+
+returns-2 : tie.Need-returns-2
+returns-2 c = search (read-short, needs)
+
+add-end : tie.Need-add-end
+add-end c = search needs
+
+sub-check-value : tie.Need-sub-check-value
+sub-check-value c = search needs
+
+part-check-value-start : tie.Need-part-check-value-start
+part-check-value-start c = search needs
+
+part-check-value-end : tie.Need-part-check-value-end
+part-check-value-end c = search needs
+
+check-value-requires : tie.Need-check-value-requires
+check-value-requires c κs = search needs
+
+enum-told : tie.Need-enum-told
+enum-told c = search needs
+
+enum-known-number : tie.Need-enum-known-number
+enum-known-number c = search needs
+
+returns-3 : tie.Need-returns-3
+returns-3 c = search (read-accepted, needs)
+
+returns-4 : tie.Need-returns-4
+returns-4 c = search (read-refused, needs)
+
+pub first-rule-spec : {M : Type 1} → statement M
+first-rule-spec =
+    tie.close
+    (tie.spec
+    field-size-requires
+    field-length-requires
+    returns
+    sub-if2
+    returns-2
+    add-end
+    sub-check-value
+    part-check-value-start
+    part-check-value-end
+    check-value-requires
+    enum-told
+    enum-known-number
+    returns-3
+    returns-4)

@@ -1,0 +1,61 @@
+use Rattle.rule.proofs.ComponentLaws.{list-on, list-last, list-refused, more-within}
+use borrow.Author.Needs.{needs}
+use Prim.Native.Nat.{_-_}
+use mathlib.Core.Path.{_≡_, refl, ap, sym, _∙_}
+use native.Mathlib.Omega.{arith}
+use lib.ListN.{length}
+use Rattle.rule.specs.Component.{pairsFrom}
+use Rattle.rule.proofs.list_end.Statement.{statement}
+use Rattle.rule.proofs.list_end.Tie as tie
+use Rattle.rule.proofs.list_end.Reads as reads
+use Rattle.rule.proofs.list_end.Lts as lts
+use Rattle.rule.proofs.pair_at.Reads as pair-at-reads
+
+abbrev Inv-loop : tie.InvT-loop
+Inv-loop kind value start at₀ at = pairsFrom kind value start .ending ≡ pairsFrom kind value at .ending
+
+abbrev μ-loop : tie.MeasureT-loop
+μ-loop kind value start at₀ at = length value - at
+
+loop-holds : tie.Need-loop-holds Inv-loop μ-loop
+loop-holds c = refl
+
+pair-at-requires : tie.Need-pair-at-requires Inv-loop μ-loop
+pair-at-requires c κs = search needs
+
+enum-known-pair : tie.Need-enum-known-pair Inv-loop μ-loop
+enum-known-pair c = search needs
+
+loop-less : tie.Need-loop-less Inv-loop μ-loop
+loop-less c = omega (arith, more-within _ _ (c .before .before .before .before .loop .at) _ (sym (c .before .before .before .pair-at .ensures) ∙ c .before .pair .given .1))
+
+loop-again : tie.Need-loop-again Inv-loop μ-loop
+loop-again c = search (list-on, needs)
+
+enum-known-pair-2 : tie.Need-enum-known-pair-2 Inv-loop μ-loop
+enum-known-pair-2 c = search needs
+
+returns : tie.Need-returns Inv-loop μ-loop
+returns c = search (list-last, needs)
+
+enum-known-pair-3 : tie.Need-enum-known-pair-3 Inv-loop μ-loop
+enum-known-pair-3 c = search needs
+
+returns-2 : tie.Need-returns-2 Inv-loop μ-loop
+returns-2 c = search (list-refused, needs)
+
+pub list-end-spec : {M : Type 1} → statement M
+list-end-spec =
+    tie.close
+    (tie.spec
+    Inv-loop
+    μ-loop
+    loop-holds
+    pair-at-requires
+    enum-known-pair
+    loop-less
+    loop-again
+    enum-known-pair-2
+    returns
+    enum-known-pair-3
+    returns-2)

@@ -1,0 +1,48 @@
+-- Shifted down and up again, an octet keeps its first bits.
+use mathlib.Core.Path.{_≡_, sym}
+use native.Mathlib.Omega.{arith}
+use Rattle.rule.specs.Plain.{plainAddress}
+use Rattle.rule.proofs.PlainLaws.{shifted, shifted-small, whole-octet}
+use borrow.Author.Needs.{needs}
+use Rattle.rule.proofs.plain_address.Statement.{statement}
+use Rattle.rule.proofs.plain_address.Tie as tie
+use Rattle.rule.proofs.plain_address.Reads as reads
+use Rattle.rule.proofs.plain_address.Lts as lts
+
+returns : tie.Need-returns
+returns c = search (whole-octet, needs)
+
+sub-ignored : tie.Need-sub-ignored
+sub-ignored c = search needs
+
+cast-kept : tie.Need-cast-kept
+cast-kept c = search needs
+
+shr-kept : tie.Need-shr-kept
+shr-kept c = search needs
+
+cast-result : tie.Need-cast-result
+cast-result c = search needs
+
+shl-result : tie.Need-shl-result
+shl-result c = search needs
+
+cast-result-2 : tie.Need-cast-result-2
+cast-result-2 c = record { fits = shifted-small _ _ (omega arith) }
+
+returns-2 : tie.Need-returns-2
+unfolding plainAddress
+returns-2 c = shifted _ _ (omega arith)
+
+pub plain-address-spec : {M : Type 1} → statement M
+plain-address-spec =
+    tie.close
+    (tie.spec
+    returns
+    sub-ignored
+    cast-kept
+    shr-kept
+    cast-result
+    shl-result
+    cast-result-2
+    returns-2)

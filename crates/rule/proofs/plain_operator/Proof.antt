@@ -1,0 +1,22 @@
+-- One mask for each kind of operator.
+use Rattle.rule.specs.Plain.{plainOperator}
+use borrow.Author.Needs.{needs}
+use Rattle.rule.proofs.plain_operator.Statement.{statement}
+use Rattle.rule.proofs.plain_operator.Tie as tie
+use Rattle.rule.proofs.plain_operator.Reads as reads
+use Rattle.rule.proofs.plain_operator.Lts as lts
+use Rattle.rule.proofs.is_bitmask.Reads as is-bitmask-reads
+
+is-bitmask-requires : tie.Need-is-bitmask-requires
+is-bitmask-requires c κs = search needs
+
+returns : tie.Need-returns
+unfolding plainOperator
+returns c = rw (← c .before .is-bitmask .ensures, c .if1 .taken)
+
+returns-2 : tie.Need-returns-2
+unfolding plainOperator
+returns-2 c = rw (← c .before .is-bitmask .ensures, c .if1 .left)
+
+pub plain-operator-spec : {M : Type 1} → statement M
+plain-operator-spec = tie.close (tie.spec is-bitmask-requires returns returns-2)

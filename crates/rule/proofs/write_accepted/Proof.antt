@@ -1,0 +1,72 @@
+use Rattle.rule.proofs.WritingLaws.{front-length, no-room, room-left, write-in-a-row}
+use mathlib.Core.Path.{refl, sym, _∙_}
+use native.Mathlib.Omega.{arith}
+use lib.ListN.{length}
+use borrow.Author.Needs.{needs}
+use Rattle.rule.proofs.write_accepted.Statement.{statement}
+use Rattle.rule.proofs.write_accepted.Tie as tie
+use Rattle.rule.proofs.write_accepted.Reads as reads
+use Rattle.rule.proofs.write_accepted.Lts as lts
+use Rattle.octets.proofs.store.Reads as store-reads
+use Rattle.rule.proofs.field_for.Reads as field-for-reads
+use Rattle.rule.proofs.fill_plain.Reads as fill-plain-reads
+use Rattle.rule.proofs.write_length.Reads as write-length-reads
+
+field-for-requires : tie.Need-field-for-requires
+field-for-requires c κs = search needs
+
+add-total : tie.Need-add-total
+add-total c = search needs
+
+returns : tie.Need-returns
+returns c = (no-room (c .before .before .before .before .args .value .now) (c .before .before .before .before .args .buffer .now) _ (c .before .field-for .ensures .0) (c .if1 .taken), refl)
+
+slice-aggregate-fill-plain : tie.Need-slice-aggregate-fill-plain
+slice-aggregate-fill-plain c = search needs
+
+fill-plain-requires : tie.Need-fill-plain-requires
+fill-plain-requires c κs = search needs
+
+write-length-requires : tie.Need-write-length-requires
+write-length-requires c κs = search needs
+
+array-share-prefix-work : tie.Need-array-share-prefix-work
+array-share-prefix-work c = search needs
+
+slice-aggregate-store : tie.Need-slice-aggregate-store
+slice-aggregate-store c = front-length _ _ _ (c .before .before .before .before .before .before .before .fill-plain .ensures)
+
+store-requires : tie.Need-store-requires
+store-requires c κs = let fill = c .before .before .before .before .before .before .before .fill-plain in
+    let field = c .before .before .before .before .before .before .before .before .before in
+    omega (arith, front-length _ _ _ (fill .ensures), c .before .before .before .before .write-length .kept, field)
+
+same-length : tie.Need-same-length
+same-length c = search needs
+
+returns-2 : tie.Need-returns-2
+returns-2 c = let stores = c .before .before .store in
+    let fills = c .before .before .before .before .before .before .before .before .before .before .fill-plain in
+    let writes = c .before .before .before .before .before .before .before .write-length in
+    let field = c .before .before .before .before .before .before .before .before .before .before .before .before .before .field-for in
+    let room = c .before .before .before .before .before .before .before .before .before .before .before .before .if1 .left in
+    let a = c .before .before .before .before .before .before .before .before .before .before .before .before .before .before .before .before .args in (
+      room-left (a .value .now) (a .buffer .now) _ (field .ensures .0) room,
+      write-in-a-row (a .value .now) (a .buffer .now) _ (field .ensures .0) room _ _ _ _ (fills .ensures) (writes .ensures) (stores .ensures),
+    )
+
+pub write-accepted-spec : {M : Type 1} → statement M
+write-accepted-spec =
+    tie.close
+    (tie.spec
+    field-for-requires
+    add-total
+    returns
+    slice-aggregate-fill-plain
+    fill-plain-requires
+    write-length-requires
+    array-share-prefix-work
+    slice-aggregate-store
+    store-requires
+    same-length
+    returns-2)

@@ -1,0 +1,57 @@
+use native.Mathlib.Omega.{arith}
+use lib.ListN.{length-set}
+use Rattle.rule.proofs.WritingLaws.{room-short, room-long, write-short, write-long}
+use borrow.Author.Needs.{needs}
+use Rattle.rule.proofs.write_length.Statement.{statement}
+use Rattle.rule.proofs.write_length.Tie as tie
+use Rattle.rule.proofs.write_length.Reads as reads
+use Rattle.rule.proofs.write_length.Lts as lts
+
+cast-buffer : tie.Need-cast-buffer
+cast-buffer c = search needs
+
+slice-write-buffer : tie.Need-slice-write-buffer
+slice-write-buffer c = room-short (c .before .args .buffer .now) _ (c .before .pre .1) (c .if1 .taken)
+
+same-length : tie.Need-same-length
+same-length c = search needs
+
+returns : tie.Need-returns
+returns c = write-short _ _ (c .before .pre .1) (c .if1 .taken)
+
+add-high : tie.Need-add-high
+add-high c = search needs
+
+cast-buffer-2 : tie.Need-cast-buffer-2
+cast-buffer-2 c = search needs
+
+slice-write-buffer-2 : tie.Need-slice-write-buffer-2
+slice-write-buffer-2 c = omega (arith, room-long (c .before .args .buffer .now) (c .before .args .size) (c .before .pre .1) (c .if1 .left))
+
+cast-buffer-3 : tie.Need-cast-buffer-3
+cast-buffer-3 c = search needs
+
+slice-write-buffer-3 : tie.Need-slice-write-buffer-3
+slice-write-buffer-3 c = simp length-set (room-long (c .before .args .buffer .now) (c .before .args .size) (c .before .pre .1) (c .if1 .left))
+
+same-length-2 : tie.Need-same-length-2
+same-length-2 c = simp length-set
+
+returns-2 : tie.Need-returns-2
+returns-2 c = write-long _ _ (c .before .pre .1) (c .if1 .left)
+
+pub write-length-spec : {M : Type 1} → statement M
+write-length-spec =
+    tie.close
+    (tie.spec
+    cast-buffer
+    slice-write-buffer
+    same-length
+    returns
+    add-high
+    cast-buffer-2
+    slice-write-buffer-2
+    cast-buffer-3
+    slice-write-buffer-3
+    same-length-2
+    returns-2)

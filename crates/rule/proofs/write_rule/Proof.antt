@@ -1,0 +1,45 @@
+use mathlib.Core.Path.{sym, _∙_}
+use native.Mathlib.Omega.{arith}
+use Rattle.rule.proofs.ValueLaws.{accepted-small}
+use Rattle.rule.proofs.WritingLaws.{write-accepted, write-refused}
+use borrow.Author.Needs.{needs}
+use Rattle.rule.proofs.write_rule.Statement.{statement}
+use Rattle.rule.proofs.write_rule.Tie as tie
+use Rattle.rule.proofs.write_rule.Reads as reads
+use Rattle.rule.proofs.write_rule.Lts as lts
+use Rattle.rule.proofs.check_value.Reads as check-value-reads
+use Rattle.rule.proofs.write_accepted.Reads as write-accepted-reads
+
+check-value-requires : tie.Need-check-value-requires
+check-value-requires c κs = search needs
+
+enum-told : tie.Need-enum-told
+enum-told c = search needs
+
+write-accepted-requires : tie.Need-write-accepted-requires
+write-accepted-requires c κs = accepted-small _ _ (sym (c .before .before .before .check-value .ensures) ∙ c .before .enum-told .given .1)
+
+enum-known-number : tie.Need-enum-known-number
+enum-known-number c = search needs
+
+same-length : tie.Need-same-length
+same-length c = search needs
+
+returns : tie.Need-returns
+returns c = let says = c .before .before .write-accepted .ensures in
+    write-accepted _ _ _ _ (c .before .before .before .before .before .before .check-value .ensures) _ _ (c .before .before .before .before .enum-told .given .1) (says .0) (says .1)
+
+returns-2 : tie.Need-returns-2
+returns-2 c = write-refused _ _ _ _ (c .before .before .before .check-value .ensures) _ _ (c .before .number .given .1)
+
+pub write-rule-spec : {M : Type 1} → statement M
+write-rule-spec =
+    tie.close
+    (tie.spec
+    check-value-requires
+    enum-told
+    write-accepted-requires
+    enum-known-number
+    same-length
+    returns
+    returns-2)

@@ -1,0 +1,76 @@
+-- One component of a value (RFC 8955 section 4.2): what stands at a place, where it ends, and why it is refused. A component is its
+-- type octet and its body, all that follows up to its end. A refusal is a number and a place in the value, as 01's table has them.
+use Prim.Native.Nat.{ℕ, _+_, _-_, _/_}
+use mathlib.Core.Bool.{Bool, cond, _||_}
+use mathlib.Core.List.{List}
+use lib.Dec.{leb, ltb, eqb}
+use lib.ListN.{length, getD, take, drop}
+use Rattle.octets.specs.Number.{numberAt}
+use Rattle.octets.specs.Walk.{Step, more, last, stop, Walk, walk}
+use Rattle.rule.specs.declared.Family.{Family}
+use Rattle.rule.specs.declared.NextPair.{NextPair}
+use Rattle.rule.specs.declared.NextPair.the-variants.{More, Last, Refused as RefusedPair}
+use Rattle.rule.specs.declared.BodyEnd.{BodyEnd}
+use Rattle.rule.specs.declared.BodyEnd.the-variants.{At, Refused as RefusedBody}
+use Rattle.rule.specs.declared.Next.{Next}
+use Rattle.rule.specs.declared.Next.the-variants.{Nothing, Component, Refused}
+use Rattle.rule.specs.Operator.{endsList, sizeOf, isPrefix, sizeAllowed}
+
+-- An operator and its value, at a place in a list of the given type, and the place behind them. A missing operator is 6 at the
+-- value's end, a size that the type does not allow 7 at the operator, and a value cut short 6 at the value's end.
+unfoldable pub pairAt : ℕ → List ℕ → ℕ → NextPair
+pairAt kind v at =
+    let operator = getD v at 0 in
+    let size = sizeOf operator in
+    cond (leb (length v) at) (RefusedPair 6 (length v))
+    (cond (sizeAllowed kind size)
+    (cond (ltb (length v - (at + 1)) size) (RefusedPair 6 (length v))
+    (cond (endsList operator) (Last (at + 1 + size)) (More (at + 1 + size))))
+    (RefusedPair 7 at))
+
+-- A pair of a list: its operator, and its value as a number.
+pub record Pair : Type 0 where
+  pub operator : ℕ
+  pub value : ℕ
+
+-- The pair whose operator stands at a place and whose value ends at another.
+abbrev pub pairOf : List ℕ → ℕ → ℕ → Pair
+pairOf v at next = record { operator = getD v at 0; value = numberAt (next - (at + 1)) v (at + 1) }
+
+-- A step along a list of pairs.
+abbrev pub pairStep : List ℕ → ℕ → NextPair → Step ℕ Pair BodyEnd
+pairStep v at (More next) = more (pairOf v at next) next
+pairStep v at (Last next) = last (pairOf v at next) (At next)
+pairStep v at (RefusedPair number place) = stop (RefusedBody number place)
+
+-- The pairs of a list from a place on, and where the list ends.
+unfoldable pub pairsFrom : ℕ → List ℕ → ℕ → Walk Pair BodyEnd
+pairsFrom kind v at = walk (length v + 1) (RefusedBody 6 (length v)) (λ i. pairStep v i (pairAt kind v i)) at
+
+-- 01: "length octet 0 to 32, then that many bits rounded up to octets". A missing length octet is 6 at the value's end, a length
+-- above the address's width 5 at the length octet, and missing octets 6 at the value's end.
+unfoldable pub prefixEnd : Family → List ℕ → ℕ → BodyEnd
+prefixEnd family v at =
+    let octets = (getD v at 0 + 7) / 8 in
+    cond (leb (length v) at) (RefusedBody 6 (length v))
+    (cond (ltb (family .width) (getD v at 0)) (RefusedBody 5 at)
+    (cond (ltb (length v - (at + 1)) octets) (RefusedBody 6 (length v)) (At (at + 1 + octets))))
+
+-- Where a body that begins at a place ends: a prefix or a list, by the type.
+unfoldable pub bodyEnd : Family → ℕ → List ℕ → ℕ → BodyEnd
+bodyEnd family kind v at = cond (isPrefix kind) (prefixEnd family v at) (pairsFrom kind v at .ending)
+
+abbrev pub found : ℕ → BodyEnd → Next
+found kind (At next) = Component kind next
+found kind (RefusedBody number place) = Refused number place
+
+-- The component at a place, behind one of the type `previous` (0 at the start). A type that the family does not have is 3 at the
+-- type octet, and then a type not above the one before is 4 there.
+unfoldable pub componentAt : Family → List ℕ → ℕ → ℕ → Next
+componentAt family v at previous =
+    let kind = getD v at 0 in
+    cond (leb (length v) at) Nothing
+    (cond (eqb kind 0) (Refused 3 at)
+    (cond (ltb (family .highest) kind) (Refused 3 at)
+    (cond (leb kind previous) (Refused 4 at)
+    (found kind (bodyEnd family kind v (at + 1))))))

@@ -1,0 +1,7 @@
+pub mod Family
+pub mod Operator
+pub mod Component
+pub mod Value
+pub mod Plain
+pub mod Reading
+pub mod Writing

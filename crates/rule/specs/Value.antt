@@ -1,0 +1,54 @@
+-- A value is one or more components of strictly rising types (RFC 8955 section 4.2). Reading goes left to right.
+use Prim.Native.Nat.{ℕ, _+_, _-_}
+use mathlib.Core.Bool.{Bool, cond}
+use mathlib.Core.List.{List, [], _∷_, _++_}
+use lib.Dec.{ltb, eqb}
+use lib.ListN.{length, take, drop}
+use Rattle.octets.specs.Walk.{Step, more, last, stop, Walk, walk}
+use Rattle.rule.specs.declared.Family.{Family}
+use Rattle.rule.specs.declared.Next.{Next}
+use Rattle.rule.specs.declared.Next.the-variants.{Nothing, Component, Refused as RefusedNext}
+use Rattle.rule.specs.declared.Checked.{Checked}
+use Rattle.rule.specs.declared.Checked.the-variants.{Accepted, Refused}
+use Rattle.rule.specs.Component.{componentAt}
+
+-- A component, as the RFC has it: its type and its body.
+pub record Part : Type 0 where
+  pub kind : ℕ
+  pub body : List ℕ
+
+-- The octets that a list of components spells.
+unfoldable pub spelled : List Part → List ℕ
+spelled [] = []
+spelled (p ∷ ps) = p .kind ∷ p .body ++ spelled ps
+
+-- The octets from one place up to another.
+abbrev pub between : List ℕ → ℕ → ℕ → List ℕ
+between v from to = take (to - from) (drop from v)
+
+-- How far a reader has come: the place, and the type of the component before it.
+pub record Progress : Type 0 where
+  pub at : ℕ
+  pub previous : ℕ
+
+-- A step along a value.
+abbrev pub componentStep : List ℕ → ℕ → Next → Step Progress Part Checked
+componentStep v at Nothing = stop Accepted
+componentStep v at (Component kind next) = more (record { kind = kind; body = between v (at + 1) next }) (record { at = next; previous = kind })
+componentStep v at (RefusedNext number place) = stop (Refused number place)
+
+-- The components of a value from a place on, and whether all of it is accepted.
+unfoldable pub componentsFrom : Family → List ℕ → Progress → Walk Part Checked
+componentsFrom family v p =
+    walk (length v + 1) (Refused 6 (length v)) (λ (q : Progress). componentStep v (q .at) (componentAt family v (q .at) (q .previous))) p
+
+-- The components of a value, in the order in which they stand.
+unfoldable pub components : Family → List ℕ → List Part
+components family v = componentsFrom family v (record { at = 0; previous = 0 }) .items
+
+-- Refusals 1 to 7 of a value: over 4,095 octets is 1, no octet is 2, then 3 to 7 as met.
+unfoldable pub checkValue : Family → List ℕ → Checked
+checkValue family v =
+    cond (ltb 4095 (length v)) (Refused 1 0)
+    (cond (eqb (length v) 0) (Refused 2 0)
+    (componentsFrom family v (record { at = 0; previous = 0 }) .ending))

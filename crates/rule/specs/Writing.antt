@@ -1,0 +1,37 @@
+-- Writing one rule from its value (RFC 8955 section 4.1): the length field, then the plain spelling.
+use Prim.Native.Nat.{ℕ, _+_, _/_, _%_}
+use mathlib.Core.Bool.{Bool, cond}
+use mathlib.Core.List.{List, [], _∷_, _++_}
+use lib.Dec.{ltb}
+use lib.ListN.{length, drop}
+use Rattle.rule.specs.declared.Family.{Family}
+use Rattle.rule.specs.declared.Checked.{Checked}
+use Rattle.rule.specs.declared.Checked.the-variants.{Accepted, Refused as RefusedValue}
+use Rattle.rule.specs.declared.Writing.{Writing}
+use Rattle.rule.specs.declared.Writing.the-variants.{Written, Refused}
+use Rattle.rule.specs.Value.{checkValue}
+use Rattle.rule.specs.Plain.{plain}
+
+-- 01: "The writer uses one octet below 240, two from 240."
+unfoldable pub lengthField : ℕ → List ℕ
+lengthField size = cond (ltb size 240) (size ∷ []) ((0xf0 + size / 256) ∷ size % 256 ∷ [])
+
+-- The rule that is written for a value.
+unfoldable pub ruleFor : List ℕ → List ℕ
+ruleFor v = lengthField (length v) ++ plain v
+
+abbrev pub intoRoom : List ℕ → ℕ → Checked → Writing
+intoRoom v room Accepted = cond (ltb room (length (ruleFor v))) (Refused 16 0) (Written (length (ruleFor v)))
+intoRoom v room (RefusedValue number place) = Refused number place
+
+-- What the writer answers for a buffer of `room` octets: 1 to 7, then 16 where the buffer is too short, or how many were written.
+unfoldable pub writing : Family → List ℕ → ℕ → Writing
+writing family v room = intoRoom v room (checkValue family v)
+
+-- What the buffer holds after an answer: the rule and the rest of the buffer, or all that it held where the writer refused.
+abbrev pub filled : List ℕ → List ℕ → Writing → List ℕ
+filled v buffer (Written n) = ruleFor v ++ drop n buffer
+filled v buffer (Refused number place) = buffer
+
+unfoldable pub afterWriting : Family → List ℕ → List ℕ → List ℕ
+afterWriting family v buffer = filled v buffer (writing family v (length buffer))

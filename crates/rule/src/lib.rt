@@ -1,0 +1,547 @@
+// One rule (RFC 8955 section 4): its components, its plain spelling, reading one and writing one. `component_at` is the one cursor:
+// it and the functions above it make every bounds check of the walk, and everything else loops over it. Every function answers
+// whatever octets it is lent.
+ghost use mathlib.Core.Path.{_≡_};
+ghost use mathlib.Core.Bool.{Bool, true, false};
+ghost use mathlib.Core.List.{_++_};
+ghost use Prim.Native.Nat.{_+_, _-_, _<_, _≤_};
+ghost use lib.ListN.{length, getD, take, drop};
+ghost use Rattle.rule.specs.Family.{ipv4};
+ghost use Rattle.rule.specs.Operator.{endsList, sizeOf, isPrefix, isBitmask, sizeAllowed};
+ghost use Rattle.rule.specs.Component.{pairAt, pairsFrom, prefixEnd, bodyEnd, componentAt};
+ghost use Rattle.rule.specs.Value.{checkValue};
+ghost use Rattle.rule.specs.Plain.{bodyOf, after, operandAfter, plainOperator, plainOperand, plainAddress, cleared, plain};
+ghost use Rattle.rule.specs.Reading.{fieldSize, fieldLength, firstRule, oneRule};
+ghost use Rattle.rule.specs.Writing.{lengthField, intoRoom, filled, writing, afterWriting};
+ghost use Rattle.octets.specs.Store.{stored};
+use octets::octet_at;
+use octets::store;
+
+// ---- Answers ----
+
+// What a family of addresses decides about its rules.
+pub struct Family {
+    pub highest: u8,
+    pub width: u8,
+}
+
+// A pair at a place in a list: the place behind it, or a refusal.
+pub enum NextPair {
+    More(usize),
+    Last(usize),
+    Refused { number: u8, place: usize },
+}
+
+// The place behind a component's body, or a refusal.
+pub enum BodyEnd {
+    At(usize),
+    Refused { number: u8, place: usize },
+}
+
+// What stands at a place of a value: nothing more, a component with the place behind it, or a refusal.
+pub enum Next {
+    Nothing,
+    Component { kind: u8, next: usize },
+    Refused { number: u8, place: usize },
+}
+
+// What the next octet of a value is: a type, a prefix's length, an octet of a prefix with the bits still to come, an operator (a
+// list's first or a later one), or an octet of a value with the octets still to come (of a list's last pair or an earlier one).
+pub enum Expected {
+    Kind,
+    Length,
+    Address(u8),
+    Operator { kind: u8, first: bool },
+    Operand { kind: u8, left: usize, last: bool },
+}
+
+// Whether a value is accepted.
+pub enum Checked {
+    Accepted,
+    Refused { number: u8, place: usize },
+}
+
+// Where a rule's value stands, or a refusal.
+pub enum Reading {
+    Rule { start: usize, size: usize },
+    Refused { number: u8, place: usize },
+}
+
+// How many octets were written, or a refusal.
+pub enum Writing {
+    Written(usize),
+    Refused { number: u8, place: usize },
+}
+
+// ---- Operators (section 4.2.1) ----
+
+// IPv4: component types 1 to 12, addresses of 32 bits.
+pub fn ipv4() -> Family
+    ensures { λ r. ⌜ r ≡ ipv4 ⌝ }
+{
+    Family {
+        highest: 12,
+        width: 32,
+    }
+}
+
+// Whether an operator is a list's last one.
+pub fn ends_list(operator: u8) -> bool
+    ensures { λ r. ⌜ r ≡ endsList operator ⌝ }
+{
+    operator & 0x80 != 0
+}
+
+// How many octets an operator's value has: 1, 2, 4 or 8.
+pub fn size_of(operator: u8) -> usize
+    ensures { λ r. ⌜ (r ≡ sizeOf operator) × (r ≤ 8) ⌝ }
+{
+    let exponent = (operator & 0x30) >> 4;
+    1 << exponent
+}
+
+// Whether a type's body is a prefix.
+pub fn is_prefix(kind: u8) -> bool
+    ensures { λ r. ⌜ r ≡ isPrefix kind ⌝ }
+{
+    match kind {
+        1 | 2 => true,
+        _ => false,
+    }
+}
+
+// Whether a type's body is a list of bitmask pairs.
+pub fn is_bitmask(kind: u8) -> bool
+    ensures { λ r. ⌜ r ≡ isBitmask kind ⌝ }
+{
+    match kind {
+        9 | 12 => true,
+        _ => false,
+    }
+}
+
+// Whether a type's list may have a value of this size.
+pub fn size_allowed(kind: u8, size: usize) -> bool
+    ensures { λ r. ⌜ r ≡ sizeAllowed kind size ⌝ }
+{
+    match kind {
+        9 => size <= 2,
+        11 | 12 => size == 1,
+        _ => true,
+    }
+}
+
+// ---- Components (section 4.2.2) ----
+
+// The pair at a place of a list of the given type: 7 where its size is not allowed, 6 where it is cut short.
+pub fn pair_at(kind: u8, value: &[u8], at: usize) -> NextPair
+    ensures { λ r. ⌜ r ≡ pairAt kind (now (value .entry)) at ⌝ }
+{
+    let end = value.len();
+    if end <= at {
+        return NextPair::Refused {
+            number: 6,
+            place: end,
+        };
+    }
+    let operator = value[at];
+    let size = size_of(operator);
+    if !size_allowed(kind, size) {
+        return NextPair::Refused {
+            number: 7,
+            place: at,
+        };
+    }
+    let start = at + 1;
+    if end - start < size {
+        return NextPair::Refused {
+            number: 6,
+            place: end,
+        };
+    }
+    if ends_list(operator) {
+        return NextPair::Last(start + size);
+    }
+    NextPair::More(start + size)
+}
+
+// The place behind a list that begins at a place.
+pub fn list_end(kind: u8, value: &[u8], start: usize) -> BodyEnd
+    ensures { λ r. ⌜ r ≡ pairsFrom kind (now (value .entry)) start .ending ⌝ }
+{
+    let mut at = start;
+    loop {
+        let pair = pair_at(kind, value, at);
+        match pair {
+            NextPair::More(next) => {
+                at = next;
+            }
+            NextPair::Last(next) => {
+                return BodyEnd::At(next);
+            }
+            NextPair::Refused { number, place } => {
+                return BodyEnd::Refused { number, place };
+            }
+        }
+    }
+}
+
+// The place behind a prefix that begins at a place: 5 where its length is above the width, 6 where it is cut short.
+pub fn prefix_end(family: Family, value: &[u8], at: usize) -> BodyEnd
+    ensures { λ r. ⌜ r ≡ prefixEnd family (now (value .entry)) at ⌝ }
+{
+    let end = value.len();
+    if end <= at {
+        return BodyEnd::Refused {
+            number: 6,
+            place: end,
+        };
+    }
+    let bits = value[at];
+    if family.width < bits {
+        return BodyEnd::Refused {
+            number: 5,
+            place: at,
+        };
+    }
+    let octets = (bits as usize + 7) / 8;
+    let start = at + 1;
+    if end - start < octets {
+        return BodyEnd::Refused {
+            number: 6,
+            place: end,
+        };
+    }
+    BodyEnd::At(start + octets)
+}
+
+// The place behind a body that begins at a place.
+pub fn body_end(family: Family, kind: u8, value: &[u8], at: usize) -> BodyEnd
+    ensures { λ r. ⌜ r ≡ bodyEnd family kind (now (value .entry)) at ⌝ }
+{
+    if is_prefix(kind) {
+        return prefix_end(family, value, at);
+    }
+    list_end(kind, value, at)
+}
+
+// The cursor: the component at a place, behind one of the type `previous`.
+pub fn component_at(family: Family, value: &[u8], at: usize, previous: u8) -> Next
+    ensures { λ r. ⌜ r ≡ componentAt family (now (value .entry)) at previous ⌝ }
+{
+    if value.len() <= at {
+        return Next::Nothing;
+    }
+    let kind = value[at];
+    if kind == 0 {
+        return Next::Refused {
+            number: 3,
+            place: at,
+        };
+    }
+    if family.highest < kind {
+        return Next::Refused {
+            number: 3,
+            place: at,
+        };
+    }
+    if kind <= previous {
+        return Next::Refused {
+            number: 4,
+            place: at,
+        };
+    }
+    match body_end(family, kind, value, at + 1) {
+        BodyEnd::At(next) => Next::Component { kind, next },
+        BodyEnd::Refused { number, place } => Next::Refused { number, place },
+    }
+}
+
+// Refusals 1 to 7 of a value.
+pub fn check_value(family: Family, value: &[u8]) -> Checked
+    ensures { λ r. ⌜ r ≡ checkValue family (now (value .entry)) ⌝ }
+{
+    if 4095 < value.len() {
+        return Checked::Refused {
+            number: 1,
+            place: 0,
+        };
+    }
+    if value.len() == 0 {
+        return Checked::Refused {
+            number: 2,
+            place: 0,
+        };
+    }
+    let mut at = 0;
+    let mut previous = 0;
+    loop {
+        let next = component_at(family, value, at, previous);
+        match next {
+            Next::Nothing => {
+                return Checked::Accepted;
+            }
+            Next::Component { kind, next } => {
+                at = next;
+                previous = kind;
+            }
+            Next::Refused { number, place } => {
+                return Checked::Refused { number, place };
+            }
+        }
+    }
+}
+
+// ---- Plain spelling ----
+
+// What is expected behind a type octet.
+pub fn body_of(kind: u8) -> Expected
+    ensures { λ r. ⌜ r ≡ bodyOf kind ⌝ }
+{
+    if is_prefix(kind) {
+        return Expected::Length;
+    }
+    Expected::Operator { kind, first: true }
+}
+
+// What is expected behind the octet x, which is as expected.
+pub fn expected_after(expected: Expected, x: u8) -> Expected
+    ensures { λ r. ⌜ r ≡ after expected x ⌝ }
+{
+    match expected {
+        Expected::Kind => body_of(x),
+        Expected::Length => {
+            if x == 0 {
+                return Expected::Kind;
+            }
+            Expected::Address(x)
+        }
+        Expected::Address(left) => {
+            if left <= 8 {
+                return Expected::Kind;
+            }
+            Expected::Address(left - 8)
+        }
+        Expected::Operator { kind, first: _ } => {
+            let left = size_of(x);
+            let last = ends_list(x);
+            Expected::Operand { kind, left, last }
+        }
+        Expected::Operand { kind, left, last } => operand_after(kind, left, last),
+    }
+}
+
+// What is expected behind an octet of a value.
+pub fn operand_after(kind: u8, left: usize, last: bool) -> Expected
+    ensures { λ r. ⌜ r ≡ operandAfter kind left last ⌝ }
+{
+    if 1 < left {
+        return Expected::Operand {
+            kind,
+            left: left - 1,
+            last,
+        };
+    }
+    if last {
+        return Expected::Kind;
+    }
+    Expected::Operator { kind, first: false }
+}
+
+// An operator with the bits that are to be ignored cleared.
+pub fn plain_operator(kind: u8, x: u8) -> u8
+    ensures { λ r. ⌜ r ≡ plainOperator kind x ⌝ }
+{
+    if is_bitmask(kind) {
+        return x & 0xf3;
+    }
+    x & 0xf7
+}
+
+// An octet of a value with the bits that are to be ignored cleared.
+pub fn plain_operand(kind: u8, x: u8) -> u8
+    ensures { λ r. ⌜ r ≡ plainOperand kind x ⌝ }
+{
+    match kind {
+        11 => x & 0x3f,
+        12 => x & 0x0f,
+        _ => x,
+    }
+}
+
+// An octet of a prefix with only the bits still to come kept.
+pub fn plain_address(left: u8, x: u8) -> u8
+    ensures { λ r. ⌜ r ≡ plainAddress left x ⌝ }
+{
+    if 8 <= left {
+        return x;
+    }
+    let ignored = 8 - left;
+    let kept = (x as u32) >> ignored;
+    (kept << ignored) as u8
+}
+
+// The octet x with the bits that are to be ignored cleared.
+pub fn cleared_octet(expected: Expected, x: u8) -> u8
+    ensures { λ r. ⌜ r ≡ cleared expected x ⌝ }
+{
+    match expected {
+        Expected::Kind => x,
+        Expected::Length => x,
+        Expected::Address(left) => plain_address(left, x),
+        Expected::Operator { kind, first } => {
+            let operator = plain_operator(kind, x);
+            if first {
+                return operator & 0xbf;
+            }
+            operator
+        }
+        Expected::Operand {
+            kind,
+            left: _,
+            last: _,
+        } => plain_operand(kind, x),
+    }
+}
+
+// Fills the front of a working array with the plain spelling of a value.
+pub fn fill_plain(value: &[u8], work: &mut [u8])
+    requires { ⌜ length (now value) ≤ length (now work) ⌝ }
+    ensures { λ _. ⌜ now (work .exit) ≡ plain (now (value .entry)) ++ drop (length (now (value .entry))) (now (work .entry)) ⌝ }
+{
+    let mut expected = Expected::Kind;
+    let mut i = 0;
+    while i < value.len() {
+        let x = value[i];
+        let octet = cleared_octet(expected, x);
+        work[i] = octet;
+        expected = expected_after(expected, x);
+        i += 1;
+    }
+}
+
+// ---- Reading (section 4.1) ----
+
+// How many octets the length field has.
+pub fn field_size(s: &[u8]) -> usize
+    ensures { λ r. ⌜ (r ≡ fieldSize (now (s .entry))) × (r ≤ 2) ⌝ }
+{
+    if octet_at(s, 0) < 0xf0 {
+        return 1;
+    }
+    2
+}
+
+// The length that the length field gives.
+pub fn field_length(s: &[u8]) -> usize
+    ensures { λ r. ⌜ (r ≡ fieldLength (now (s .entry))) × (r ≤ 4095) ⌝ }
+{
+    let first = octet_at(s, 0);
+    if first < 0xf0 {
+        return first as usize;
+    }
+    let high = first & 0x0f;
+    let low = octet_at(s, 1);
+    high as usize * 256 + low as usize
+}
+
+// The rule that octets begin with.
+pub fn first_rule(family: Family, s: &[u8]) -> Reading
+    ensures { λ r. ⌜ r ≡ firstRule family (now (s .entry)) ⌝ }
+{
+    let start = field_size(s);
+    let size = field_length(s);
+    if s.len() < start {
+        return Reading::Refused {
+            number: 1,
+            place: 0,
+        };
+    }
+    if s.len() - start < size {
+        return Reading::Refused {
+            number: 1,
+            place: 0,
+        };
+    }
+    let end = start + size;
+    match check_value(family, &s[start..end]) {
+        Checked::Accepted => Reading::Rule { start, size },
+        Checked::Refused { number, place } => Reading::Refused { number, place },
+    }
+}
+
+// The one rule that octets are.
+pub fn one_rule(family: Family, s: &[u8]) -> Reading
+    ensures { λ r. ⌜ r ≡ oneRule family (now (s .entry)) ⌝ }
+{
+    match first_rule(family, s) {
+        Reading::Rule { start, size } => {
+            let end = start + size;
+            if end == s.len() {
+                return Reading::Rule { start, size };
+            }
+            Reading::Refused {
+                number: 15,
+                place: 0,
+            }
+        }
+        Reading::Refused { number, place } => Reading::Refused { number, place },
+    }
+}
+
+// ---- Writing (section 4.1) ----
+
+// How many octets the length field of a value of this size has.
+pub fn field_for(size: usize) -> usize
+    ensures { λ r. ⌜ (r ≡ length (lengthField size)) × (r ≤ 2) ⌝ }
+{
+    if size < 240 {
+        return 1;
+    }
+    2
+}
+
+// Writes the length field to the front of a buffer, and keeps the rest.
+pub fn write_length(size: usize, buffer: &mut [u8])
+    requires { ⌜ (size ≤ 4095) × (length (lengthField size) ≤ length (now buffer)) ⌝ }
+    ensures { λ _. ⌜ now (buffer .exit) ≡ stored (now (buffer .entry)) 0 (lengthField size) ⌝ }
+{
+    if size < 240 {
+        buffer[0] = size as u8;
+        return;
+    }
+    let high = 240 + size / 256;
+    buffer[0] = high as u8;
+    buffer[1] = (size % 256) as u8;
+}
+
+// Writes an accepted value as a rule in its plain spelling where there is room.
+pub fn write_accepted(value: &[u8], buffer: &mut [u8]) -> Writing
+    requires { ⌜ length (now value) ≤ 4095 ⌝ }
+    ensures { λ r. ⌜ (r ≡ intoRoom (now (value .entry)) (length (now (buffer .entry))) Checked.Accepted) × (now (buffer .exit) ≡ filled (now (value .entry)) (now (buffer .entry)) r) ⌝ }
+{
+    let size = value.len();
+    let field = field_for(size);
+    let total = field + size;
+    if buffer.len() < total {
+        return Writing::Refused {
+            number: 16,
+            place: 0,
+        };
+    }
+    let mut work = [0u8; 4096];
+    fill_plain(value, &mut work);
+    write_length(size, buffer);
+    store(buffer, field, &work[..size]);
+    Writing::Written(total)
+}
+
+// Writes a value as a rule in its plain spelling, and keeps the rest of the buffer; refused, it changes nothing.
+pub fn write_rule(family: Family, value: &[u8], buffer: &mut [u8]) -> Writing
+    ensures { λ r. ⌜ (r ≡ writing family (now (value .entry)) (length (now (buffer .entry)))) × (now (buffer .exit) ≡ afterWriting family (now (value .entry)) (now (buffer .entry))) ⌝ }
+{
+    match check_value(family, value) {
+        Checked::Accepted => write_accepted(value, buffer),
+        Checked::Refused { number, place } => Writing::Refused { number, place },
+    }
+}

@@ -1,0 +1,5 @@
+pub mod Cases
+pub mod HistoryLaws
+pub mod MemberLaws
+pub mod SplitLaws
+pub mod TableLaws

@@ -1,0 +1,96 @@
+-- The entries of a table as its octets have them: where a record's value stands, what a record costs, and that entries are ordered as
+-- their plain values are. Assumes nothing.
+use mathlib.Core.Path.{_≡_, refl, sym, ap, ap₂, _∙_}
+use mathlib.Core.Bool.{Bool, true, false, _&&_}
+use mathlib.Core.List.{List, [], _∷_, map}
+use Prim.Native.Nat.{ℕ, zero, suc, _+_, _-_, _^_, _<_, _≤_, Ordering}
+use native.Mathlib.Omega.{arith}
+use native.Mathlib.Decide.{decLt}
+use native.Mathlib.Nat.{sub-zero}
+use lib.Dec.{ltb}
+use lib.ListN.{length, getD, take, drop, length-take, length-drop, List·getD-eq-default}
+use lib.Seq.{drop-drop, getD-drop, getD-take, take-nil}
+use Rattle.octets.proofs.Facts.{Octets}
+use Rattle.octets.specs.Walk.{Walk, before}
+use Rattle.prefix.proofs.Bools.{both}
+use Rattle.rule.specs.declared.Family.{Family}
+use Rattle.rule.specs.Family.{ipv4}
+use Rattle.rule.specs.Value.{between, components}
+use Rattle.order.specs.Precedence.{partsOrder, precedence}
+use Rattle.order.specs.Key.{keysOf, keyOrder}
+use Rattle.order.proofs.KeyLaws.{one-order}
+use Rattle.table.specs.declared.NextRecord.{NextRecord}
+use Rattle.table.specs.declared.NextRecord.the-variants.{Nothing, Record, Unsound}
+use Rattle.action.specs.Possible.{couldBe}
+use Rattle.entry.specs.Entry.{Entry, entryKey, plainValue, possible}
+use Rattle.entry.specs.Record.{headCost, entryOf, goodRecord}
+use Rattle.table.specs.Walk.{recordAt, recordsFrom, records, entries}
+use Rattle.table.specs.Sound.{cost, every}
+use Rattle.entry.proofs.ValueLaws.{Held, held, Possible, is-possible}
+use Rattle.table.proofs.WalkLaws.{Found, was-found, records-more}
+
+-- the entries from a place on
+abbrev pub entriesFrom : List ℕ → ℕ → List Entry
+entriesFrom t at = map entryOf (recordsFrom t at .items)
+
+pub every-both : {A : Type 0} (test : A → Bool) (x : A) (xs : List A) → every test (x ∷ xs) ≡ true → (test x ≡ true) × (every test xs ≡ true)
+unfolding every
+every-both test x xs e = both (test x) (every test xs) e
+
+drop-take : (m n : ℕ) (l : List ℕ) → drop m (take n l) ≡ take (n - m) (drop m l)
+drop-take zero n l = rw (sub-zero n)
+drop-take (suc m) zero l = let z : 0 - suc m ≡ 0 = omega arith in rw z
+drop-take (suc m) (suc n) [] = sym (take-nil (suc n - suc m))
+drop-take (suc m) (suc n) (x ∷ l) = let e : suc n - suc m ≡ n - m = omega arith in rw e (drop-take m n l)
+
+-- a part of octets is octets
+pub octets-between : (t : List ℕ) (from to : ℕ) → Octets t → Octets (between t from to)
+octets-between t from to o i =
+    elim (decLt i (to - from)) [
+      | yes h ↦ rw (getD-take (to - from) (drop from t) i 0 h, getD-drop from t i 0) (o (from + i))
+      | no h ↦ rw (List·getD-eq-default (take (to - from) (drop from t)) 0 {n = i} (simp length-take (omega arith))) (omega arith)
+    ]
+
+module _ (t : List ℕ) (at next : ℕ) (found : recordAt t at ≡ Record next) where
+  bounds : (at + headCost ≤ next) × (next ≤ length t) × (at ≤ length t)
+  bounds =
+      let f = was-found t at next found in
+      let s = f .size in
+      let w = f .within in
+      let n = f .some in
+      (omega arith, omega arith, omega arith)
+
+  -- the value of a record stands behind its head
+  pub value-there : entryOf (between t at next) .value ≡ between t (at + headCost) next
+  unfolding entryOf
+  value-there =
+      let e : next - at - headCost ≡ next - (at + headCost) = omega arith in
+      drop-take headCost (next - at) (drop at t) ∙ rw (drop-drop headCost at t, e)
+
+  pub length-there : length (between t at next) ≡ next - at
+  length-there = simp (length-take, length-drop) (omega (arith, bounds))
+
+  -- a record costs what it takes
+  pub cost-there : at + cost (entryOf (between t at next)) ≡ next
+  unfolding entryOf
+  cost-there = simp (length-drop, length-there) (omega (arith, bounds))
+
+-- two plain values are ordered as their keys are
+pub plain-order : (v w : List ℕ) → Octets v → Octets w → plainValue ipv4 v ≡ true → plainValue ipv4 w ≡ true
+    → partsOrder ipv4 (components ipv4 v) (components ipv4 w) ≡ keyOrder (keysOf ipv4 v) (keysOf ipv4 w)
+unfolding precedence
+plain-order v w o p h k =
+    let a = held ipv4 v h in
+    let b = held ipv4 w k in
+    ap₂ (λ x y. partsOrder ipv4 (components ipv4 x) (components ipv4 y)) (sym (a .spelled)) (sym (b .spelled)) ∙ one-order ipv4 4 refl v w o p
+
+-- what a record that could be says of its entry
+pub good-possible : (family : Family) (r : List ℕ) → goodRecord family r ≡ true → possible family (entryOf r) ≡ true
+unfolding goodRecord
+good-possible family r e = both (ltb (getD r 6 0) 64) (possible family (entryOf r)) e .1
+
+pub good-value : (family : Family) (r : List ℕ) → goodRecord family r ≡ true → plainValue family (entryOf r .value) ≡ true
+unfolding possible
+good-value family r e =
+    let p = good-possible family r e in
+    both (couldBe (entryOf r .actions)) (plainValue family (entryOf r .value)) (both (ltb (entryOf r .originator) (2 ^ 32)) _ p .1) .1

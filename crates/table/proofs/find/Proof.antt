@@ -1,0 +1,114 @@
+-- The search has come to a place, and what is left of the table decides.
+use borrow.Author.Needs.{needs}
+use Prim.Native.Nat.{_-_}
+use mathlib.Core.Path.{_≡_, sym, _∙_}
+use native.Mathlib.Omega.{arith}
+use lib.ListN.{length}
+use Rattle.table.specs.declared.NextRecord.the-variants.{Record}
+use Rattle.table.specs.Walk.{recordAt}
+use Rattle.table.proofs.WalkLaws.{Found, was-found}
+use Rattle.table.proofs.FindLaws.{Searching, search-starts, search-end, search-unsound, search-first, search-same, search-on}
+use Rattle.table.proofs.find.Statement.{statement}
+use Rattle.table.proofs.find.Tie as tie
+use Rattle.table.proofs.find.Reads as reads
+use Rattle.table.proofs.find.Lts as lts
+use Rattle.order.proofs.compare_plain.Reads as compare-plain-reads
+use Rattle.table.proofs.record_at.Reads as record-at-reads
+
+abbrev Inv-loop : tie.InvT-loop
+Inv-loop table value at₀ at = Searching table value at
+
+abbrev μ-loop : tie.MeasureT-loop
+μ-loop table value at₀ at = length table - at
+
+found-here : (c : tie.After-known-told Inv-loop μ-loop) → recordAt (c .before .before .before .before .before .before .before .args .table .now) (c .before .before .before .before .loop .at) ≡ Record (c .before .next .given .0 .0)
+found-here c = sym (c .before .before .before .record-at .ensures) ∙ c .before .next .given .1
+
+loop-holds : tie.Need-loop-holds Inv-loop μ-loop
+loop-holds c = search-starts _ _ (c .before .before .pre .0)
+
+record-at-requires : tie.Need-record-at-requires Inv-loop μ-loop
+record-at-requires c κs = search needs
+
+enum-told : tie.Need-enum-told Inv-loop μ-loop
+enum-told c = search needs
+
+returns : tie.Need-returns Inv-loop μ-loop
+returns c = search (search-end, needs)
+
+enum-told-2 : tie.Need-enum-told-2 Inv-loop μ-loop
+enum-told-2 c = search needs
+
+returns-2 : tie.Need-returns-2 Inv-loop μ-loop
+returns-2 c = search (search-unsound, needs)
+
+enum-known-next : tie.Need-enum-known-next Inv-loop μ-loop
+enum-known-next c = search needs
+
+add-start : tie.Need-add-start Inv-loop μ-loop
+add-start c = omega (arith, was-found _ (c .before .before .before .before .loop .at) _ (found-here c))
+
+sub-compare-plain : tie.Need-sub-compare-plain Inv-loop μ-loop
+sub-compare-plain c = omega (arith, was-found _ (c .before .before .before .before .loop .at) _ (found-here c))
+
+part-compare-plain-start : tie.Need-part-compare-plain-start Inv-loop μ-loop
+part-compare-plain-start c = omega (arith, was-found _ (c .before .before .before .before .loop .at) _ (found-here c))
+
+part-compare-plain-end : tie.Need-part-compare-plain-end Inv-loop μ-loop
+part-compare-plain-end c = omega (arith, was-found _ (c .before .before .before .before .loop .at) _ (found-here c))
+
+compare-plain-requires : tie.Need-compare-plain-requires Inv-loop μ-loop
+compare-plain-requires c κs = search needs
+
+enum-told-3 : tie.Need-enum-told-3 Inv-loop μ-loop
+enum-told-3 c = search needs
+
+returns-3 : tie.Need-returns-3 Inv-loop μ-loop
+returns-3 c = let k = c .before .before .before .before in
+    search-first _ _ _ (k .before .before .before .before .loop .inv) _ (found-here k) (λ i. k .before .before .before .before .before .before .shared-slice-known .given i .fits) (λ i. k .before .before .before .before .before .shared-slice-known2 .given i .fits) (k .before .before .before .before .before .before .before .pre .1) _
+    (c .before .before .compare-plain .ensures) (c .enum-told3 .given .1)
+
+enum-told-4 : tie.Need-enum-told-4 Inv-loop μ-loop
+enum-told-4 c = search needs
+
+returns-4 : tie.Need-returns-4 Inv-loop μ-loop
+returns-4 c = let k = c .before .before .before .before in
+    search-same _ _ _ (k .before .before .before .before .loop .inv) _ (found-here k) (λ i. k .before .before .before .before .before .before .shared-slice-known .given i .fits) (λ i. k .before .before .before .before .before .shared-slice-known2 .given i .fits) (k .before .before .before .before .before .before .before .pre .1) _
+    (c .before .before .compare-plain .ensures) (c .enum-told4 .given .1)
+
+enum-told-5 : tie.Need-enum-told-5 Inv-loop μ-loop
+enum-told-5 c = search needs
+
+loop-less : tie.Need-loop-less Inv-loop μ-loop
+loop-less c = omega (arith, was-found _ (c .before .before .before .before .before .before .before .before .loop .at) _ (found-here (c .before .before .before .before)), c .before .before .before .before .before .before .before .before .loop .inv .within)
+
+loop-again : tie.Need-loop-again Inv-loop μ-loop
+loop-again c = let k = c .before .before .before .before in
+    search-on _ _ _ (k .before .before .before .before .loop .inv) _ (found-here k) (λ i. k .before .before .before .before .before .before .shared-slice-known .given i .fits) (λ i. k .before .before .before .before .before .shared-slice-known2 .given i .fits) (k .before .before .before .before .before .before .before .pre .1) _
+    (c .before .before .compare-plain .ensures) (c .enum-told5 .given .1)
+
+pub find-spec : {M : Type 1} → statement M
+find-spec =
+    tie.close
+    (tie.spec
+    Inv-loop
+    μ-loop
+    loop-holds
+    record-at-requires
+    enum-told
+    returns
+    enum-told-2
+    returns-2
+    enum-known-next
+    add-start
+    sub-compare-plain
+    part-compare-plain-start
+    part-compare-plain-end
+    compare-plain-requires
+    enum-told-3
+    returns-3
+    enum-told-4
+    returns-4
+    enum-told-5
+    loop-less
+    loop-again)

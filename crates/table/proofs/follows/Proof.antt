@@ -1,0 +1,82 @@
+-- One law for each return; a record before this one lies before it.
+use mathlib.Core.Path.{_≡_, sym, _∙_}
+use native.Mathlib.Omega.{arith}
+use Rattle.octets.proofs.Cases.{apart}
+use Rattle.octets.specs.declared.Order.the-variants.{First, Second, Same}
+use Rattle.table.specs.Follow.{Adjacent}
+use Rattle.table.proofs.TestLaws.{follows-none, follows-yes, follows-not}
+use borrow.Author.Needs.{needs}
+use Rattle.table.proofs.follows.Statement.{statement}
+use Rattle.table.proofs.follows.Tie as tie
+use Rattle.table.proofs.follows.Reads as reads
+use Rattle.table.proofs.follows.Lts as lts
+use Rattle.order.proofs.compare_plain.Reads as compare-plain-reads
+
+returns : tie.Need-returns
+returns c = search (follows-none, needs)
+
+add-start : tie.Need-add-start
+add-start c = omega (arith, c .before .before .pre .before (c .if1 .left), c .before .before .pre)
+
+add-begin : tie.Need-add-begin
+add-begin c = search needs
+
+sub-compare-plain : tie.Need-sub-compare-plain
+sub-compare-plain c = omega (arith, c .before .before .pre .before (c .if1 .left))
+
+part-compare-plain-start : tie.Need-part-compare-plain-start
+part-compare-plain-start c = omega (arith, c .before .before .pre .before (c .if1 .left))
+
+part-compare-plain-end : tie.Need-part-compare-plain-end
+part-compare-plain-end c = search needs
+
+sub-compare-plain-2 : tie.Need-sub-compare-plain-2
+sub-compare-plain-2 c = search needs
+
+part-compare-plain-start-2 : tie.Need-part-compare-plain-start-2
+part-compare-plain-start-2 c = search needs
+
+part-compare-plain-end-2 : tie.Need-part-compare-plain-end-2
+part-compare-plain-end-2 c = search needs
+
+compare-plain-requires : tie.Need-compare-plain-requires
+compare-plain-requires c κs = search needs
+
+enum-told : tie.Need-enum-told
+enum-told c = search needs
+
+enum-told-2 : tie.Need-enum-told-2
+enum-told-2 c = search needs
+
+enum-told-3 : tie.Need-enum-told-3
+enum-told-3 c = search needs
+
+returns-2 : tie.Need-returns-2
+returns-2 c = follows-yes _ _ _ _ (c .before .before .before .before .before .if1 .left) _ (c .before .before .compare-plain .ensures) (c .enum-told .given .1)
+
+returns-3 : tie.Need-returns-3
+returns-3 c = follows-not _ _ _ _ (c .before .before .before .before .before .if1 .left) _ (c .before .before .compare-plain .ensures) (λ e. let z : First ≡ Second = sym e ∙ c .enum-told2 .given .1 in apart (cc))
+
+returns-4 : tie.Need-returns-4
+returns-4 c = follows-not _ _ _ _ (c .before .before .before .before .before .if1 .left) _ (c .before .before .compare-plain .ensures) (λ e. let z : First ≡ Same = sym e ∙ c .enum-told3 .given .1 in apart (cc))
+
+pub follows-spec : {M : Type 1} → statement M
+follows-spec =
+    tie.close
+    (tie.spec
+    returns
+    add-start
+    add-begin
+    sub-compare-plain
+    part-compare-plain-start
+    part-compare-plain-end
+    sub-compare-plain-2
+    part-compare-plain-start-2
+    part-compare-plain-end-2
+    compare-plain-requires
+    enum-told
+    enum-told-2
+    enum-told-3
+    returns-2
+    returns-3
+    returns-4)

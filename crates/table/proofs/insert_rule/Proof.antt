@@ -1,0 +1,79 @@
+use Rattle.table.proofs.ChangeLaws.{sum-fits}
+use mathlib.Core.Path.{refl}
+use native.Mathlib.Omega.{arith}
+use Rattle.rule.specs.Family.{ipv4}
+use Rattle.order.specs.Key.{keysOf}
+use Rattle.table.specs.Walk.{entries}
+use Rattle.table.proofs.ChangeLaws.{Placed, encoded, place-is, no-room, has-room}
+use borrow.Author.Needs.{needs}
+use Rattle.table.proofs.insert_rule.Statement.{statement}
+use Rattle.table.proofs.insert_rule.Tie as tie
+use Rattle.table.proofs.insert_rule.Reads as reads
+use Rattle.table.proofs.insert_rule.Lts as lts
+use Rattle.entry.proofs.write_record.Reads as write-record-reads
+use Rattle.octets.proofs.cut_out.Reads as cut-out-reads
+use Rattle.octets.proofs.open_gap.Reads as open-gap-reads
+use Rattle.table.proofs.find.Reads as find-reads
+
+there : (c : tie.After-struct-known)
+    → Placed (c .before .before .before .before .before .args .table .now) (entries (c .before .before .before .before .before .args .table .now))
+    (encoded (c .before .before .before .before .before .args .table .now) (λ i. c .before .before .before .before .slice-known .given i .fits) (c .before .before .before .before .before .pre .0)) (keysOf ipv4 (c .before .before .before .before .before .args .value .now)) (c .before .find .result)
+there c = place-is _ (λ i. c .before .before .before .before .slice-known .given i .fits) (c .before .before .before .before .before .pre .0) _ _ (c .before .find .ensures)
+
+find-requires : tie.Need-find-requires
+find-requires c κs = search needs
+
+sub-held : tie.Need-sub-held
+sub-held c = omega (arith, there c)
+
+sub-others : tie.Need-sub-others
+sub-others c = omega (arith, there c)
+
+add-size : tie.Need-add-size
+add-size c = search needs
+
+add-if1 : tie.Need-add-if1
+add-if1 c = record { fits = sum-fits _ (λ i. c .before .before .before .before .slice-known .given i .fits) (c .before .before .before .before .before .pre .0) _ _ _ (c .before .before .before .before .before .pre .1 .1) (c .before .before .before .before .before .pre .1 .0) }
+
+same-length : tie.Need-same-length
+same-length c = search needs
+
+returns : tie.Need-returns
+returns c = let k = c .before in
+    no-room _ (λ i. k .before .before .before .before .slice-known .given i .fits) (k .before .before .before .before .before .pre .0) (record { originator = k .before .before .before .before .before .args .originator; actions = k .before .before .before .before .before .args .actions; value = k .before .before .before .before .before .args .value .now }) _
+    (k .before .find .ensures) _ (k .before .before .before .before .before .pre .1 .1) (c .if1 .taken)
+
+cut-out-requires : tie.Need-cut-out-requires
+cut-out-requires c κs = omega (arith, there (c .before .before))
+
+open-gap-requires : tie.Need-open-gap-requires
+open-gap-requires c κs = let k = c .before .before .before .before .before .before in omega (arith, there k, c .before .before .before .cut-out .kept, c .before .before .before .before .before .if1 .left, k .before .before .before .before .before .pre)
+
+write-record-requires : tie.Need-write-record-requires
+write-record-requires c κs = let k = c .before .before .before .before .before .before .before .before .before .before in
+    omega (arith, there k, c .before .before .before .before .before .before .before .cut-out .kept, c .before .before .before .open-gap .kept, c .before .before .before .before .before .before .before .before .before .if1 .left, k .before .before .before .before .before .pre)
+
+same-length-2 : tie.Need-same-length-2
+same-length-2 c = search needs
+
+returns-2 : tie.Need-returns-2
+returns-2 c = let k = c .before .before .before .before .before .before .before .before .before .before .before .before .before in
+    has-room _ (λ i. k .before .before .before .before .slice-known .given i .fits) (k .before .before .before .before .before .pre .0) (record { originator = k .before .before .before .before .before .args .originator; actions = k .before .before .before .before .before .args .actions; value = k .before .before .before .before .before .args .value .now }) _
+    (k .before .find .ensures) _ (k .before .before .before .before .before .pre .1 .1) _ _ _ (c .before .before .before .before .before .before .before .before .before .before .before .before .if1 .left) (c .before .before .before .before .before .before .before .before .before .before .cut-out .ensures) (c .before .before .before .before .before .before .open-gap .ensures) (c .before .before .write-record .ensures)
+
+pub insert-rule-spec : {M : Type 1} → statement M
+insert-rule-spec =
+    tie.close
+    (tie.spec
+    find-requires
+    sub-held
+    sub-others
+    add-size
+    add-if1
+    same-length
+    returns
+    cut-out-requires
+    open-gap-requires
+    write-record-requires
+    same-length-2
+    returns-2)

@@ -1,0 +1,148 @@
+-- What was collected and what is left of the table give the verdict.
+use borrow.Author.Needs.{needs}
+use Prim.Native.Nat.{_-_}
+use mathlib.Core.Path.{_≡_, sym, _∙_}
+use native.Mathlib.Omega.{arith}
+use lib.ListN.{length}
+use Rattle.table.specs.declared.NextRecord.the-variants.{Record}
+use Rattle.table.specs.Walk.{recordAt}
+use Rattle.table.proofs.WalkLaws.{Found, was-found}
+use Rattle.table.proofs.EntryLaws.{length-there}
+use Rattle.table.proofs.LookupLaws.{Looking, look-starts, look-end, look-unsound, look-missed, look-goes-on, look-stops}
+use Rattle.table.proofs.look_up.Statement.{statement}
+use Rattle.table.proofs.look_up.Tie as tie
+use Rattle.table.proofs.look_up.Reads as reads
+use Rattle.table.proofs.look_up.Lts as lts
+use Rattle.action.proofs.merge.Reads as merge-reads
+use Rattle.action.proofs.no_actions.Reads as no-actions-reads
+use Rattle.table.proofs.judge_record.Reads as judge-record-reads
+use Rattle.table.proofs.record_at.Reads as record-at-reads
+use Rattle.table.proofs.verdict_of.Reads as verdict-of-reads
+
+abbrev Inv-loop : tie.InvT-loop
+Inv-loop table packet at₀ count₀ actions₀ at count actions = Looking table packet at count actions
+
+abbrev μ-loop : tie.MeasureT-loop
+μ-loop table packet at₀ count₀ actions₀ at count actions = length table - at
+
+found-here : (c : tie.After-known-told Inv-loop μ-loop) → recordAt (c .before .before .before .before .before .before .before .args .table .now) (c .before .before .before .before .loop .at) ≡ Record (c .before .next .given .0 .0)
+found-here c = sym (c .before .before .before .record-at .ensures) ∙ c .before .next .given .1
+
+no-actions-requires : tie.Need-no-actions-requires Inv-loop μ-loop
+no-actions-requires c κs = search needs
+
+loop-holds : tie.Need-loop-holds Inv-loop μ-loop
+loop-holds c = look-starts _ _ _ (c .no-actions .ensures)
+
+record-at-requires : tie.Need-record-at-requires Inv-loop μ-loop
+record-at-requires c κs = search needs
+
+enum-told : tie.Need-enum-told Inv-loop μ-loop
+enum-told c = search needs
+
+verdict-of-requires : tie.Need-verdict-of-requires Inv-loop μ-loop
+verdict-of-requires c κs = search needs
+
+enum-told-2 : tie.Need-enum-told-2 Inv-loop μ-loop
+enum-told-2 c = search needs
+
+verdict-of-requires-2 : tie.Need-verdict-of-requires-2 Inv-loop μ-loop
+verdict-of-requires-2 c κs = search needs
+
+enum-known-next : tie.Need-enum-known-next Inv-loop μ-loop
+enum-known-next c = search needs
+
+sub-judge-record : tie.Need-sub-judge-record Inv-loop μ-loop
+sub-judge-record c = omega (arith, was-found _ (c .before .before .before .before .loop .at) _ (found-here c))
+
+part-judge-record-start : tie.Need-part-judge-record-start Inv-loop μ-loop
+part-judge-record-start c = omega (arith, was-found _ (c .before .before .before .before .loop .at) _ (found-here c))
+
+part-judge-record-end : tie.Need-part-judge-record-end Inv-loop μ-loop
+part-judge-record-end c = omega (arith, was-found _ (c .before .before .before .before .loop .at) _ (found-here c))
+
+judge-record-requires : tie.Need-judge-record-requires Inv-loop μ-loop
+judge-record-requires c κs = let k = c .before in
+    omega (arith, was-found _ (k .before .before .before .before .loop .at) _ (found-here k), length-there _ (k .before .before .before .before .loop .at) _ (found-here k))
+
+enum-told-3 : tie.Need-enum-told-3 Inv-loop μ-loop
+enum-told-3 c = search needs
+
+loop-less : tie.Need-loop-less Inv-loop μ-loop
+loop-less c = let k = c .before .before .before .before in omega (arith, was-found _ (k .before .before .before .before .loop .at) _ (found-here k))
+
+loop-again : tie.Need-loop-again Inv-loop μ-loop
+loop-again c = let k = c .before .before .before .before in
+    look-missed _ _ _ _ _ (k .before .before .before .before .loop .inv) _ (found-here k) _ (c .before .before .judge-record .ensures) (c .enum-told3 .given .1)
+
+enum-known-more : tie.Need-enum-known-more Inv-loop μ-loop
+enum-known-more c = search needs
+
+merge-requires : tie.Need-merge-requires Inv-loop μ-loop
+merge-requires c κs = search needs
+
+add-count : tie.Need-add-count Inv-loop μ-loop
+add-count c = let k = c .before .before .before .before .before .before in omega (arith, k .before .before .before .before .loop .inv .few, k .before .before .before .before .loop .inv .within)
+
+loop-less-2 : tie.Need-loop-less-2 Inv-loop μ-loop
+loop-less-2 c = let k = c .before .before .before .before .before .before in omega (arith, was-found _ (k .before .before .before .before .loop .at) _ (found-here k))
+
+loop-again-2 : tie.Need-loop-again-2 Inv-loop μ-loop
+loop-again-2 c = let k = c .before .before .before .before .before .before in
+    look-goes-on _ _ _ _ _ (k .before .before .before .before .loop .inv) _ (found-here k) _ (c .before .before .before .before .judge-record .ensures) _ _ (c .before .before .more .given .1) (c .merge .ensures)
+
+enum-known-more-2 : tie.Need-enum-known-more-2 Inv-loop μ-loop
+enum-known-more-2 c = search needs
+
+merge-requires-2 : tie.Need-merge-requires-2 Inv-loop μ-loop
+merge-requires-2 c κs = search needs
+
+add-verdict-of : tie.Need-add-verdict-of Inv-loop μ-loop
+add-verdict-of c = let k = c .before .before .before .before .before .before in omega (arith, k .before .before .before .before .loop .inv .few, k .before .before .before .before .loop .inv .within)
+
+verdict-of-requires-3 : tie.Need-verdict-of-requires-3 Inv-loop μ-loop
+verdict-of-requires-3 c κs = search needs
+
+returns : tie.Need-returns Inv-loop μ-loop
+returns c = search (look-end, needs)
+
+returns-2 : tie.Need-returns-2 Inv-loop μ-loop
+returns-2 c = search (look-unsound, needs)
+
+returns-3 : tie.Need-returns-3 Inv-loop μ-loop
+returns-3 c = let k = c .before .before .before .before .before .before .before in
+    look-stops _ _ _ _ _ (k .before .before .before .before .loop .inv) _ (found-here k) _ (c .before .before .before .before .before .judge-record .ensures) _ _ _ (c .before .before .before .more2 .given .1) (c .before .merge2 .ensures) (c .verdict-of3 .ensures)
+
+pub look-up-spec : {M : Type 1} → statement M
+look-up-spec =
+    tie.close
+    (tie.spec
+    Inv-loop
+    μ-loop
+    no-actions-requires
+    loop-holds
+    record-at-requires
+    enum-told
+    verdict-of-requires
+    enum-told-2
+    verdict-of-requires-2
+    enum-known-next
+    sub-judge-record
+    part-judge-record-start
+    part-judge-record-end
+    judge-record-requires
+    enum-told-3
+    loop-less
+    loop-again
+    enum-known-more
+    merge-requires
+    add-count
+    loop-less-2
+    loop-again-2
+    enum-known-more-2
+    merge-requires-2
+    add-verdict-of
+    verdict-of-requires-3
+    returns
+    returns-2
+    returns-3)

@@ -1,0 +1,45 @@
+-- The record found is cut out; where none is, the table is as it was.
+use native.Mathlib.Omega.{arith}
+use Rattle.rule.specs.Family.{ipv4}
+use Rattle.order.specs.Key.{keysOf}
+use Rattle.table.specs.Walk.{entries}
+use Rattle.table.proofs.ChangeLaws.{Placed, encoded, place-is, not-held, was-held}
+use borrow.Author.Needs.{needs}
+use Rattle.table.proofs.remove_rule.Statement.{statement}
+use Rattle.table.proofs.remove_rule.Tie as tie
+use Rattle.table.proofs.remove_rule.Reads as reads
+use Rattle.table.proofs.remove_rule.Lts as lts
+use Rattle.octets.proofs.cut_out.Reads as cut-out-reads
+use Rattle.table.proofs.find.Reads as find-reads
+
+there : (c : tie.After-struct-known)
+    → Placed (c .before .before .before .before .before .args .table .now) (entries (c .before .before .before .before .before .args .table .now))
+    (encoded (c .before .before .before .before .before .args .table .now) (λ i. c .before .before .before .before .slice-known .given i .fits) (c .before .before .before .before .before .pre .0)) (keysOf ipv4 (c .before .before .before .before .before .args .value .now)) (c .before .find .result)
+there c = place-is _ (λ i. c .before .before .before .before .slice-known .given i .fits) (c .before .before .before .before .before .pre .0) _ _ (c .before .find .ensures)
+
+find-requires : tie.Need-find-requires
+find-requires c κs = search needs
+
+sub-size : tie.Need-sub-size
+sub-size c = omega (arith, there c)
+
+same-length : tie.Need-same-length
+same-length c = search needs
+
+returns : tie.Need-returns
+returns c = let k = c .before in not-held _ (λ i. k .before .before .before .before .slice-known .given i .fits) (k .before .before .before .before .before .pre .0) _ _ (k .before .find .ensures) (c .if1 .taken)
+
+cut-out-requires : tie.Need-cut-out-requires
+cut-out-requires c κs = omega (arith, there (c .before .before))
+
+same-length-2 : tie.Need-same-length-2
+same-length-2 c = search needs
+
+returns-2 : tie.Need-returns-2
+returns-2 c = let k = c .before .before .before .before .before in
+    was-held _ (λ i. k .before .before .before .before .slice-known .given i .fits) (k .before .before .before .before .before .pre .0) _ _ (k .before .find .ensures) _ (c .before .before .before .before .if1 .left) (c .before .before .cut-out .ensures)
+
+pub remove-rule-spec : {M : Type 1} → statement M
+remove-rule-spec =
+    tie.close
+    (tie.spec find-requires sub-size same-length returns cut-out-requires same-length-2 returns-2)

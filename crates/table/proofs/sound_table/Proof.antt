@@ -1,0 +1,106 @@
+-- What is left to test decides, with the record before it.
+use borrow.Author.Needs.{needs}
+use Prim.Native.Nat.{_-_}
+use mathlib.Core.Path.{_≡_, sym, _∙_}
+use native.Mathlib.Omega.{arith}
+use lib.ListN.{length}
+use borrow.Author.Tests.{not-false}
+use Rattle.table.specs.declared.NextRecord.the-variants.{Record}
+use Rattle.table.specs.Walk.{recordAt}
+use Rattle.table.proofs.WalkLaws.{Found, was-found}
+use Rattle.table.proofs.TestLaws.{Testing, test-starts, test-long, test-end, test-unsound, adjacent, test-bad, test-disorder, test-on}
+use Rattle.table.proofs.sound_table.Statement.{statement}
+use Rattle.table.proofs.sound_table.Tie as tie
+use Rattle.table.proofs.sound_table.Reads as reads
+use Rattle.table.proofs.sound_table.Lts as lts
+use Rattle.entry.proofs.is_good_record.Reads as is-good-record-reads
+use Rattle.table.proofs.follows.Reads as follows-reads
+use Rattle.table.proofs.record_at.Reads as record-at-reads
+
+abbrev Inv-loop : tie.InvT-loop
+Inv-loop table previous₀ at₀ previous at = Testing table previous at
+
+abbrev μ-loop : tie.MeasureT-loop
+μ-loop table previous₀ at₀ previous at = length table - at
+
+found-here : (c : tie.After-known-told Inv-loop μ-loop) → recordAt (c .before .before .before .before .before .before .before .args .table .now) (c .before .before .before .before .loop .at) ≡ Record (c .before .next .given .0 .0)
+found-here c = sym (c .before .before .before .record-at .ensures) ∙ c .before .next .given .1
+
+returns : tie.Need-returns Inv-loop μ-loop
+returns c = search (test-long, needs)
+
+loop-holds : tie.Need-loop-holds Inv-loop μ-loop
+loop-holds c = test-starts _ (c .if1 .left)
+
+record-at-requires : tie.Need-record-at-requires Inv-loop μ-loop
+record-at-requires c κs = search needs
+
+enum-told : tie.Need-enum-told Inv-loop μ-loop
+enum-told c = search needs
+
+returns-2 : tie.Need-returns-2 Inv-loop μ-loop
+returns-2 c = search (test-end, needs)
+
+enum-told-2 : tie.Need-enum-told-2 Inv-loop μ-loop
+enum-told-2 c = search needs
+
+returns-3 : tie.Need-returns-3 Inv-loop μ-loop
+returns-3 c = search (test-unsound, needs)
+
+enum-known-next : tie.Need-enum-known-next Inv-loop μ-loop
+enum-known-next c = search needs
+
+sub-is-good-record : tie.Need-sub-is-good-record Inv-loop μ-loop
+sub-is-good-record c = omega (arith, was-found _ (c .before .before .before .before .loop .at) _ (found-here c))
+
+part-is-good-record-start : tie.Need-part-is-good-record-start Inv-loop μ-loop
+part-is-good-record-start c = omega (arith, was-found _ (c .before .before .before .before .loop .at) _ (found-here c))
+
+part-is-good-record-end : tie.Need-part-is-good-record-end Inv-loop μ-loop
+part-is-good-record-end c = omega (arith, was-found _ (c .before .before .before .before .loop .at) _ (found-here c))
+
+is-good-record-requires : tie.Need-is-good-record-requires Inv-loop μ-loop
+is-good-record-requires c κs = search needs
+
+returns-4 : tie.Need-returns-4 Inv-loop μ-loop
+returns-4 c = let k = c .before .before .before in test-bad _ _ _ (k .before .before .before .before .loop .inv) _ (found-here k) _ (c .before .is-good-record .ensures) (c .if2 .taken)
+
+follows-requires : tie.Need-follows-requires Inv-loop μ-loop
+follows-requires c κs = let k = c .before .before .before in adjacent _ _ _ (k .before .before .before .before .loop .inv) _ (found-here k)
+
+returns-5 : tie.Need-returns-5 Inv-loop μ-loop
+returns-5 c = let k = c .before .before .before .before .before in
+    let good = sym (c .before .before .before .is-good-record .ensures) ∙ not-false _ (c .before .before .if2 .left) in
+    test-disorder _ _ _ (k .before .before .before .before .loop .inv) _ (found-here k) (λ i. k .before .before .before .before .before .before .shared-slice-known .given i .fits) good _ (c .before .follows .ensures) (c .if3 .taken)
+
+loop-less : tie.Need-loop-less Inv-loop μ-loop
+loop-less c = let k = c .before .before .before .before .before in omega (arith, was-found _ (k .before .before .before .before .loop .at) _ (found-here k))
+
+loop-again : tie.Need-loop-again Inv-loop μ-loop
+loop-again c = let k = c .before .before .before .before .before in
+    let good = sym (c .before .before .before .is-good-record .ensures) ∙ not-false _ (c .before .before .if2 .left) in
+    test-on _ _ _ (k .before .before .before .before .loop .inv) _ (found-here k) (λ i. k .before .before .before .before .before .before .shared-slice-known .given i .fits) good _ (c .before .follows .ensures) (c .if3 .left)
+
+pub sound-table-spec : {M : Type 1} → statement M
+sound-table-spec =
+    tie.close
+    (tie.spec
+    Inv-loop
+    μ-loop
+    returns
+    loop-holds
+    record-at-requires
+    enum-told
+    returns-2
+    enum-told-2
+    returns-3
+    enum-known-next
+    sub-is-good-record
+    part-is-good-record-start
+    part-is-good-record-end
+    is-good-record-requires
+    returns-4
+    follows-requires
+    returns-5
+    loop-less
+    loop-again)

@@ -1,0 +1,24 @@
+-- How the code tests that records stand in precedence order: each against the one before it.
+use Prim.Native.Nat.{ℕ, _+_, _≤_}
+use mathlib.Core.Path.{_≡_}
+use mathlib.Core.Bool.{Bool, true, false, cond}
+use mathlib.Core.List.{List}
+use lib.Dec.{eqb}
+use lib.ListN.{length}
+use Rattle.sorted.specs.Table.{byOrder}
+use Rattle.rule.specs.Family.{ipv4}
+use Rattle.rule.specs.Value.{between, components}
+use Rattle.order.specs.Precedence.{partsOrder}
+use Rattle.entry.specs.Record.{headCost}
+
+-- A record ends at a place, unless that is octet 0, and another stands from there up to the next place.
+pub record Adjacent (t : List ℕ) (previous at next : ℕ) : Type 0 where
+  pub before : (at ≡ 0 → ⊥) → previous + headCost ≤ at
+  pub here : at + headCost ≤ next
+  pub within : next ≤ length t
+
+-- The value behind the place comes after the value before it; at octet 0 there is none before it.
+unfoldable pub followsAt : List ℕ → ℕ → ℕ → ℕ → Bool
+followsAt t previous at next =
+    cond (eqb at 0) true
+    (byOrder (partsOrder ipv4 (components ipv4 (between t (previous + headCost) at)) (components ipv4 (between t (at + headCost) next))) true false false)

@@ -1,0 +1,53 @@
+-- Looking a packet up. 01: "Lookup goes down the table; a matching rule is collected, and the walk stops after one without T. The verdict
+-- is unmatched, or matched with the merged actions and the count collected; merged actions carry no T."
+use Prim.Native.Nat.{ℕ, _+_}
+use mathlib.Core.Bool.{Bool, true, false, cond}
+use mathlib.Core.List.{List, [], _∷_}
+use lib.Dec.{eqb}
+use lib.ListN.{length}
+use Rattle.rule.specs.declared.Family.{Family}
+use Rattle.action.specs.declared.Actions.{Actions}
+use Rattle.action.specs.Actions.{noActions}
+use Rattle.action.specs.Merging.{merged}
+use Rattle.packet.specs.declared.Packet.{Packet}
+use Rattle.packet.specs.Match.{matches}
+use Rattle.table.specs.declared.Verdict.{Verdict}
+use Rattle.table.specs.declared.Verdict.the-variants.{Unmatched, Matched}
+use Rattle.table.specs.declared.Hit.{Hit}
+use Rattle.table.specs.declared.Hit.the-variants.{Missed, GoesOn, Stops}
+use Rattle.table.specs.declared.Place.{Place}
+use Rattle.entry.specs.Entry.{Entry}
+use Rattle.table.specs.Sound.{cost}
+
+-- Whether a packet matches an entry's rule.
+abbrev pub hit : Family → Packet → Entry → Bool
+hit family packet e = matches family (e .value) packet
+
+-- The entries collected: those that match, down to the first of them without T.
+unfoldable pub collected : (Entry → Bool) → List Entry → List Entry
+collected test [] = []
+collected test (e ∷ es) = cond (test e) (e ∷ cond (e .actions .onward) (collected test es) []) (collected test es)
+
+-- The actions of several entries merged, in the order of the table, onto those merged before.
+unfoldable pub mergedOnto : Actions → List Entry → Actions
+mergedOnto actions [] = actions
+mergedOnto actions (e ∷ es) = mergedOnto (merged actions (e .actions)) es
+
+-- The verdict on merged actions and a count of rules.
+unfoldable pub verdictOf : Actions → ℕ → Verdict
+verdictOf actions count = cond (eqb count 0) Unmatched (Matched actions count)
+
+-- The verdict on a packet.
+unfoldable pub verdictFor : Family → Packet → List Entry → Verdict
+verdictFor family packet es =
+    verdictOf (mergedOnto noActions (collected (hit family packet) es)) (length (collected (hit family packet) es))
+
+-- What one record says of a packet: that it misses, or its entry's actions with whether the walk goes on.
+abbrev pub hitOf : Bool → Actions → Hit
+hitOf false actions = Missed
+hitOf true actions = cond (actions .onward) (GoesOn actions) (Stops actions)
+
+-- Where the first match's record stands, among entries whose records begin at a place; 0 and 0 where nothing matches.
+unfoldable pub firstPlace : (Entry → Bool) → ℕ → List Entry → Place
+firstPlace test at [] = record { start = 0; end = 0 }
+firstPlace test at (e ∷ es) = cond (test e) (record { start = at; end = at + cost e }) (firstPlace test (at + cost e) es)
