@@ -6,3 +6,4 @@ pub mod TableLaws
 pub mod Unique
 pub mod Refusals
 pub mod Examples
+pub mod HistoryLaws

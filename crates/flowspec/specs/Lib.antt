@@ -5,3 +5,4 @@ pub mod Look
 pub mod Told
 pub mod Promise
 pub mod Examples
+pub mod History

@@ -1,0 +1,290 @@
+-- **Demand 3.** From an all-zero buffer that only these calls write: after any history the table holds exactly the entries that each
+-- rule's last counted call left in force, once, in precedence order; so that two histories which leave the same in force end in equal
+-- octets, and judge every packet alike. A call that is answered 11 changes nothing and does not count, so that nothing is asked of those.
+use mathlib.Core.Path.{_≡_, refl, sym, ap, ap₂, subst, _∙_}
+use mathlib.Core.Bool.{Bool, true, false, cond, _&&_}
+use mathlib.Core.List.{List, [], _∷_, _++_, List·Memᴰ}
+use mathlib.Core.Logic.{_↔_}
+use mathlib.Core.Option.{Option, none, some}
+use Prim.Native.Nat.{ℕ, _+_, _-_, _^_, _<_, _≤_}
+use native.Mathlib.Nat.{add-sub-cancel-left, sub-zero}
+use native.Mathlib.Omega.{arith}
+use lib.Dec.{leb}
+use lib.ListN.{length, take, drop, replicate, length-replicate}
+use borrow.Author.Tests.{leb-true}
+use Rattle.octets.proofs.Cases.{by-test, apart}
+use Rattle.octets.proofs.Facts.{Octets}
+use Rattle.sorted.specs.Table.{lookup, insert, remove, Sorted}
+use Rattle.sorted.specs.History.{Op, refuse, announce, withdraw, costs, isHeld, counts, inForce, standing, isAbout, apply, run}
+use Rattle.sorted.specs.History as S
+use Rattle.sorted.proofs.Cases.{by-order}
+use Rattle.sorted.proofs.TableLaws.{insert-sorted, remove-sorted}
+use Rattle.sorted.proofs.HistoryLaws.{costs-remove, run-holds, run-agree}
+use Rattle.rule.specs.declared.Reading.{Reading}
+use Rattle.rule.specs.declared.Reading.the-variants.{Rule, Refused as NotRead}
+use Rattle.rule.specs.Family.{ipv4}
+use Rattle.rule.specs.Plain.{plain}
+use Rattle.rule.specs.Reading.{oneRule}
+use Rattle.rule.specs.declared.Checked.the-variants.{Accepted}
+use Rattle.rule.specs.Value.{checkValue}
+use Rattle.rule.proofs.ReadingLaws.{ReadRule, one-read}
+use Rattle.rule.proofs.ClearedLaws.{plain-again}
+use Rattle.rule.proofs.SpellingLaws.{check-plain}
+use Rattle.route.specs.Route.{soundRoutes}
+use Rattle.action.specs.declared.Actions.{Actions}
+use Rattle.action.specs.declared.Reading.{Reading as ActionsReading}
+use Rattle.action.specs.declared.Reading.the-variants.{Read, Unsound}
+use Rattle.action.specs.Actions.{actionsOf}
+use Rattle.action.specs.Possible.{couldBe}
+use Rattle.action.proofs.PossibleLaws.{read-possible}
+use Rattle.order.specs.Key.{keysOf, keyOrder}
+use Rattle.order.proofs.KeyLaws.{key-order}
+use Rattle.entry.specs.Entry.{Entry, entryKey, possible}
+use Rattle.entry.proofs.ValueLaws.{holds as value-holds, make-possible}
+use Rattle.table.specs.Walk.{entries}
+use Rattle.table.specs.Sound.{cost, tableOf, joined, every, Encodes, soundTable, mostOctets}
+use Rattle.table.specs.Change.{holds, removed, hasRoom, inserted, announced, withdrawn}
+use Rattle.table.proofs.SpliceLaws.{length-table}
+use Rattle.table.proofs.EntryLaws.{every-both, octets-between}
+use Rattle.table.proofs.SoundLaws.{encodes-sound, encodes-entries}
+use Rattle.flowspec.specs.declared.Change.{Change}
+use Rattle.flowspec.specs.declared.Change.the-variants.{Done, Refused as NotChanged}
+use Rattle.flowspec.specs.declared.Request.{Request}
+use Rattle.flowspec.specs.declared.Request.the-variants.{Announce, Refused as NotAsked}
+use Rattle.flowspec.specs.Announce.{Outcome, changeOf, outcome, valueOf, askedBy, asked, announcedBy, announcing, withdrawnBy, withdrawing}
+use Rattle.flowspec.specs.History.{Call, announcement, withdrawal, Made, asksToAnnounce, asksToWithdraw, asks, Promised, Happened, isCounted, lastFrom, lastCounted, leavesInForce, endOf, emptyTable}
+use Rattle.flowspec.specs.Told.{changeTold}
+
+-- what holds of every entry and of a new one holds of every entry with it put in, and with one taken out
+every-insert : (test : Entry → Bool) (r : Entry) (es : List Entry) → test r ≡ true → every test es ≡ true
+    → every test (insert keyOrder (entryKey ipv4) r es) ≡ true
+unfolding every
+every-insert test r [] n g = rw n
+every-insert test r (x ∷ es) n g =
+    let gs = every-both test x es g in
+    by-order (keyOrder (entryKey ipv4 r) (entryKey ipv4 x))
+    (λ e. rw (e, n, gs .0, gs .1))
+    (λ e. rw (e, n, gs .1))
+    (λ e. rw (e, gs .0) (every-insert test r es n (gs .1)))
+
+every-remove : (test : Entry → Bool) (k : List (List ℕ)) (es : List Entry) → every test es ≡ true
+    → every test (remove keyOrder (entryKey ipv4) k es) ≡ true
+unfolding every
+every-remove test k [] g = refl
+every-remove test k (x ∷ es) g =
+    let gs = every-both test x es g in
+    by-order (keyOrder k (entryKey ipv4 x))
+    (λ e. rw (e, gs .0, gs .1))
+    (λ e. rw (e, gs .1))
+    (λ e. rw (e, gs .0) (every-remove test k es (gs .1)))
+
+-- an outcome on octets is one on entries: the same answer, and the entries' encoding in a buffer of the same length
+record Same (n : ℕ) (o : Outcome) (a : S.Outcome Entry) : Type 0 where
+  pub answers : changeTold (o .answer) .number ≡ a .answer
+  pub encodes : Encodes ipv4 (o .table) (a .table)
+  pub long : length (o .table) ≡ n
+
+module _ (t : List ℕ) (es : List Entry) (c : Encodes ipv4 t es) where
+  encoding : (xs : List Entry) → costs cost xs ≤ length t → every (possible ipv4) xs ≡ true → Sorted keyOrder (entryKey ipv4) xs
+      → Encodes ipv4 (tableOf (length t) xs) xs
+  encoding xs room each rising =
+      let long = length-table (length t) xs room in
+      let short = c .short in
+      record {
+        short = omega arith;
+        room = omega arith;
+        each = each;
+        rising = rising;
+        is = ap (λ n. tableOf n xs) (sym long);
+      }
+
+  without : (k : List (List ℕ)) → Encodes ipv4 (removed ipv4 t k) (remove keyOrder (entryKey ipv4) k es)
+  unfolding removed
+  without k =
+      let less = costs-remove keyOrder (entryKey ipv4) cost k es in
+      let room = c .room in
+      rw (encodes-entries ipv4 t es c)
+      (encoding (remove keyOrder (entryKey ipv4) k es) (omega arith) (every-remove (possible ipv4) k es (c .each)) (remove-sorted keyOrder (entryKey ipv4) key-order k es (c .rising)))
+
+  long-removed : (k : List (List ℕ)) → length (removed ipv4 t k) ≡ length t
+  unfolding removed
+  long-removed k =
+      let less = costs-remove keyOrder (entryKey ipv4) cost k es in
+      let room = c .room in
+      rw (encodes-entries ipv4 t es c) (length-table (length t) (remove keyOrder (entryKey ipv4) k es) (omega arith))
+
+  -- the change of a table that an announcement or a withdrawal asks
+  same-announced : (e : Entry) (feasible : Bool) → possible ipv4 e ≡ true
+      → Same (length t) (outcome (announced ipv4 t e feasible)) (apply keyOrder (entryKey ipv4) cost (length t) (announce e feasible) es)
+  unfolding changeOf hasRoom inserted
+  same-announced e true ok =
+      rw (encodes-entries ipv4 t es c)
+      (by-test (leb (costs cost (insert keyOrder (entryKey ipv4) e es)) (length t))
+      (λ h.
+      let room = leb-true (costs cost (insert keyOrder (entryKey ipv4) e es)) (length t) h in
+      rw h (record {
+        answers = refl;
+        encodes = encoding (insert keyOrder (entryKey ipv4) e es) room (every-insert (possible ipv4) e es ok (c .each)) (insert-sorted keyOrder (entryKey ipv4) key-order e es (c .rising));
+        long = length-table (length t) (insert keyOrder (entryKey ipv4) e es) room;
+      }))
+      (λ h. rw h (record { answers = refl; encodes = c; long = refl })))
+  same-announced e false ok = record { answers = refl; encodes = without (entryKey ipv4 e); long = long-removed (entryKey ipv4 e) }
+
+  same-withdrawn : (k : List (List ℕ))
+      → Same (length t) (outcome (withdrawn ipv4 t k)) (apply keyOrder (entryKey ipv4) cost (length t) (withdraw k) es)
+  unfolding changeOf withdrawn holds
+  same-withdrawn k =
+      let out = without k in
+      let long = long-removed k in
+      rw (encodes-entries ipv4 t es c)
+      (by-test (isHeld (lookup keyOrder (entryKey ipv4) k es))
+      (λ h. rw h (record { answers = refl; encodes = out; long = long }))
+      (λ h. rw h (record { answers = refl; encodes = c; long = refl })))
+
+-- what every call is given, by the types of what it is lent: octets, and an originator of 32 bits
+abbrev pub CanBe : Call → Type 0
+CanBe (announcement rule originator communities) = Octets rule × (originator < 2 ^ 32)
+CanBe (withdrawal rule) = Unit {0}
+
+abbrev pub EachCanBe : List Made → Type 0
+EachCanBe [] = Unit {0}
+EachCanBe (m ∷ h) = CanBe (m .call) × EachCanBe h
+
+-- what is asked to be announced could be
+abbrev Could : List ℕ → ℕ → Request → Type 0
+Could rule originator (NotAsked number place) = Unit {0}
+Could rule originator (Announce start size actions feasible) =
+    possible ipv4 (record { originator = originator; actions = actions; value = plain (valueOf rule start size) }) ≡ true
+
+asked-could : (relaxed : Bool) (routes rule : List ℕ) (originator : ℕ) (communities : List ℕ) → Octets rule → originator < 2 ^ 32
+    → Could rule originator (asked relaxed routes rule originator communities)
+unfolding asked
+asked-could relaxed routes rule originator communities o small =
+    by-test (soundRoutes 32 routes) (λ h. rw h (go (oneRule ipv4 rule) refl (actionsOf communities) refl)) (λ h. rw h tt)
+  where
+    go : (r : Reading) → oneRule ipv4 rule ≡ r → (a : ActionsReading) → actionsOf communities ≡ a
+        → Could rule originator (askedBy relaxed routes rule originator r a)
+    go (NotRead number place) e a f = tt
+    go (Rule start size) e Unsound f = tt
+    go (Rule start size) e (Read actions) f =
+        let octets : Octets (valueOf rule start size) = subst (λ n. Octets (take n (drop start rule))) (add-sub-cancel-left start size) (octets-between rule start (start + size) o) in
+        make-possible ipv4 (record { originator = originator; actions = actions; value = plain (valueOf rule start size) }) small
+        (read-possible communities actions f)
+        (value-holds ipv4 (plain (valueOf rule start size)) (check-plain ipv4 (valueOf rule start size) octets ∙ one-read ipv4 rule start size e .accepted) (plain-again (valueOf rule start size) octets))
+
+-- one call
+module _ (relaxed : Bool) (routes : List ℕ) (t : List ℕ) (es : List Entry) (c : Encodes ipv4 t es) where
+  same-announcing : (rule : List ℕ) (originator : ℕ) (communities : List ℕ) → Octets rule → originator < 2 ^ 32
+      → Same (length t) (announcing relaxed routes rule originator communities t)
+      (apply keyOrder (entryKey ipv4) cost (length t) (asks relaxed routes (announcement rule originator communities)) es)
+  unfolding announcing
+  same-announcing rule originator communities o small =
+      rw (encodes-sound ipv4 t es c) (go (asked relaxed routes rule originator communities) (asked-could relaxed routes rule originator communities o small))
+    where
+      go : (r : Request) → Could rule originator r
+          → Same (length t) (announcedBy t rule originator r) (apply keyOrder (entryKey ipv4) cost (length t) (asksToAnnounce rule originator r) es)
+      go (NotAsked number place) ok = record { answers = refl; encodes = c; long = refl }
+      go (Announce start size actions feasible) ok =
+          same-announced t es c (record { originator = originator; actions = actions; value = plain (valueOf rule start size) }) feasible ok
+
+  same-withdrawing : (rule : List ℕ)
+      → Same (length t) (withdrawing rule t) (apply keyOrder (entryKey ipv4) cost (length t) (asks relaxed routes (withdrawal rule)) es)
+  unfolding withdrawing
+  same-withdrawing rule = rw (encodes-sound ipv4 t es c) (go (oneRule ipv4 rule))
+    where
+      go : (r : Reading) → Same (length t) (withdrawnBy t rule r) (apply keyOrder (entryKey ipv4) cost (length t) (asksToWithdraw rule r) es)
+      go (NotRead number place) = record { answers = refl; encodes = c; long = refl }
+      go (Rule start size) = same-withdrawn t es c (keysOf ipv4 (plain (valueOf rule start size)))
+
+  same-made : (call : Call) (answer : Change) (left : List ℕ) → CanBe call → Promised relaxed routes call t answer left
+      → Same (length t) (record { answer = answer; table = left }) (apply keyOrder (entryKey ipv4) cost (length t) (asks relaxed routes call) es)
+  same-made (announcement rule originator communities) answer left can p =
+      rw (p .is, p .leaves) (same-announcing rule originator communities (can .0) (can .1))
+  same-made (withdrawal rule) answer left can p = rw (p .is, p .leaves) (same-withdrawing rule)
+
+-- any history: the table at its end encodes the entries that the same calls leave on lists, and the last counted calls are the same
+module _ (relaxed : Bool) (routes : List ℕ) where
+  abbrev asksOf : Made → Op (List (List ℕ)) Entry
+  asksOf m = asks relaxed routes (m .call)
+
+  step : (n : ℕ) (m : Made) (t : List ℕ) (es : List Entry) → Encodes ipv4 t es → length t ≡ n → CanBe (m .call)
+      → Promised relaxed routes (m .call) t (m .answer) (m .left)
+      → Same n (record { answer = m .answer; table = m .left }) (apply keyOrder (entryKey ipv4) cost n (asksOf m) es)
+  step n m t es c long can made =
+      subst
+      (λ (size : ℕ). Same size (record { answer = m .answer; table = m .left }) (apply keyOrder (entryKey ipv4) cost size (asksOf m) es))
+      long
+      (same-made relaxed routes t es c (m .call) (m .answer) (m .left) can made)
+
+  ran : (n : ℕ) (h : List Made) (t : List ℕ) (es : List Entry) → Encodes ipv4 t es → length t ≡ n → EachCanBe h → Happened relaxed routes t h
+      → Encodes ipv4 (endOf t h) (run keyOrder (entryKey ipv4) cost n asksOf h es) × (length (endOf t h) ≡ n)
+  ran n [] t es c long can made = (c, long)
+  ran n (m ∷ h) t es c long can made =
+      let same = step n m t es c long (can .0) (made .0) in
+      ran n h (m .left) (apply keyOrder (entryKey ipv4) cost n (asksOf m) es .table) (same .encodes) (same .long) (can .1) (made .1)
+
+  last-same : (n : ℕ) (k : List (List ℕ)) (h : List Made) (before : Option Made) (t : List ℕ) (es : List Entry) → Encodes ipv4 t es → length t ≡ n → EachCanBe h
+      → Happened relaxed routes t h
+      → S.lastFrom keyOrder (entryKey ipv4) cost n asksOf before k h es ≡ lastFrom relaxed routes before k h
+  last-same n k [] before t es c long can made = refl
+  last-same n k (m ∷ h) before t es c long can made =
+      let same = step n m t es c long (can .0) (made .0) in
+      rw (← same .answers) (last-same n k h (cond (isCounted relaxed routes k m) (some m) before) (m .left) (apply keyOrder (entryKey ipv4) cost n (asksOf m) es .table) (same .encodes) (same .long) (can .1) (made .1))
+
+  standing-is : (o : Option Made) → standing asksOf o ≡ leavesInForce relaxed routes o
+  standing-is none = refl
+  standing-is (some m) = refl
+
+-- the empty table is the encoding of no entries
+long-empty : (n : ℕ) → length (emptyTable n) ≡ n
+long-empty n = length-replicate {A = ℕ} n 0
+
+empty-encodes : (n : ℕ) → n ≤ mostOctets → Encodes ipv4 (emptyTable n) []
+unfolding tableOf joined every
+empty-encodes n h =
+    let long = long-empty n in
+    record { short = omega arith; room = omega arith; each = refl; rising = tt; is = rw (long, sub-zero n) }
+
+module _ (relaxed : Bool) (routes : List ℕ) (n : ℕ) (fits : n ≤ mostOctets) where
+  -- the table after a history that began at an empty table
+  abbrev pub after : List Made → List ℕ
+  after h = endOf (emptyTable n) h
+
+  -- what the last counted call about a rule left in force
+  abbrev pub inForceAt : List Made → List (List ℕ) → Option Entry
+  inForceAt h k = leavesInForce relaxed routes (lastCounted relaxed routes k h)
+
+  module _ (h : List Made) (can : EachCanBe h) (made : Happened relaxed routes (emptyTable n) h) where
+    abbrev left : List Entry
+    left = run keyOrder (entryKey ipv4) cost n (asksOf relaxed routes) h []
+
+    encodes-left : Encodes ipv4 (after h) left × (length (after h) ≡ n)
+    encodes-left = ran relaxed routes n h (emptyTable n) [] (empty-encodes n fits) (long-empty n) can made
+
+    entries-left : entries (after h) ≡ left
+    entries-left = encodes-entries ipv4 (after h) left (encodes-left .0)
+
+    stands-left : (k : List (List ℕ)) → standing (asksOf relaxed routes) (S.lastCounted keyOrder (entryKey ipv4) cost n (asksOf relaxed routes) k h) ≡ inForceAt h k
+    stands-left k =
+        ap (standing (asksOf relaxed routes)) (last-same relaxed routes n k h none (emptyTable n) [] (empty-encodes n fits) (long-empty n) can made)
+        ∙ standing-is relaxed routes (lastCounted relaxed routes k h)
+
+    -- **the table is sound**: its octets are the records of its entries, which stand once each, in precedence order, and zeros
+    pub history-sound : Encodes ipv4 (after h) (entries (after h))
+    history-sound = rw entries-left (encodes-left .0)
+
+    -- **the table holds exactly what is in force**: an entry stands in it where it is what its rule's last counted call left in force
+    pub history-holds : (e : Entry) → List·Memᴰ e (entries (after h)) ↔ (inForceAt h (entryKey ipv4 e) ≡ some e)
+    history-holds e =
+        rw (entries-left, ← stands-left (entryKey ipv4 e))
+        (run-holds keyOrder (entryKey ipv4) cost n (asksOf relaxed routes) key-order h e)
+
+  -- **two histories** that leave the same in force for every rule end in equal octets
+  pub histories-agree : (h g : List Made) → EachCanBe h → EachCanBe g → Happened relaxed routes (emptyTable n) h → Happened relaxed routes (emptyTable n) g
+      → ((k : List (List ℕ)) → inForceAt h k ≡ inForceAt g k) → after h ≡ after g
+  histories-agree h g can also made too agree =
+      let same = run-agree keyOrder (entryKey ipv4) cost n (asksOf relaxed routes) key-order h g
+      (λ k. stands-left h can made k ∙ agree k ∙ sym (stands-left g also too k)) in
+      let first = encodes-left h can made in
+      let second = encodes-left g also too in
+      first .0 .is ∙ ap₂ tableOf (first .1 ∙ sym (second .1)) same ∙ sym (second .0 .is)

@@ -1,0 +1,84 @@
+-- Histories: calls that change one table, each with its answer and the octets it left. A rule is known by its key: two rules have one key
+-- exactly when their plain spellings are equal (crate order, KeyLaws: `keys-only` and `keys-same`).
+use Prim.Native.Nat.{ℕ}
+use mathlib.Core.Bool.{Bool, cond, _&&_}
+use mathlib.Core.List.{List, [], _∷_}
+use mathlib.Core.Option.{Option, none, some}
+use lib.ListN.{replicate}
+use Rattle.sorted.specs.History.{Op, refuse, announce, withdraw, counts, inForce, isAbout}
+use Rattle.rule.specs.declared.Reading.{Reading}
+use Rattle.rule.specs.declared.Reading.the-variants.{Rule, Refused as NotRead}
+use Rattle.rule.specs.Family.{ipv4}
+use Rattle.rule.specs.Plain.{plain}
+use Rattle.rule.specs.Reading.{oneRule}
+use Rattle.order.specs.Key.{keysOf, keyOrder}
+use Rattle.entry.specs.Entry.{Entry, entryKey}
+use Rattle.flowspec.specs.declared.Change.{Change}
+use Rattle.flowspec.specs.declared.Request.{Request}
+use Rattle.flowspec.specs.declared.Request.the-variants.{Announce, Refused as NotAsked}
+use Rattle.flowspec.specs.Announce.{valueOf, asked}
+use Rattle.flowspec.specs.Told.{changeTold}
+use Rattle.flowspec.specs.Promise.{Announces, Withdraws}
+
+-- An empty table: a buffer of n octets, all zero.
+abbrev pub emptyTable : ℕ → List ℕ
+emptyTable n = replicate n 0
+
+-- A call, with whatever octets it was given: an announcement of a rule by an originator with communities, or a withdrawal of a rule.
+pub data Call : Type 0 where
+  announcement : List ℕ → ℕ → List ℕ → Call
+  withdrawal : List ℕ → Call
+
+-- What a call asks of a table once its input is read and judged: nothing, where that is refused; to announce an entry, which is feasible
+-- or not; to withdraw a rule.
+abbrev pub asksToAnnounce : List ℕ → ℕ → Request → Op (List (List ℕ)) Entry
+asksToAnnounce rule originator (NotAsked number place) = refuse number
+asksToAnnounce rule originator (Announce start size actions feasible) =
+    announce (record { originator = originator; actions = actions; value = plain (valueOf rule start size) }) feasible
+
+abbrev pub asksToWithdraw : List ℕ → Reading → Op (List (List ℕ)) Entry
+asksToWithdraw rule (NotRead number place) = refuse number
+asksToWithdraw rule (Rule start size) = withdraw (keysOf ipv4 (plain (valueOf rule start size)))
+
+-- A call as it was made: what it was given, its answer, and the table's octets after it.
+pub record Made : Type 0 where
+  pub call : Call
+  pub answer : Change
+  pub left : List ℕ
+
+module _ (relaxed : Bool) (routes : List ℕ) where
+  abbrev pub asks : Call → Op (List (List ℕ)) Entry
+  asks (announcement rule originator communities) = asksToAnnounce rule originator (asked relaxed routes rule originator communities)
+  asks (withdrawal rule) = asksToWithdraw rule (oneRule ipv4 rule)
+
+  -- A call's promise, with a table at entry.
+  abbrev pub Promised : Call → List ℕ → Change → List ℕ → Type 0
+  Promised (announcement rule originator communities) table answer left = Announces relaxed routes rule originator communities table answer left
+  Promised (withdrawal rule) table answer left = Withdraws rule table answer left
+
+  -- A history from a table on, the oldest call first: each call keeps its promise on the table that the call before it left.
+  abbrev pub Happened : List ℕ → List Made → Type 0
+  Happened table [] = Unit {0}
+  Happened table (m ∷ h) = Promised (m .call) table (m .answer) (m .left) × Happened (m .left) h
+
+  -- Whether a call counts, by its answer, and is about a rule.
+  abbrev pub isCounted : List (List ℕ) → Made → Bool
+  isCounted k m = counts (changeTold (m .answer) .number) && isAbout keyOrder (entryKey ipv4) k (asks (m .call))
+
+  -- The last counted call about a rule, and `before` where a history has none.
+  abbrev pub lastFrom : Option Made → List (List ℕ) → List Made → Option Made
+  lastFrom before k [] = before
+  lastFrom before k (m ∷ h) = lastFrom (cond (isCounted k m) (some m) before) k h
+
+  abbrev pub lastCounted : List (List ℕ) → List Made → Option Made
+  lastCounted k h = lastFrom none k h
+
+  -- The entry that a call leaves in force: that of a feasible announcement, with its originator and actions.
+  abbrev pub leavesInForce : Option Made → Option Entry
+  leavesInForce none = none
+  leavesInForce (some m) = inForce (asks (m .call))
+
+-- The table at the end of a history.
+abbrev pub endOf : List ℕ → List Made → List ℕ
+endOf table [] = table
+endOf table (m ∷ h) = endOf (m .left) h
