@@ -52,7 +52,7 @@ use Rattle.flowspec.specs.declared.Change.the-variants.{Done, Refused as
 use Rattle.flowspec.specs.declared.Request.{Request}
 use Rattle.flowspec.specs.declared.Request.the-variants.{Announce, Refused as NotAsked}
 use Rattle.flowspec.specs.Announce.{Outcome, changeOf, outcome, valueOf, askedBy, asked, announcedBy, announcing, withdrawnBy, withdrawing}
-use Rattle.flowspec.specs.History.{Call, announcement, withdrawal, Made, asksToAnnounce, asksToWithdraw, asks, Promised, Happened, isCounted, lastFrom, lastCounted, leavesInForce, endOf, emptyTable}
+use Rattle.flowspec.specs.History.{Call, announcement, withdrawal, Made, asksToAnnounce, asksToWithdraw, asks, Promised, Happened, isCounted, lastFrom, lastCounted, leavesInForce, inForceAfter, endOf, emptyTable}
 use Rattle.flowspec.specs.Told.{changeTold}
 
 -- what holds of every entry and of a new one holds of every entry with it put in, and with one taken out
@@ -79,7 +79,7 @@ every-remove test k (x ∷ es) g =
     (λ e. rw (e, gs .0) (every-remove test k es (gs .1)))
 
 -- an outcome on octets is one on entries: the same answer, and the entries' encoding in a buffer of the same length
-record Same (n : ℕ) (o : Outcome) (a : S.Outcome Entry) : Type 0 where
+pub record Same (n : ℕ) (o : Outcome) (a : S.Outcome Entry) : Type 0 where
   pub answers : changeTold (o .answer) .number ≡ a .answer
   pub encodes : Encodes ipv4 (o .table) (a .table)
   pub long : length (o .table) ≡ n
@@ -150,6 +150,10 @@ abbrev pub EachCanBe : List Made → Type 0
 EachCanBe [] = Unit {0}
 EachCanBe (m ∷ h) = CanBe (m .call) × EachCanBe h
 
+-- a rule's value is octets
+pub octets-value : (rule : List ℕ) (start size : ℕ) → Octets rule → Octets (valueOf rule start size)
+octets-value rule start size o = rw (add-sub-cancel-left start size) at (octets-between rule start (start + size) o)
+
 -- what is asked to be announced could be
 abbrev Could : List ℕ → ℕ → Request → Type 0
 Could rule originator (NotAsked number place) = Unit {0}
@@ -167,7 +171,7 @@ asked-could relaxed routes rule originator communities o small =
     go (NotRead number place) e a f = tt
     go (Rule start size) e Unsound f = tt
     go (Rule start size) e (Read actions) f =
-        let octets : Octets (valueOf rule start size) = subst (λ n. Octets (take n (drop start rule))) (add-sub-cancel-left start size) (octets-between rule start (start + size) o) in
+        let octets = octets-value rule start size o in
         make-possible ipv4 (record { originator = originator; actions = actions; value = plain (valueOf rule start size) }) small
         (read-possible communities actions f)
         (value-holds ipv4 (plain (valueOf rule start size)) (check-plain ipv4 (valueOf rule start size) octets ∙ one-read ipv4 rule start size e .accepted) (plain-again (valueOf rule start size) octets))
@@ -207,7 +211,7 @@ module _ (relaxed : Bool) (routes : List ℕ) where
   abbrev asksOf : Made → Op (List (List ℕ)) Entry
   asksOf m = asks relaxed routes (m .call)
 
-  step : (n : ℕ) (m : Made) (t : List ℕ) (es : List Entry) → Encodes ipv4 t es → length t ≡ n → CanBe (m .call)
+  pub step : (n : ℕ) (m : Made) (t : List ℕ) (es : List Entry) → Encodes ipv4 t es → length t ≡ n → CanBe (m .call)
       → Promised relaxed routes (m .call) t (m .answer) (m .left)
       → Same n (record { answer = m .answer; table = m .left }) (apply keyOrder (entryKey ipv4) cost n (asksOf m) es)
   step n m t es c long can made =
@@ -236,10 +240,10 @@ module _ (relaxed : Bool) (routes : List ℕ) where
   standing-is (some m) = refl
 
 -- the empty table is the encoding of no entries
-long-empty : (n : ℕ) → length (emptyTable n) ≡ n
+pub long-empty : (n : ℕ) → length (emptyTable n) ≡ n
 long-empty n = length-replicate {A = ℕ} n 0
 
-empty-encodes : (n : ℕ) → n ≤ mostOctets → Encodes ipv4 (emptyTable n) []
+pub empty-encodes : (n : ℕ) → n ≤ mostOctets → Encodes ipv4 (emptyTable n) []
 unfolding tableOf joined every
 empty-encodes n h =
     let long = long-empty n in
@@ -249,10 +253,6 @@ module _ (relaxed : Bool) (routes : List ℕ) (n : ℕ) (fits : n ≤ mostOctets
   -- the table after a history that began at an empty table
   abbrev pub after : List Made → List ℕ
   after h = endOf (emptyTable n) h
-
-  -- what the last counted call about a rule left in force
-  abbrev pub inForceAt : List Made → List (List ℕ) → Option Entry
-  inForceAt h k = leavesInForce relaxed routes (lastCounted relaxed routes k h)
 
   module _ (h : List Made) (can : EachCanBe h) (made : Happened relaxed routes (emptyTable n) h) where
     abbrev left : List Entry
@@ -264,7 +264,7 @@ module _ (relaxed : Bool) (routes : List ℕ) (n : ℕ) (fits : n ≤ mostOctets
     entries-left : entries (after h) ≡ left
     entries-left = encodes-entries ipv4 (after h) left (encodes-left .0)
 
-    stands-left : (k : List (List ℕ)) → standing (asksOf relaxed routes) (S.lastCounted keyOrder (entryKey ipv4) cost n (asksOf relaxed routes) k h) ≡ inForceAt h k
+    stands-left : (k : List (List ℕ)) → standing (asksOf relaxed routes) (S.lastCounted keyOrder (entryKey ipv4) cost n (asksOf relaxed routes) k h) ≡ inForceAfter relaxed routes h k
     stands-left k =
         ap (standing (asksOf relaxed routes)) (last-same relaxed routes n k h none (emptyTable n) [] (empty-encodes n fits) (long-empty n) can made)
         ∙ standing-is relaxed routes (lastCounted relaxed routes k h)
@@ -274,14 +274,14 @@ module _ (relaxed : Bool) (routes : List ℕ) (n : ℕ) (fits : n ≤ mostOctets
     history-sound = rw entries-left (encodes-left .0)
 
     -- **the table holds exactly what is in force**: an entry stands in it where it is what its rule's last counted call left in force
-    pub history-holds : (e : Entry) → List·Memᴰ e (entries (after h)) ↔ (inForceAt h (entryKey ipv4 e) ≡ some e)
+    pub history-holds : (e : Entry) → List·Memᴰ e (entries (after h)) ↔ (inForceAfter relaxed routes h (entryKey ipv4 e) ≡ some e)
     history-holds e =
         rw (entries-left, ← stands-left (entryKey ipv4 e))
         (run-holds keyOrder (entryKey ipv4) cost n (asksOf relaxed routes) key-order h e)
 
   -- **two histories** that leave the same in force for every rule end in equal octets
   pub histories-agree : (h g : List Made) → EachCanBe h → EachCanBe g → Happened relaxed routes (emptyTable n) h → Happened relaxed routes (emptyTable n) g
-      → ((k : List (List ℕ)) → inForceAt h k ≡ inForceAt g k) → after h ≡ after g
+      → ((k : List (List ℕ)) → inForceAfter relaxed routes h k ≡ inForceAfter relaxed routes g k) → after h ≡ after g
   histories-agree h g can also made too agree =
       let same = run-agree keyOrder (entryKey ipv4) cost n (asksOf relaxed routes) key-order h g
       (λ k. stands-left h can made k ∙ agree k ∙ sym (stands-left g also too k)) in

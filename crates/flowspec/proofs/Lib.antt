@@ -7,3 +7,4 @@ pub mod Unique
 pub mod Refusals
 pub mod Examples
 pub mod HistoryLaws
+pub mod AgreeLaws

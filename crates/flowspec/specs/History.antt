@@ -1,6 +1,7 @@
 -- Histories: calls that change one table, each with its answer and the octets it left. A rule is known by its key: two rules have one key
 -- exactly when their plain spellings are equal (crate order, KeyLaws: `keys-only` and `keys-same`).
 use Prim.Native.Nat.{ℕ}
+use mathlib.Core.Path.{_≡_}
 use mathlib.Core.Bool.{Bool, cond, _&&_}
 use mathlib.Core.List.{List, [], _∷_}
 use mathlib.Core.Option.{Option, none, some}
@@ -12,6 +13,8 @@ use Rattle.rule.specs.Family.{ipv4}
 use Rattle.rule.specs.Plain.{plain}
 use Rattle.rule.specs.Reading.{oneRule}
 use Rattle.order.specs.Key.{keysOf, keyOrder}
+use Rattle.action.specs.declared.Reading.{Reading as ActionsReading}
+use Rattle.action.specs.Actions.{actionsOf}
 use Rattle.entry.specs.Entry.{Entry, entryKey}
 use Rattle.flowspec.specs.declared.Change.{Change}
 use Rattle.flowspec.specs.declared.Request.{Request}
@@ -46,6 +49,20 @@ pub record Made : Type 0 where
   pub answer : Change
   pub left : List ℕ
 
+-- What two histories compare of a call: its kind and its answer and, of an announcement, the originator and the actions as read. The
+-- rule's spelling and the communities' octets are not compared.
+pub data Deed : Type 0 where
+  announced : Change → ℕ → ActionsReading → Deed
+  withdrew : Change → Deed
+
+abbrev pub deed : Call → Change → Deed
+deed (announcement rule originator communities) answer = announced answer originator (actionsOf communities)
+deed (withdrawal rule) answer = withdrew answer
+
+abbrev pub deedOf : Option Made → Option Deed
+deedOf none = none
+deedOf (some m) = some (deed (m .call) (m .answer))
+
 module _ (relaxed : Bool) (routes : List ℕ) where
   abbrev pub asks : Call → Op (List (List ℕ)) Entry
   asks (announcement rule originator communities) = asksToAnnounce rule originator (asked relaxed routes rule originator communities)
@@ -77,6 +94,14 @@ module _ (relaxed : Bool) (routes : List ℕ) where
   abbrev pub leavesInForce : Option Made → Option Entry
   leavesInForce none = none
   leavesInForce (some m) = inForce (asks (m .call))
+
+  -- What is in force for a rule after a history.
+  abbrev pub inForceAfter : List Made → List (List ℕ) → Option Entry
+  inForceAfter h k = leavesInForce (lastCounted k h)
+
+  -- Two histories agree on each rule's last counted call.
+  abbrev pub Agree : List Made → List Made → Type 0
+  Agree h g = (k : List (List ℕ)) → deedOf (lastCounted k h) ≡ deedOf (lastCounted k g)
 
 -- The table at the end of a history.
 abbrev pub endOf : List ℕ → List Made → List ℕ
