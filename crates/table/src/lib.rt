@@ -21,6 +21,9 @@ use octets::Order;
 use packet::Packet;
 use rule::Checked;
 
+// The octets a table's buffer has at most.
+pub const MOST_OCTETS: usize = 65536;
+
 // What stands at a place of a table: nothing more, a record with the place behind it, or neither.
 pub enum NextRecord {
     Nothing,
@@ -40,7 +43,7 @@ pub fn record_at(table: &[u8], at: usize) -> NextRecord
         }
         return NextRecord::Unsound;
     }
-    let cost = 32 + size;
+    let cost = entry::HEAD_COST + size;
     if table.len() - at < cost {
         return NextRecord::Unsound;
     }
@@ -88,7 +91,7 @@ pub fn find(table: &[u8], value: &[u8]) -> Place
                 return Place { start: at, end: at };
             }
             NextRecord::Record(behind) => {
-                let start = at + 32;
+                let start = at + entry::HEAD_COST;
                 match order::compare_plain(value, &table[start..behind]) {
                     Order::First => {
                         return Place { start: at, end: at };
@@ -113,7 +116,7 @@ fn judge_record(held: &[u8], packet: Packet) -> Hit
     requires { ⌜ headCost ≤ length (now held) ⌝ }
     ensures { λ r. ⌜ r ≡ hitOf (hit ipv4 packet (entryOf (now (held .entry)))) (entryOf (now (held .entry)) .actions) ⌝ }
 {
-    if !packet::matches_rule(rule::ipv4(), &held[32..], packet) {
+    if !packet::matches_rule(rule::ipv4(), &held[entry::HEAD_COST..], packet) {
         return Hit::Missed;
     }
     let actions = entry::record_actions(held);
@@ -182,7 +185,7 @@ pub fn first_place(table: &[u8], packet: Packet) -> Place
                 return Place { start: 0, end: 0 };
             }
             NextRecord::Record(next) => {
-                let start = at + 32;
+                let start = at + entry::HEAD_COST;
                 if packet::matches_rule(family, &table[start..next], packet) {
                     return Place {
                         start: at,
@@ -203,8 +206,8 @@ fn follows(table: &[u8], previous: usize, at: usize, next: usize) -> bool
     if at == 0 {
         return true;
     }
-    let start = previous + 32;
-    let begin = at + 32;
+    let start = previous + entry::HEAD_COST;
+    let begin = at + entry::HEAD_COST;
     match order::compare_plain(&table[start..at], &table[begin..next]) {
         Order::First => true,
         Order::Second => false,
@@ -216,7 +219,7 @@ fn follows(table: &[u8], previous: usize, at: usize, next: usize) -> bool
 pub fn sound_table(table: &[u8]) -> Soundness
     ensures { λ r. ⌜ r ≡ soundness ipv4 (now (table .entry)) ⌝ }
 {
-    if 65536 < table.len() {
+    if MOST_OCTETS < table.len() {
         return Soundness::Unsound;
     }
     let mut previous: usize = 0;
@@ -274,7 +277,7 @@ pub fn insert_rule(
     let start = place.start;
     let held = place.end - start;
     let others = used - held;
-    let size = 32 + value.len();
+    let size = entry::HEAD_COST + value.len();
     if table.len() < others + size {
         return false;
     }
