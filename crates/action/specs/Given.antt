@@ -20,6 +20,6 @@ smallerOf a b = cond (a .present) (cond (b .present && ltb (b .number) (a .numbe
 unfoldable pub firstOf : Given → Given → Given
 firstOf a b = cond (a .present) a b
 
--- Does a number that is there pass a test, and does a missing one stand as 0?
+-- A number that is there passes the test; one that is absent is 0.
 unfoldable pub allowed : Given → Bool → Bool
 allowed g passes = cond (g .present) passes (eqb (g .number) 0)

@@ -29,6 +29,7 @@ sameOctets [] (y ∷ ys) = false
 sameOctets (x ∷ xs) [] = false
 sameOctets (x ∷ xs) (y ∷ ys) = eqb x y && sameOctets xs ys
 
+-- Whether the check of a value ended in no refusal.
 abbrev pub isAccepted : Checked → Bool
 isAccepted Accepted = true
 isAccepted (Refused number place) = false

@@ -14,7 +14,7 @@ stored buffer at s = take at buffer ++ s ++ drop (at + length s) buffer
 unfoldable pub cleared : List ℕ → ℕ → List ℕ
 cleared buffer from = take from buffer ++ replicate (length buffer - from) 0
 
--- The buffer with all that follows the part moved down over it; the last octets, as many as the part had, stand twice.
+-- The buffer with all that follows the part moved down over it; the last `size` octets are left as they were.
 unfoldable pub movedDown : List ℕ → ℕ → ℕ → List ℕ
 movedDown buffer at size = take at buffer ++ (drop (at + size) buffer ++ drop (length buffer - size) buffer)
 
@@ -22,7 +22,7 @@ movedDown buffer at size = take at buffer ++ (drop (at + size) buffer ++ drop (l
 unfoldable pub cutOut : List ℕ → ℕ → ℕ → List ℕ
 cutOut buffer at size = take at buffer ++ (drop (at + size) buffer ++ replicate size 0)
 
--- The buffer with all from a place on moved up, so that its last octets fall off; in the gap stands what stood there.
+-- The buffer with all from a place on moved up, so that its last octets fall off; the gap's own octets are not yet changed.
 unfoldable pub gapOpened : List ℕ → ℕ → ℕ → List ℕ
 gapOpened buffer at size = take (at + size) buffer ++ take (length buffer - (at + size)) (drop at buffer)
 

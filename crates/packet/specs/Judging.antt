@@ -11,7 +11,8 @@ use Rattle.packet.specs.declared.Judged.{Judged}
 use Rattle.packet.specs.Bit.{has}
 use Rattle.packet.specs.Match.{holdsFor}
 
--- One pair further: a pair that AND joins goes with the present group, any other ends that group and begins the next.
+-- One pair further (`found`: an earlier group held; `group`: the present group holds so far): a pair that AND joins goes with the
+-- present group, any other ends that group and begins the next.
 abbrev pub withPair : Judged → Bool → Bool → Judged
 withPair judged joined holds =
     record {

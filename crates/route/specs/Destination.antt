@@ -9,7 +9,7 @@ use Rattle.rule.specs.Value.{Part, components}
 use Rattle.route.specs.declared.Destination.{Destination}
 use Rattle.route.specs.declared.Destination.the-variants.{Missing, At}
 
--- One component's say: a component of type 1 is the destination, and any other leaves it to the rest.
+-- The destination if this component is of type 1, else what the rest gives.
 unfoldable pub destinationFor : Family → Part → Destination → Destination
 destinationFor family p rest = cond (eqb (p .kind) 1) (At (prefixOf (family .width) (p .body))) rest
 

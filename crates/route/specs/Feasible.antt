@@ -41,7 +41,8 @@ undisputed w destination [] neighbour = true
 undisputed w destination (r ∷ routes) neighbour =
     (not (moreSpecific w destination r) || eqb (r .neighbour) neighbour) && undisputed w destination routes neighbour
 
--- There is a best match, it has the announcement's originator, and its neighbour AS stands the test for being alone.
+-- There is a best match, it has the announcement's originator, and no more specific route has another neighbour AS than it, which
+-- `alone` tests.
 unfoldable pub validated : BestMatch → ℕ → (ℕ → Bool) → Bool
 validated Nothing originator alone = false
 validated (Found best) originator alone = eqb (best .originator) originator && alone (best .neighbour)

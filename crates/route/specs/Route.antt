@@ -38,7 +38,8 @@ risesToNext [] = true
 risesToNext (r ∷ []) = true
 risesToNext (r ∷ s ∷ routes) = rises (r .prefix) (s .prefix)
 
--- Every prefix is plain, and the routes are strictly rising by address, then by length.
+-- The routes are strictly rising by address, then by length; it also tests that each prefix is no longer than the width and has no bit
+-- past its length.
 unfoldable pub rising : ℕ → List Route → Bool
 rising w [] = true
 rising w (r ∷ routes) = plainPrefix w (r .prefix) && (risesToNext (r ∷ routes) && rising w routes)

@@ -43,7 +43,8 @@ pairStep v at (More next) = more (pairOf v at next) next
 pairStep v at (Last next) = last (pairOf v at next) (At next)
 pairStep v at (RefusedPair number place) = stop (RefusedBody number place)
 
--- The pairs of a list from a place on, and where the list ends.
+-- The pairs of a list from a place on, and where the list ends; the ending for too few steps, `RefusedBody 6 (length v)`, is
+-- never reached: each step moves on, so length + 1 steps are enough.
 unfoldable pub pairsFrom : ℕ → List ℕ → ℕ → Walk Pair BodyEnd
 pairsFrom kind v at = walk (length v + 1) (RefusedBody 6 (length v)) (λ i. pairStep v i (pairAt kind v i)) at
 
@@ -60,6 +61,7 @@ prefixEnd family v at =
 unfoldable pub bodyEnd : Family → ℕ → List ℕ → ℕ → BodyEnd
 bodyEnd family kind v at = cond (isPrefix kind) (prefixEnd family v at) (pairsFrom kind v at .ending)
 
+-- What a body's end tells of its component: the type and the place behind the body, or the body's refusal.
 abbrev pub found : ℕ → BodyEnd → Next
 found kind (At next) = Component kind next
 found kind (RefusedBody number place) = Refused number place

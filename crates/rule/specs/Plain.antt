@@ -34,7 +34,8 @@ plainOperator kind x = cond (isBitmask kind) (bitAnd x 0xf3) (bitAnd x 0xf7)
 unfoldable pub plainOperand : ℕ → ℕ → ℕ
 plainOperand kind x = cond (eqb kind 11) (bitAnd x 0x3f) (cond (eqb kind 12) (bitAnd x 0x0f) x)
 
--- "prefix bits past the length": of the octet's eight bits the first `left` are kept, all of them where there are eight or more.
+-- "prefix bits past the length": of the octet's eight bits the first `left` are kept, all of them where there are eight or more; `left`
+-- is how many bits of the prefix are still to come, this octet's included.
 unfoldable pub plainAddress : ℕ → ℕ → ℕ
 plainAddress left x = x / 2 ^ (8 - left) * 2 ^ (8 - left)
 

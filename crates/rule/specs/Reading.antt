@@ -12,13 +12,15 @@ use Rattle.rule.specs.declared.Reading.{Reading}
 use Rattle.rule.specs.declared.Reading.the-variants.{Rule, Refused}
 use Rattle.rule.specs.Value.{between, checkValue}
 
--- 01: "first octet below 0xf0 is the length; otherwise the low four bits and the next octet give it".
+-- How many octets the length field has: one where the first octet is below 0xf0, otherwise two.
 unfoldable pub fieldSize : List ℕ → ℕ
 fieldSize s = cond (ltb (getD s 0 0) 0xf0) 1 2
 
+-- 01: "first octet below 0xf0 is the length; otherwise the low four bits and the next octet give it".
 unfoldable pub fieldLength : List ℕ → ℕ
 fieldLength s = cond (ltb (getD s 0 0) 0xf0) (getD s 0 0) (bitAnd (getD s 0 0) 0x0f * 256 + getD s 1 0)
 
+-- What is read once the value is checked: a rule, by where its value starts and its size, or the value's refusal.
 abbrev pub readAs : ℕ → ℕ → Checked → Reading
 readAs start size Accepted = Rule start size
 readAs start size (RefusedValue number place) = Refused number place
@@ -32,6 +34,7 @@ firstRule family s =
     (cond (ltb (length s - start) size) (Refused 1 0)
     (readAs start size (checkValue family (take size (drop start s)))))
 
+-- A rule that does not end where the `total` octets end is 15 instead, and a refusal stays as it is.
 abbrev pub alone : ℕ → Reading → Reading
 alone total (Rule start size) = cond (eqb (start + size) total) (Rule start size) (Refused 15 0)
 alone total (Refused number place) = Refused number place

@@ -37,7 +37,8 @@ componentStep v at Nothing = stop Accepted
 componentStep v at (Component kind next) = more (record { kind = kind; body = between v (at + 1) next }) (record { at = next; previous = kind })
 componentStep v at (RefusedNext number place) = stop (Refused number place)
 
--- The components of a value from a place on, and whether all of it is accepted.
+-- The components of a value from a place on, and whether all of it is accepted; the ending for too few steps,
+-- `Refused 6 (length v)`, is never reached: each step moves on, so length + 1 steps are enough.
 unfoldable pub componentsFrom : Family → List ℕ → Progress → Walk Part Checked
 componentsFrom family v p =
     walk (length v + 1) (Refused 6 (length v)) (λ (q : Progress). componentStep v (q .at) (componentAt family v (q .at) (q .previous))) p

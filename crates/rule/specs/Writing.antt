@@ -20,6 +20,7 @@ lengthField size = cond (ltb size 240) (size ∷ []) ((0xf0 + size / 256) ∷ si
 unfoldable pub ruleFor : List ℕ → List ℕ
 ruleFor v = lengthField (length v) ++ plain v
 
+-- What the writer answers once the value is checked: the rule's size, 16 where that is above `room`, or the value's refusal.
 abbrev pub intoRoom : List ℕ → ℕ → Checked → Writing
 intoRoom v room Accepted = cond (ltb room (length (ruleFor v))) (Refused 16 0) (Written (length (ruleFor v)))
 intoRoom v room (RefusedValue number place) = Refused number place
@@ -33,5 +34,6 @@ abbrev pub filled : List ℕ → List ℕ → Writing → List ℕ
 filled v buffer (Written n) = ruleFor v ++ drop n buffer
 filled v buffer (Refused number place) = buffer
 
+-- What the buffer holds after the writer's call for a value.
 unfoldable pub afterWriting : Family → List ℕ → List ℕ → List ℕ
 afterWriting family v buffer = filled v buffer (writing family v (length buffer))

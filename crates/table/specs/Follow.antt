@@ -17,7 +17,7 @@ pub record Adjacent (t : List ℕ) (previous at next : ℕ) : Type 0 where
   pub here : at + headCost ≤ next
   pub within : next ≤ length t
 
--- The value behind the place comes after the value before it; at octet 0 there is none before it.
+-- The record at `at` comes after the record at `previous` in precedence order; a record at octet 0 has none before it.
 unfoldable pub followsAt : List ℕ → ℕ → ℕ → ℕ → Bool
 followsAt t previous at next =
     cond (eqb at 0) true

@@ -14,7 +14,8 @@ use Rattle.table.specs.declared.NextRecord.the-variants.{Nothing, Record
 use Rattle.entry.specs.Entry.{Entry}
 use Rattle.entry.specs.Record.{headCost, entryOf}
 
--- What stands at a place: nothing more, where all octets from there on are zero; a record, with the place behind it; or neither.
+-- What stands at a place: nothing more, where all octets from there on are zero; a record, with the place behind it; or octets that are
+-- neither a record nor all zero.
 unfoldable pub recordAt : List ℕ → ℕ → NextRecord
 recordAt t at =
     let size = numberAt 2 t at in
