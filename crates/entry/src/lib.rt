@@ -48,7 +48,7 @@ fn flag_of(set: bool, value: u8) -> u8
 }
 
 // The flags of actions.
-fn flags_of(actions: Actions) -> u8
+pub fn flags_of(actions: Actions) -> u8
     ensures { λ r. ⌜ r ≡ flagsOf actions ⌝ }
 {
     let bytes = flag_of(actions.bytes.present, 1);

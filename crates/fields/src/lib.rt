@@ -1,0 +1,269 @@
+// Vectors as lines, for the programs that run them: a line is a call of the door, and its answer is a line of standard output. A line's
+// fields are parted by tabs: the call's name, then octets in hex, and from a `;` on a reason for the reader. Octets are parts joined by
+// `+`, and `00*3` is a part three times. An answer is what the call says in 01's terms: numbers in decimal and octets in hex, parted by
+// tabs. A line that has no call's name, as one that begins with `#`, is for the reader alone.
+ghost use mathlib.Core.Path.{_≡_};
+ghost use Prim.Native.Nat.{_+_, _<_, _≤_};
+ghost use lib.ListN.{length};
+ghost use Rattle.io.specs.Counts.{Counts};
+use action::Actions;
+use libc::STDOUT_FILENO;
+use octets::number_at;
+
+// How many octets the lines of a program may have together.
+pub const INPUT: usize = 1000000;
+
+// How many octets a field may hold.
+pub const FIELD: usize = 70000;
+
+// How many octets the fields of a line may hold together: those that a call only reads stand one behind another.
+pub const FIELDS: usize = 350000;
+
+// How many words a field may hold.
+pub const WORDS: usize = 17500;
+
+// ---- Lines ----
+
+// Where a mark first stands, or the end.
+fn place_of(mark: u8, s: &[u8]) -> usize
+    ensures { λ r. ⌜ Counts r (now (s .entry)) ⌝ }
+{
+    let mut at = 0;
+    while at < s.len() {
+        if s[at] == mark {
+            return at;
+        }
+        at += 1;
+    }
+    at
+}
+
+// The call in the line that begins at a place of the input: what the line has before its `;`.
+pub fn call_at(input: &[u8], at: usize) -> &[u8]
+    requires { ⌜ at ≤ length (now input) ⌝ }
+{
+    let rest = &input[at..];
+    let end = place_of(b'\n', rest);
+    let line = &rest[..end];
+    let stop = place_of(b';', line);
+    &line[..stop]
+}
+
+// Where the line behind the one that begins at a place of the input begins.
+pub fn line_after(input: &[u8], at: usize) -> usize
+    requires { ⌜ at ≤ length (now input) ⌝ }
+    ensures { λ r. ⌜ (at < r) × (r ≤ length (now (input .entry)) + 1) ⌝ }
+{
+    let end = at + place_of(b'\n', &input[at..]);
+    end + 1
+}
+
+// A call's name by its first two letters, as one number; a letter that it lacks counts as 0.
+pub fn name_of(call: &[u8]) -> u64 {
+    number_at(2, call, 0)
+}
+
+// ---- Fields ----
+
+// The lesser of two numbers.
+fn least(a: usize, b: usize) -> usize
+    ensures { λ r. ⌜ (r ≤ a) × (r ≤ b) ⌝ }
+{
+    if a < b {
+        return a;
+    }
+    b
+}
+
+// The field of a line behind so many tabs, empty where the line has fewer.
+fn field_of(line: &[u8], number: usize) -> &[u8] {
+    let mut at = 0;
+    let mut left = number;
+    while 0 < left {
+        let tab = at + place_of(b'\t', &line[at..]);
+        if line.len() <= tab {
+            return &line[..0];
+        }
+        at = tab + 1;
+        left -= 1;
+    }
+    let end = at + place_of(b'\t', &line[at..]);
+    &line[at..end]
+}
+
+// What a digit stands for, and 0 for any other sign.
+fn digit_of(sign: u8) -> u8
+    ensures { λ r. ⌜ r < 16 ⌝ }
+{
+    match sign {
+        b'0'..=b'9' => sign - b'0',
+        b'a'..=b'f' => sign - b'a' + 10,
+        _ => 0,
+    }
+}
+
+// How often a part is to stand: the number behind its star, and once where it has none.
+fn times_of(star: &[u8]) -> usize {
+    if star.len() == 0 {
+        return 1;
+    }
+    let mut times: usize = 0;
+    let mut i = 1;
+    while i < star.len() {
+        if FIELD < times {
+            return times;
+        }
+        let digit = digit_of(star[i]);
+        times = times * 10 + digit as usize;
+        i += 1;
+    }
+    times
+}
+
+// Fills the front of a room with the octets that digits spell, as far as it reaches: how many there are.
+fn put_digits(digits: &[u8], room: &mut [u8]) -> usize
+    ensures { λ r. ⌜ r ≤ length (now (room .entry)) ⌝ }
+{
+    let count = least(digits.len() / 2, room.len());
+    let mut i = 0;
+    while i < count {
+        let place = i * 2;
+        let next = place + 1;
+        let high = digit_of(digits[place]);
+        let low = digit_of(digits[next]);
+        room[i] = high * 16 + low;
+        i += 1;
+    }
+    count
+}
+
+// Fills the front of a room with a part, as often as it is to stand: how many octets there are.
+fn put_part(part: &[u8], room: &mut [u8]) -> usize
+    ensures { λ r. ⌜ r ≤ length (now (room .entry)) ⌝ }
+{
+    let star = place_of(b'*', part);
+    let digits = &part[..star];
+    let mut left = times_of(&part[star..]);
+    let mut at = 0;
+    while 0 < left {
+        let count = put_digits(digits, &mut room[at..]);
+        at += count;
+        left -= 1;
+    }
+    at
+}
+
+// Fills the front of a room with a field's octets: how many there are.
+fn put_field(field: &[u8], room: &mut [u8]) -> usize
+    ensures { λ r. ⌜ r ≤ length (now (room .entry)) ⌝ }
+{
+    let mut from = 0;
+    let mut at = 0;
+    while from < field.len() {
+        let end = from + place_of(b'+', &field[from..]);
+        let count = put_part(&field[from..end], &mut room[at..]);
+        at += count;
+        from = end + 1;
+    }
+    at
+}
+
+// Fills the front of a room with the octets of a line's field: how many there are.
+pub fn put_octets(line: &[u8], number: usize, room: &mut [u8]) -> usize
+    ensures { λ r. ⌜ Counts r (now (room .exit)) ⌝ }
+{
+    put_field(field_of(line, number), room)
+}
+
+// Where the second of two fields begins, which is where the first ends, and where it ends.
+pub struct Two {
+    pub middle: usize,
+    pub end: usize,
+}
+
+// Fills the front of a room with the octets of two fields, one behind the other.
+pub fn put_two(line: &[u8], first: usize, second: usize, room: &mut [u8]) -> Two
+    ensures { λ r. ⌜ (r .middle ≤ r .end) × (r .end ≤ length (now (room .exit))) ⌝ }
+{
+    let middle = put_octets(line, first, room);
+    let count = put_octets(line, second, &mut room[middle..]);
+    let end = middle + count;
+    Two { middle, end }
+}
+
+// The number in a line's field of four octets.
+pub fn number_of(line: &[u8], number: usize) -> u32 {
+    let mut room = [0u8; 4];
+    put_octets(line, number, &mut room);
+    number_at(4, &room, 0) as u32
+}
+
+// Fills the front of words with the numbers in octets, four each, as far as they reach: how many there are.
+fn fill_words(octets: &[u8], words: &mut [u32]) -> usize
+    ensures { λ r. ⌜ r ≤ length (now (words .entry)) ⌝ }
+{
+    let count = least(octets.len() / 4, words.len());
+    let mut i = 0;
+    while i < count {
+        let place = i * 4;
+        words[i] = number_at(4, octets, place) as u32;
+        i += 1;
+    }
+    count
+}
+
+// Fills the front of words with those of a line's field, whose octets a room holds meanwhile: how many there are.
+pub fn put_words(line: &[u8], number: usize, room: &mut [u8], words: &mut [u32]) -> usize
+    ensures { λ r. ⌜ Counts r (now (words .exit)) ⌝ }
+{
+    let end = put_octets(line, number, room);
+    fill_words(&room[..end], words)
+}
+
+// ---- Printing ----
+
+// Prints the first number of an answer.
+pub fn print_first(number: u64) {
+    io::print_decimal(STDOUT_FILENO, number);
+}
+
+// Prints one more number of an answer.
+pub fn print_number(number: u64) {
+    io::write_all(STDOUT_FILENO, b"\t");
+    io::print_decimal(STDOUT_FILENO, number);
+}
+
+// Prints a refusal's number and place; 0 and 0 where a call is done.
+pub fn print_refusal(number: u8, place: usize) {
+    print_first(number as u64);
+    print_number(place as u64);
+}
+
+// Prints an octet as two digits.
+fn print_octet(octet: u8) {
+    io::print_hex(STDOUT_FILENO, octet as u64, 2);
+}
+
+// Prints octets as one more field of an answer.
+pub fn print_octets(s: &[u8]) {
+    io::write_all(STDOUT_FILENO, b"\t");
+    let mut i = 0;
+    while i < s.len() {
+        print_octet(s[i]);
+        i += 1;
+    }
+}
+
+// Prints actions as a record has them: flags, DSCP, byte rate, packet rate and redirect.
+pub fn print_actions(actions: Actions) {
+    print_number(entry::flags_of(actions) as u64);
+    print_number(actions.marking.number);
+    print_number(actions.bytes.number);
+    print_number(actions.packets.number);
+    print_number(actions.redirect.number);
+}
+
+// Ends an answer.
+pub fn print_end() {
+    io::write_all(STDOUT_FILENO, b"\n");
+}
