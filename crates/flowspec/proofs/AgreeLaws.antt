@@ -1,18 +1,17 @@
 -- **Two histories** from equal empty tables that agree on each rule's last counted call, by its kind, answer, originator and actions as
 -- read, end in equal octets, and every packet has one verdict and one first match in both. Assumes nothing.
-use mathlib.Core.Path.{_≡_, refl, sym, ap, ap₂, subst, _∙_}
-use mathlib.Core.Bool.{Bool, true, false, cond, _&&_}
+use mathlib.Core.Path.{_≡_, refl, sym, ap, _∙_}
+use mathlib.Core.Bool.{Bool, true, false, cond}
 use mathlib.Core.List.{List, [], _∷_}
 use mathlib.Core.Option.{Option, none, some}
-use Prim.Native.Nat.{ℕ, _+_, _-_, _<_, _≤_, Ordering, Ordering·lt, Ordering·eq, Ordering·gt}
-use native.Mathlib.Omega.{arith}
+use Prim.Native.Nat.{ℕ, _-_, _≤_, Ordering, Ordering·lt, Ordering·eq, Ordering·gt}
 use lib.Dec.{leb, eqb, isEq}
-use lib.ListN.{length, take, drop}
+use lib.ListN.{length}
 use Rattle.octets.proofs.Cases.{by-test, apart}
 use Rattle.octets.proofs.Facts.{Octets}
 use Rattle.prefix.proofs.Bools.{both}
 use Rattle.sorted.specs.Table.{insert}
-use Rattle.sorted.specs.History.{Op, announce, costs, counts, inForce, isAbout, apply}
+use Rattle.sorted.specs.History.{announce, costs, counts, inForce, isAbout, apply}
 use Rattle.rule.specs.declared.Reading.{Reading}
 use Rattle.rule.specs.declared.Reading.the-variants.{Rule, Refused as NotRead}
 use Rattle.rule.specs.Family.{ipv4}
@@ -22,7 +21,6 @@ use Rattle.rule.proofs.ReadingLaws.{ReadRule, one-read}
 use Rattle.order.specs.Key.{keysOf, keyOrder}
 use Rattle.order.proofs.KeyLaws.{key-order, keys-only, keys-plain}
 use Rattle.route.specs.Route.{soundRoutes}
-use Rattle.action.specs.declared.Actions.{Actions}
 use Rattle.action.specs.declared.Reading.{Reading as ActionsReading}
 use Rattle.action.specs.declared.Reading.the-variants.{Read, Unsound}
 use Rattle.action.specs.Actions.{actionsOf}
@@ -35,7 +33,7 @@ use Rattle.flowspec.specs.declared.Request.the-variants.{Announce, Refus
 use Rattle.flowspec.specs.Announce.{valueOf, askedBy, asked}
 use Rattle.flowspec.specs.Told.{changeTold}
 use Rattle.flowspec.specs.Promise.{LooksUp, FirstMatches}
-use Rattle.flowspec.specs.History.{Call, announcement, withdrawal, Made, Deed, announced, withdrew, deed, deedOf, asksToAnnounce, asksToWithdraw, asks, Promised, Happened, isCounted, lastFrom, lastCounted, leavesInForce, inForceAfter, Agree, endOf, emptyTable}
+use Rattle.flowspec.specs.History.{Call, announcement, withdrawal, Made, deed, deedOf, asksToAnnounce, asksToWithdraw, asks, Happened, isCounted, lastFrom, lastCounted, leavesInForce, Agree, endOf, emptyTable}
 use Rattle.flowspec.proofs.HistoryLaws.{CanBe, EachCanBe, Same, octets-value, empty-encodes, long-empty, step, histories-agree}
 use Rattle.flowspec.proofs.Unique.{one-lookup, one-first-match}
 

@@ -2,20 +2,20 @@
 -- rule's last counted call left in force, once, in precedence order; so that two histories which leave the same in force end in equal
 -- octets, and judge every packet alike. A call that is answered 11 changes nothing and does not count, so that nothing is asked of those.
 use mathlib.Core.Path.{_≡_, refl, sym, ap, ap₂, subst, _∙_}
-use mathlib.Core.Bool.{Bool, true, false, cond, _&&_}
-use mathlib.Core.List.{List, [], _∷_, _++_, List·Memᴰ}
+use mathlib.Core.Bool.{Bool, true, false, cond}
+use mathlib.Core.List.{List, [], _∷_, List·Memᴰ}
 use mathlib.Core.Logic.{_↔_}
 use mathlib.Core.Option.{Option, none, some}
 use Prim.Native.Nat.{ℕ, _+_, _-_, _^_, _<_, _≤_}
 use native.Mathlib.Nat.{add-sub-cancel-left, sub-zero}
 use native.Mathlib.Omega.{arith}
 use lib.Dec.{leb}
-use lib.ListN.{length, take, drop, replicate, length-replicate}
+use lib.ListN.{length, length-replicate}
 use borrow.Author.Tests.{leb-true}
-use Rattle.octets.proofs.Cases.{by-test, apart}
+use Rattle.octets.proofs.Cases.{by-test}
 use Rattle.octets.proofs.Facts.{Octets}
 use Rattle.sorted.specs.Table.{lookup, insert, remove, Sorted}
-use Rattle.sorted.specs.History.{Op, refuse, announce, withdraw, costs, isHeld, counts, inForce, standing, isAbout, apply, run}
+use Rattle.sorted.specs.History.{Op, announce, withdraw, costs, isHeld, standing, apply, run}
 use Rattle.sorted.specs.History as S
 use Rattle.sorted.proofs.Cases.{by-order}
 use Rattle.sorted.proofs.TableLaws.{insert-sorted, remove-sorted}
@@ -25,30 +25,25 @@ use Rattle.rule.specs.declared.Reading.the-variants.{Rule, Refused as NotRead}
 use Rattle.rule.specs.Family.{ipv4}
 use Rattle.rule.specs.Plain.{plain}
 use Rattle.rule.specs.Reading.{oneRule}
-use Rattle.rule.specs.declared.Checked.the-variants.{Accepted}
-use Rattle.rule.specs.Value.{checkValue}
-use Rattle.rule.proofs.ReadingLaws.{ReadRule, one-read}
+use Rattle.rule.proofs.ReadingLaws.{one-read}
 use Rattle.rule.proofs.ClearedLaws.{plain-again}
 use Rattle.rule.proofs.SpellingLaws.{check-plain}
 use Rattle.route.specs.Route.{soundRoutes}
-use Rattle.action.specs.declared.Actions.{Actions}
 use Rattle.action.specs.declared.Reading.{Reading as ActionsReading}
 use Rattle.action.specs.declared.Reading.the-variants.{Read, Unsound}
 use Rattle.action.specs.Actions.{actionsOf}
-use Rattle.action.specs.Possible.{couldBe}
 use Rattle.action.proofs.PossibleLaws.{read-possible}
 use Rattle.order.specs.Key.{keysOf, keyOrder}
 use Rattle.order.proofs.KeyLaws.{key-order}
 use Rattle.entry.specs.Entry.{Entry, entryKey, possible}
 use Rattle.entry.proofs.ValueLaws.{holds as value-holds, make-possible}
 use Rattle.table.specs.Walk.{entries}
-use Rattle.table.specs.Sound.{cost, tableOf, joined, every, Encodes, soundTable, mostOctets}
+use Rattle.table.specs.Sound.{cost, tableOf, joined, every, Encodes, mostOctets}
 use Rattle.table.specs.Change.{holds, removed, hasRoom, inserted, announced, withdrawn}
 use Rattle.table.proofs.SpliceLaws.{length-table}
 use Rattle.table.proofs.EntryLaws.{every-both, octets-between}
 use Rattle.table.proofs.SoundLaws.{encodes-sound, encodes-entries}
 use Rattle.flowspec.specs.declared.Change.{Change}
-use Rattle.flowspec.specs.declared.Change.the-variants.{Done, Refused as NotChanged}
 use Rattle.flowspec.specs.declared.Request.{Request}
 use Rattle.flowspec.specs.declared.Request.the-variants.{Announce, Refused as NotAsked}
 use Rattle.flowspec.specs.Announce.{Outcome, changeOf, outcome, valueOf, askedBy, asked, announcedBy, announcing, withdrawnBy, withdrawing}
@@ -56,7 +51,7 @@ use Rattle.flowspec.specs.History.{Call, announcement, withdrawal, Made,
 use Rattle.flowspec.specs.Told.{changeTold}
 
 -- what holds of every entry and of a new one holds of every entry with it put in, and with one taken out
-every-insert : (test : Entry → Bool) (r : Entry) (es : List Entry) → test r ≡ true → every test es ≡ true
+pub every-insert : (test : Entry → Bool) (r : Entry) (es : List Entry) → test r ≡ true → every test es ≡ true
     → every test (insert keyOrder (entryKey ipv4) r es) ≡ true
 unfolding every
 every-insert test r [] n g = rw n
@@ -85,7 +80,7 @@ pub record Same (n : ℕ) (o : Outcome) (a : S.Outcome Entry) : Type 0 where
   pub long : length (o .table) ≡ n
 
 module _ (t : List ℕ) (es : List Entry) (c : Encodes ipv4 t es) where
-  encoding : (xs : List Entry) → costs cost xs ≤ length t → every (possible ipv4) xs ≡ true → Sorted keyOrder (entryKey ipv4) xs
+  pub encoding : (xs : List Entry) → costs cost xs ≤ length t → every (possible ipv4) xs ≡ true → Sorted keyOrder (entryKey ipv4) xs
       → Encodes ipv4 (tableOf (length t) xs) xs
   encoding xs room each rising =
       let long = length-table (length t) xs room in

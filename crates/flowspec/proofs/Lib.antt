@@ -8,3 +8,4 @@ pub mod Refusals
 pub mod Examples
 pub mod HistoryLaws
 pub mod AgreeLaws
+pub mod OperatorTheorems
