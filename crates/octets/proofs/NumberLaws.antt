@@ -1,5 +1,5 @@
 -- Numbers in octets: their size, one octet more, the first octet, that reading and writing a number are inverse to each other, and that
--- equal numbers have equal octets. Assumes nothing.
+-- equal numbers have equal octets and equal octets are equal numbers. Assumes nothing.
 use mathlib.Core.Path.{_≡_, refl, sym, ap, _∙_}
 use mathlib.Core.List.{List, [], _∷_, _++_, append-assoc}
 use Prim.Native.Nat.{ℕ, zero, suc, _+_, _-_, _*_, _/_, _%_, _<_, _≤_, _^_}
@@ -105,6 +105,10 @@ unfolding numberAt
 number-behind zero x s at = refl
 number-behind (suc n) x s at = let e : at + 1 + n ≡ suc (at + n) = omega arith in rw (number-behind n x s at, e)
 
+-- the number in an octet and those behind it
+pub first-octet : (n x : ℕ) (s : List ℕ) → numberAt (suc n) (x ∷ s) 0 ≡ x * 2 ^ (8 * n) + numberAt n s 0
+first-octet n x s = number-first n (x ∷ s) 0 ∙ rw (octets-bits n, number-behind n x s 0)
+
 -- where there are no octets the number is 0
 pub number-none : (n at : ℕ) → numberAt n [] at ≡ 0
 unfolding numberAt
@@ -123,3 +127,9 @@ number-only (suc n) s t at o p e i h =
       | yes l ↦ number-only n s t at o p (omega arith) i l
       | no l ↦ let q : i ≡ n = omega arith in rw q (omega arith)
     ]
+
+-- equal octets are equal numbers
+pub number-alike : (n : ℕ) (s t : List ℕ) (at : ℕ) → ((i : ℕ) → i < n → getD s (at + i) 0 ≡ getD t (at + i) 0) → numberAt n s at ≡ numberAt n t at
+unfolding numberAt
+number-alike zero s t at e = refl
+number-alike (suc n) s t at e = rw (number-alike n s t at (λ i h. e i (omega arith)), e n (omega arith))

@@ -14,7 +14,7 @@ use borrow.Author.Tests.{leb-true, leb-false, eqb-true, eqb-false}
 use Rattle.octets.specs.Number.{numberAt}
 use Rattle.octets.proofs.Cases.{by-test}
 use Rattle.octets.proofs.Facts.{Octets}
-use Rattle.octets.proofs.NumberLaws.{octets-bits, number-small, number-first, number-behind, number-none, number-only}
+use Rattle.octets.proofs.NumberLaws.{octets-bits, number-small, number-behind, first-octet, number-none, number-only}
 use Rattle.prefix.specs.declared.Prefix.{Prefix}
 use Rattle.prefix.specs.Prefix.{prefixOf, WellFormed}
 use Rattle.rule.specs.declared.Family.{Family}
@@ -23,14 +23,10 @@ use Rattle.rule.specs.declared.Expected.the-variants.{Kind, Length, Address}
 use Rattle.rule.specs.Operator.{isPrefix}
 use Rattle.rule.specs.Value.{Part, components}
 use Rattle.rule.specs.Plain.{bodyOf, after, cleared, plainAddress, plainFrom, plain}
-use Rattle.rule.proofs.PlainLaws.{length-plain-from}
+use Rattle.rule.proofs.PlainLaws.{length-plain-from, length-kept}
 use Rattle.rule.proofs.ClearedLaws.{octets-plain-from}
 use Rattle.rule.proofs.SpellingLaws.{plainPart, components-plain}
 use Rattle.rule.proofs.PartLaws.{Each, PrefixBody, SoundPart, each-sound, each-octets}
-
--- the number in an octet and those behind it
-first-octet : (n x : ℕ) (s : List ℕ) → numberAt (suc n) (x ∷ s) 0 ≡ x * 2 ^ (8 * n) + numberAt n s 0
-first-octet n x s = number-first n (x ∷ s) 0 ∙ rw (octets-bits n, number-behind n x s 0)
 
 -- no octets spell 0
 none-spelled : (n : ℕ) (e : Expected) (r : List ℕ) → length r ≡ 0 → numberAt n (plainFrom e r) 0 ≡ 0
@@ -73,12 +69,6 @@ address-clear (suc n) left (x ∷ r) some h l =
     (earlier-clear n left (plainAddress left x) (numberAt n (plainFrom (Address (left - 8)) r) 0) high h
     (address-clear n (left - 8) r (omega arith) (omega arith) (omega arith))))
 
--- the length octet is kept
-first-kept : (body : List ℕ) → getD (plainFrom Length body) 0 0 ≡ getD body 0 0
-unfolding plainFrom cleared
-first-kept [] = refl
-first-kept (x ∷ r) = refl
-
 prefix-clear : (n : ℕ) (body : List ℕ) → getD body 0 0 ≤ 8 * n → length body ≡ 1 + (getD body 0 0 + 7) / 8
     → numberAt n (plainFrom Length body) 1 % 2 ^ (8 * n - getD body 0 0) ≡ 0
 unfolding plainFrom after cleared
@@ -104,16 +94,16 @@ module _ (family : Family) (n : ℕ) (wide : family .width ≡ 8 * n) where
   eighth = omega arith
 
   plain-whole : (body : List ℕ) → PrefixBody family body → PrefixBody family (plainFrom Length body)
-  plain-whole body b = record { within = rw (first-kept body) (b .within); whole = rw (first-kept body, length-plain-from Length body) (b .whole) }
+  plain-whole body b = record { within = rw (length-kept body) (b .within); whole = rw (length-kept body, length-plain-from Length body) (b .whole) }
 
   plain-formed : (body : List ℕ) → Octets body → PrefixBody family body → WellFormed (family .width) (prefixOf (family .width) (plainFrom Length body))
   unfolding prefixOf
   plain-formed body o b =
       let within = b .within in
       record {
-        within = rw (first-kept body) within;
+        within = rw (length-kept body) within;
         fits = rw (eighth, wide, ← octets-bits n) (number-small n (plainFrom Length body) 1 (octets-plain-from Length body o));
-        clear = rw (eighth, first-kept body, wide) (prefix-clear n body (omega arith) (b .whole));
+        clear = rw (eighth, length-kept body, wide) (prefix-clear n body (omega arith) (b .whole));
       }
 
   plain-body : (p : Part) → SoundPart family p → Octets (p .body) → PlainBody family (plainPart p)

@@ -7,3 +7,4 @@ pub mod OperatorLaws
 pub mod PairListLaws
 pub mod ListLaws
 pub mod MatchLaws
+pub mod PlainLaws

@@ -16,6 +16,7 @@ use Rattle.rule.specs.declared.NextPair.the-variants.{More, Last, Refused as Re
 use Rattle.rule.specs.declared.BodyEnd.{BodyEnd}
 use Rattle.rule.specs.Operator.{endsList, sizeOf, isBitmask, sizeAllowed}
 use Rattle.rule.specs.Component.{pairAt, Pair, pairOf, pairsFrom}
+use Rattle.rule.specs.Plain.{plainOperand}
 use Rattle.rule.proofs.ComponentLaws.{more-within, last-within, pairs-more, pairs-last, pairs-refused}
 use Rattle.packet.specs.declared.Judged.{Judged}
 use Rattle.packet.specs.Bit.{has}
@@ -39,14 +40,15 @@ module _ (kind operator «data» : ℕ) where
     unfolding dataFor
     data-both h = rw (eq-eqb _ _ flags, ← is, ne-eqb _ _ h)
 
-  module _ (value judged : ℕ) (mask r : Bool) (is : judged ≡ dataFor kind operator «data») (says : mask ≡ isBitmask kind) where
-    pub holds-mask : mask ≡ true → r ≡ bitmaskHolds operator judged value → r ≡ holdsFor kind operator value «data»
+  module _ (value judged wanted : ℕ) (mask r : Bool) (is : judged ≡ dataFor kind operator «data») (asks : wanted ≡ plainOperand kind value)
+      (says : mask ≡ isBitmask kind) where
+    pub holds-mask : mask ≡ true → r ≡ bitmaskHolds operator judged wanted → r ≡ holdsFor kind operator value «data»
     unfolding holdsFor
-    holds-mask h e = rw (← says, h, ← is) e
+    holds-mask h e = rw (← says, h, ← is, ← asks) e
 
-    pub holds-number : mask ≡ false → r ≡ numericHolds operator judged value → r ≡ holdsFor kind operator value «data»
+    pub holds-number : mask ≡ false → r ≡ numericHolds operator judged wanted → r ≡ holdsFor kind operator value «data»
     unfolding holdsFor
-    holds-number h e = rw (← says, h, ← is) e
+    holds-number h e = rw (← says, h, ← is, ← asks) e
 
 -- the pair that `judge_pair` reads
 pub judged-pair : (v : List ℕ) (kind at «data» operator size value : ℕ) (holds : Bool) (judged r : Judged)

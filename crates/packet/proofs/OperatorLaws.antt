@@ -19,7 +19,7 @@ past k n h e = omega arith
 
 -- a numeric operator is the row of its low three bits
 module _ (operator «data» value : ℕ) (small : operator < 256) where
-  says : (k : ℕ) → bitAnd operator 7 ≡ k → numericHolds k «data» value ≡ numericHolds operator «data» value
+  pub says : (k : ℕ) → bitAnd operator 7 ≡ k → numericHolds k «data» value ≡ numericHolds operator «data» value
   unfolding numericHolds
   says k e =
       rw (
@@ -44,7 +44,7 @@ module _ (operator «data» value : ℕ) (small : operator < 256) where
 
 -- a bitmask operator is the row of its low two bits
 module _ (operator «data» value : ℕ) (small : operator < 256) where
-  tells : (k : ℕ) → bitAnd operator 3 ≡ k → bitmaskHolds k «data» value ≡ bitmaskHolds operator «data» value
+  pub tells : (k : ℕ) → bitAnd operator 3 ≡ k → bitmaskHolds k «data» value ≡ bitmaskHolds operator «data» value
   unfolding bitmaskHolds
   tells k e =
       rw (

@@ -18,6 +18,7 @@ use Rattle.rule.specs.declared.Family.{Family}
 use Rattle.rule.specs.Operator.{sizeOf, isBitmask}
 use Rattle.rule.specs.Component.{Pair}
 use Rattle.rule.specs.Value.{Part, components}
+use Rattle.rule.specs.Plain.{plainOperand}
 use Rattle.packet.specs.declared.Field.the-variants.{Hidden}
 use Rattle.packet.specs.declared.Transport.{Transport}
 use Rattle.packet.specs.declared.Packet.{Packet}
@@ -111,10 +112,10 @@ whole-data : (kind operator «data» : ℕ) → isBitmask kind ≡ false → dat
 unfolding dataFor isBitmask
 whole-data kind operator «data» numeric = by-test (eqb kind 9) (λ t. let z : true ≡ false = rw t at numeric in apart (cc)) (λ t. rw t)
 
--- a numeric list of one range, at least a and at most b, is that range
+-- a numeric list of one range, at least a and at most b, is that range; of a DSCP value the bits to be ignored are no matter
 pub one-range : (kind «data» : ℕ) (p q : Pair) → isBitmask kind ≡ false → p .operator < 256 → q .operator < 256
     → bitAnd (p .operator) 7 ≡ 3 → bitAnd (q .operator) 7 ≡ 5 → joins q ≡ true
-    → listHolds (pairHolds kind «data») (p ∷ q ∷ []) ≡ leb (p .value) «data» && leb «data» (q .value)
+    → listHolds (pairHolds kind «data») (p ∷ q ∷ []) ≡ leb (plainOperand kind (p .value)) «data» && leb «data» (plainOperand kind (q .value))
 unfolding holdsFor
 one-range kind «data» p q numeric small₁ small₂ least most and =
     from-first (pairHolds kind «data») p (q ∷ [])
@@ -123,8 +124,8 @@ one-range kind «data» p q numeric small₁ small₂ least most and =
       numeric,
       whole-data kind (p .operator) «data» numeric,
       whole-data kind (q .operator) «data» numeric,
-      ← numeric-row (p .operator) «data» (p .value) small₁ 3 refl least,
-      ← numeric-row (q .operator) «data» (q .value) small₂ 5 refl most,
+      ← numeric-row (p .operator) «data» (plainOperand kind (p .value)) small₁ 3 refl least,
+      ← numeric-row (q .operator) «data» (plainOperand kind (q .value)) small₂ 5 refl most,
     )
 
 -- of a number without its top bits the low octet is the number's own

@@ -10,6 +10,7 @@ use Rattle.rule.specs.declared.Family.{Family}
 use Rattle.rule.specs.Operator.{sizeOf, isBitmask}
 use Rattle.rule.specs.Component.{Pair, pairsFrom}
 use Rattle.rule.specs.Value.{Part, components}
+use Rattle.rule.specs.Plain.{plainOperand}
 use Rattle.packet.specs.declared.Field.{Field}
 use Rattle.packet.specs.declared.Field.the-variants.{Shown, Hidden}
 use Rattle.packet.specs.declared.Packet.{Packet}
@@ -21,10 +22,13 @@ use Rattle.packet.specs.PairList.{all, listHolds}
 unfoldable pub dataFor : ℕ → ℕ → ℕ → ℕ
 dataFor kind operator «data» = cond (eqb kind 9) (cond (eqb (sizeOf operator) 1) (bitAnd «data» 0xff) «data») «data»
 
--- Whether a pair in a list of the given type holds of the data.
+-- Whether a pair in a list of the given type holds of the data. Sections 4.2.2.11 and 4.2.2.12: the bits of a DSCP or fragment value
+-- that are to be ignored, those that the plain spelling clears, count as 0.
 unfoldable pub holdsFor : ℕ → ℕ → ℕ → ℕ → Bool
 holdsFor kind operator value «data» =
-    cond (isBitmask kind) (bitmaskHolds operator (dataFor kind operator «data») value) (numericHolds operator (dataFor kind operator «data») value)
+    let judged = dataFor kind operator «data» in
+    let wanted = plainOperand kind value in
+    cond (isBitmask kind) (bitmaskHolds operator judged wanted) (numericHolds operator judged wanted)
 
 -- The same of a pair.
 abbrev pub pairHolds : ℕ → ℕ → Pair → Bool

@@ -1,11 +1,11 @@
 -- What clearing the ignored bits of an octet keeps: an operator's size and end, what is expected next, what is cleared already, and that
 -- it is an octet. The masks are computed at all 256 octets. Assumes nothing.
-use mathlib.Core.Path.{_≡_, refl, ap}
+use mathlib.Core.Path.{_≡_, refl, ap, _∙_}
 use mathlib.Core.Bool.{Bool, true, false, cond, Bool·beq}
 use mathlib.Core.List.{List, [], _∷_}
 use Prim.Native.Nat.{ℕ, zero, suc, _/_, _-_, _^_, _<_}
 use native.Mathlib.Omega.{arith}
-use lib.Bits.{bitAnd, and-le-l}
+use lib.Bits.{bitAnd, and-le-l, and-mask}
 use lib.Dec.{ltb, eqb}
 use lib.Pow.{shl-shr, split}
 use borrow.Author.Tests.{ltb-true}
@@ -46,11 +46,11 @@ module _ (kind : ℕ) (first : Bool) (x : ℕ) (small : x < 256) where
       octet (λ y. cleared (Operator kind first) (cleared (Operator kind first) y)) (cleared (Operator kind first))
       (masked (λ f. allBelow 256 (λ y. eqb (f (f y)) (f y)) ≡ true) refl refl refl refl kind first) x small
 
-operand-again : (kind x : ℕ) → x < 256 → plainOperand kind (plainOperand kind x) ≡ plainOperand kind x
+pub operand-again : (kind x : ℕ) → plainOperand kind (plainOperand kind x) ≡ plainOperand kind x
 unfolding plainOperand
-operand-again kind x small =
-    by-test (eqb kind 11) (λ t. rw t (octet (λ y. bitAnd (bitAnd y 0x3f) 0x3f) (λ y. bitAnd y 0x3f) refl x small))
-    (λ t. by-test (eqb kind 12) (λ u. rw (t, u) (octet (λ y. bitAnd (bitAnd y 0x0f) 0x0f) (λ y. bitAnd y 0x0f) refl x small)) (λ u. rw (t, u)))
+operand-again kind x =
+    by-test (eqb kind 11) (λ t. rw t (and-mask (bitAnd x 0x3f) 6 ∙ rw (and-mask x 6) (omega arith)))
+    (λ t. by-test (eqb kind 12) (λ u. rw (t, u) (and-mask (bitAnd x 0x0f) 4 ∙ rw (and-mask x 4) (omega arith))) (λ u. rw (t, u)))
 
 address-again : (left x : ℕ) → plainAddress left (plainAddress left x) ≡ plainAddress left x
 unfolding plainAddress
@@ -63,7 +63,7 @@ cleared-again Kind x h = refl
 cleared-again Length x h = refl
 cleared-again (Address left) x h = address-again left x
 cleared-again (Operator kind first) x h = operator-again kind first x h
-cleared-again (Operand kind left last) x h = operand-again kind x h
+cleared-again (Operand kind left last) x h = operand-again kind x
 
 -- what is expected next does not hang on ignored bits
 pub after-cleared : (e : Expected) (x : ℕ) → x < 256 → after e (cleared e x) ≡ after e x
@@ -98,7 +98,7 @@ operand-small kind x h =
     (λ t. by-test (eqb kind 12) (λ u. rw (t, u) (omega (arith, and-le-l x 0x0f))) (λ u. rw (t, u) h))
 
 -- an octet that is cleared is an octet
-cleared-small : (e : Expected) (x : ℕ) → x < 256 → cleared e x < 256
+pub cleared-small : (e : Expected) (x : ℕ) → x < 256 → cleared e x < 256
 unfolding cleared plainAddress
 cleared-small Kind x h = h
 cleared-small Length x h = h

@@ -40,6 +40,12 @@ pub length-plain : (v : List ℕ) → length (plain v) ≡ length v
 unfolding plain
 length-plain v = length-plain-from Kind v
 
+-- a prefix's length octet is kept
+pub length-kept : (body : List ℕ) → getD (plainFrom Length body) 0 0 ≡ getD body 0 0
+unfolding plainFrom cleared
+length-kept [] = refl
+length-kept (x ∷ r) = refl
+
 -- how `expected_after` comes to each of its answers
 module _ (e : Expected) (x : ℕ) where
   pub after-kind : (r : Expected) → e ≡ Kind → r ≡ bodyOf x → r ≡ after e x

@@ -1,19 +1,21 @@
--- The plain spelling is read as the value is: the cursor finds the same components at the same places, each with its plain body, and
--- a value is accepted or refused as its plain spelling is. Assumes nothing.
+-- The plain spelling is read as the value is: the cursor finds the same components at the same places, each with its plain body, in a
+-- list the same pairs, each plain, and a value is accepted or refused as its plain spelling is. Assumes nothing.
 use mathlib.Core.Path.{_≡_, refl, sym, ap, ap₂, subst, _∙_}
 use mathlib.Core.Bool.{Bool, true, false, cond}
 use mathlib.Core.List.{List, [], _∷_, map}
 use Prim.Native.Nat.{ℕ, zero, suc, _+_, _-_, _/_, _<_, _≤_}
 use native.Mathlib.Omega.{arith}
 use native.Mathlib.Numerals.{add-one}
-use native.Mathlib.Nat.{add-zero, sub-zero}
+use native.Mathlib.Nat.{add-zero}
 use lib.Dec.{leb, ltb, eqb}
 use lib.ListN.{length, getD, take, drop}
 use lib.Seq.{drop-cons, drop-drop, getD-drop}
-use borrow.Author.Tests.{lt-ltb, le-ltb, le-leb, lt-leb, eq-eqb, ne-eqb, leb-false, leb-true, ltb-true, ltb-false, eqb-true, eqb-false}
+use borrow.Author.Tests.{lt-ltb, leb-false, leb-true, ltb-true, ltb-false, eqb-true, eqb-false}
+use Rattle.octets.specs.Number.{numberAt}
 use Rattle.octets.specs.Walk.{Walk, before}
-use Rattle.octets.proofs.Cases.{by-test, apart}
+use Rattle.octets.proofs.Cases.{by-test}
 use Rattle.octets.proofs.Facts.{Octets}
+use Rattle.octets.proofs.NumberLaws.{number-alike}
 use Rattle.rule.specs.declared.Family.{Family}
 use Rattle.rule.specs.declared.Expected.{Expected}
 use Rattle.rule.specs.declared.Expected.the-variants.{Kind, Length, Address, Operator, Operand}
@@ -24,48 +26,52 @@ use Rattle.rule.specs.declared.BodyEnd.the-variants.{At, Refused as Refu
 use Rattle.rule.specs.declared.Next.{Next}
 use Rattle.rule.specs.declared.Next.the-variants.{Nothing, Component, Refused as RefusedNext}
 use Rattle.rule.specs.declared.Checked.{Checked}
-use Rattle.rule.specs.declared.Checked.the-variants.{Accepted, Refused}
 use Rattle.rule.specs.Operator.{endsList, sizeOf, isPrefix, sizeAllowed}
 use Rattle.rule.specs.Component.{pairAt, Pair, pairOf, pairsFrom, prefixEnd, bodyEnd, found, componentAt}
-use Rattle.rule.specs.Value.{Part, between, Progress, componentsFrom, components, checkValue}
-use Rattle.rule.specs.Plain.{bodyOf, operandAfter, after, cleared, plainFrom, plain}
+use Rattle.rule.specs.Value.{Part, between, componentsFrom, components, checkValue}
+use Rattle.rule.specs.Plain.{bodyOf, operandAfter, after, plainOperand, cleared, plainFrom, plain}
 use Rattle.rule.proofs.OperatorLaws.{size-positive}
-use Rattle.rule.proofs.ComponentLaws.{Within, pairs-more, pairs-last, pairs-refused, pairs-ind, more-within, last-within}
-use Rattle.rule.proofs.ValueLaws.{Found, was-found, components-more, components-none, components-refused, components-ind}
-use Rattle.rule.proofs.PlainLaws.{length-plain}
+use Rattle.rule.proofs.ComponentLaws.{pairs-more, pairs-last, pairs-refused, pairs-ind}
+use Rattle.rule.proofs.ValueLaws.{was-found, components-more, components-none, components-refused, components-ind}
+use Rattle.rule.proofs.PlainLaws.{length-plain-from}
 use Rattle.rule.proofs.ClearedLaws.{size-kept, end-kept}
 
--- the octet at a place is as expected: from there on the spelling is that of what is left
-Expects : List ℕ → ℕ → Expected → Type 0
-Expects v i e = drop i (plain v) ≡ plainFrom e (drop i v)
+-- the number in one octet
+number-one : (s : List ℕ) (i : ℕ) → numberAt 1 s i ≡ getD s (i + 0) 0
+unfolding numberAt
+number-one s i = omega arith
 
-module _ (v : List ℕ) where
-  starts : Expects v 0 Kind
-  unfolding Expects plain
+-- the octet at a place is as expected, where the first is as `start` says: from there on the spelling is that of what is left
+Expects : Expected → List ℕ → ℕ → Expected → Type 0
+Expects start v i e = drop i (plainFrom start v) ≡ plainFrom e (drop i v)
+
+module _ (start : Expected) (v : List ℕ) where
+  starts : Expects start v 0 start
+  unfolding Expects
   starts = refl
 
   -- the octet there, cleared, and what is expected behind it
-  octet-there : (i : ℕ) (e : Expected) → Expects v i e → i < length v → getD (plain v) i 0 ≡ cleared e (getD v i 0)
+  octet-there : (i : ℕ) (e : Expected) → Expects start v i e → i < length v → getD (plainFrom start v) i 0 ≡ cleared e (getD v i 0)
   unfolding Expects plainFrom
   octet-there i e x h =
-      let p : getD (drop i (plain v)) 0 0 ≡ cleared e (getD v i 0) = rw (x, drop-cons v i 0 h) in
-      sym (getD-drop i (plain v) 0 0 ∙ ap (λ n. getD (plain v) n 0) (add-zero i)) ∙ p
+      let p : getD (drop i (plainFrom start v)) 0 0 ≡ cleared e (getD v i 0) = rw (x, drop-cons v i 0 h) in
+      sym (getD-drop i (plainFrom start v) 0 0 ∙ ap (λ n. getD (plainFrom start v) n 0) (add-zero i)) ∙ p
 
-  goes-on : (i : ℕ) (e : Expected) → Expects v i e → i < length v → Expects v (i + 1) (after e (getD v i 0))
+  goes-on : (i : ℕ) (e : Expected) → Expects start v i e → i < length v → Expects start v (i + 1) (after e (getD v i 0))
   unfolding Expects plainFrom
-  goes-on i e x h = sym (drop-drop 1 i (plain v)) ∙ rw (x, drop-cons v i 0 h, add-one)
+  goes-on i e x h = sym (drop-drop 1 i (plainFrom start v)) ∙ rw (x, drop-cons v i 0 h, add-one)
 
   -- behind a value of n octets stands the next operator, or after the last pair a type
-  value-passed : (n i kind : ℕ) (last : Bool) → Expects v i (Operand kind n last) → 1 ≤ n → i + n ≤ length v
-      → Expects v (i + n) (cond last Kind (Operator kind false))
+  value-passed : (n i kind : ℕ) (last : Bool) → Expects start v i (Operand kind n last) → 1 ≤ n → i + n ≤ length v
+      → Expects start v (i + n) (cond last Kind (Operator kind false))
   unfolding after operandAfter
   value-passed zero i kind last x h k = absurd (omega arith)
   value-passed (suc n) i kind last x h k =
       let next = goes-on i (Operand kind (suc n) last) x (omega arith) in
       go (value-passed n (i + 1) kind last) (ltb 1 (suc n)) refl next
     where
-      go : (Expects v (i + 1) (Operand kind n last) → 1 ≤ n → i + 1 + n ≤ length v → Expects v (i + 1 + n) (cond last Kind (Operator kind false)))
-          → (t : Bool) → ltb 1 (suc n) ≡ t → Expects v (i + 1) (operandAfter kind (suc n) last) → Expects v (i + suc n) (cond last Kind (Operator kind false))
+      go : (Expects start v (i + 1) (Operand kind n last) → 1 ≤ n → i + 1 + n ≤ length v → Expects start v (i + 1 + n) (cond last Kind (Operator kind false)))
+          → (t : Bool) → ltb 1 (suc n) ≡ t → Expects start v (i + 1) (operandAfter kind (suc n) last) → Expects start v (i + suc n) (cond last Kind (Operator kind false))
       go ih true t y =
           let m : suc n - 1 ≡ n = omega arith in
           let e : i + 1 + n ≡ i + suc n = omega arith in
@@ -76,25 +82,64 @@ module _ (v : List ℕ) where
           let e : i + 1 ≡ i + suc n = omega arith in
           rw (← e) (rw t at y)
 
--- what is expected behind a pair, and at the end of a body
-PairExpects : List ℕ → ℕ → NextPair → Type 0
-PairExpects v kind (More next) = Expects v next (Operator kind false)
-PairExpects v kind (Last next) = Expects v next Kind
-PairExpects v kind (RefusedPair number place) = Unit {0}
+  -- the octets of a value, cleared one by one
+  value-octets : (j n i kind : ℕ) (last : Bool) → Expects start v i (Operand kind n last) → i + n ≤ length v → j < n
+      → getD (plainFrom start v) (i + j) 0 ≡ plainOperand kind (getD v (i + j) 0)
+  unfolding after operandAfter cleared
+  value-octets zero n i kind last x h k = rw (add-zero i) (octet-there i (Operand kind n last) x (omega arith))
+  value-octets (suc j) n i kind last x h k =
+      let e : i + 1 + j ≡ i + suc j = omega arith in
+      let next = goes-on i (Operand kind n last) x (omega arith) in
+      rw (← e) (value-octets j (n - 1) (i + 1) kind last (rw (lt-ltb 1 n (omega arith)) at next) (omega arith) (omega arith))
 
-EndExpects : List ℕ → BodyEnd → Type 0
-EndExpects v (At next) = Expects v next Kind
-EndExpects v (RefusedBody number place) = Unit {0}
+  -- so is the number that they are: a type that clears bits has values of one octet
+  value-cleared : (n i kind : ℕ) (last : Bool) → Expects start v i (Operand kind n last) → i + n ≤ length v → sizeAllowed kind n ≡ true
+      → numberAt n (plainFrom start v) i ≡ plainOperand kind (numberAt n v i)
+  unfolding sizeAllowed plainOperand
+  value-cleared n i kind last x h allowed =
+      let octets : (j : ℕ) → j < n → getD (plainFrom start v) (i + j) 0 ≡ plainOperand kind (getD v (i + j) 0)
+      = λ j k. value-octets j n i kind last x h k in
+      by-test (eqb kind 11) (λ t. let e = eqb-true kind 11 t in one-octet n i kind (eqb-true n 1 (rw e at allowed)) octets)
+      (λ t. by-test (eqb kind 12) (λ u. let e = eqb-true kind 12 u in one-octet n i kind (eqb-true n 1 (rw e at allowed)) octets)
+      (λ u. rw (t, u) (number-alike n (plainFrom start v) v i (λ j k. rw (t, u) at (octets j k)))))
+    where
+      one-octet : (n i kind : ℕ) → n ≡ 1 → ((j : ℕ) → j < n → getD (plainFrom start v) (i + j) 0 ≡ plainOperand kind (getD v (i + j) 0))
+          → numberAt n (plainFrom start v) i ≡ plainOperand kind (numberAt n v i)
+      one-octet n i kind e octets = rw (e, number-one (plainFrom start v) i, number-one v i) (octets 0 (omega arith))
 
-module _ (v : List ℕ) (o : Octets v) (kind : ℕ) where
-  pair-same : (at : ℕ) (first : Bool) → Expects v at (Operator kind first) → pairAt kind (plain v) at ≡ pairAt kind v at
+-- a pair in the plain spelling, and a list of them: only the first operator loses its AND
+abbrev pub plainPair : ℕ → Bool → Pair → Pair
+plainPair kind first p = record { operator = cleared (Operator kind first) (p .operator); value = plainOperand kind (p .value) }
+
+abbrev pub plainPairs : ℕ → Bool → List Pair → List Pair
+plainPairs kind first [] = []
+plainPairs kind first (p ∷ ps) = plainPair kind first p ∷ plainPairs kind false ps
+
+abbrev plainList : ℕ → Bool → Walk Pair BodyEnd → Walk Pair BodyEnd
+plainList kind first w = record { items = plainPairs kind first (w .items); ending = w .ending }
+
+-- what a pair is in the plain spelling, and what is expected behind it
+PairExpects : Expected → List ℕ → ℕ → Bool → ℕ → NextPair → Type 0
+PairExpects start v kind first at (More next) =
+    (pairOf (plainFrom start v) at next ≡ plainPair kind first (pairOf v at next)) × Expects start v next (Operator kind false)
+PairExpects start v kind first at (Last next) =
+    (pairOf (plainFrom start v) at next ≡ plainPair kind first (pairOf v at next)) × Expects start v next Kind
+PairExpects start v kind first at (RefusedPair number place) = Unit {0}
+
+-- what is expected at the end of a body
+EndExpects : Expected → List ℕ → BodyEnd → Type 0
+EndExpects start v (At next) = Expects start v next Kind
+EndExpects start v (RefusedBody number place) = Unit {0}
+
+module _ (start : Expected) (v : List ℕ) (o : Octets v) (kind : ℕ) where
+  pair-same : (at : ℕ) (first : Bool) → Expects start v at (Operator kind first) → pairAt kind (plainFrom start v) at ≡ pairAt kind v at
   unfolding pairAt
   pair-same at first x =
-      by-test (leb (length v) at) (λ t. rw (length-plain v, t))
+      by-test (leb (length v) at) (λ t. rw (length-plain-from start v, t))
       (λ t. let h = leb-false (length v) at t in
-      rw (length-plain v, octet-there v at (Operator kind first) x h, size-kept kind first (getD v at 0) (o at), end-kept kind first (getD v at 0) (o at)))
+      rw (length-plain-from start v, octet-there start v at (Operator kind first) x h, size-kept kind first (getD v at 0) (o at), end-kept kind first (getD v at 0) (o at)))
 
-  pair-then : (at : ℕ) (first : Bool) → Expects v at (Operator kind first) → PairExpects v kind (pairAt kind v at)
+  pair-then : (at : ℕ) (first : Bool) → Expects start v at (Operator kind first) → PairExpects start v kind first at (pairAt kind v at)
   unfolding pairAt PairExpects after
   pair-then at first x =
       let operator = getD v at 0 in
@@ -106,48 +151,54 @@ module _ (v : List ℕ) (o : Octets v) (kind : ℕ) where
       let fits = ltb-false (length v - (at + 1)) (sizeOf operator) w in
       let some = size-positive operator (o at) in
       let behind = behind-operator inside in
+      let same = same-pair inside (value-cleared start v (sizeOf operator) (at + 1) kind (endsList operator) behind (omega arith) u) in
       by-test (endsList operator)
-      (λ y. rw (t, u, w, y) (rw y at (value-passed v (sizeOf operator) (at + 1) kind (endsList operator) behind some (omega arith))))
-      (λ y. rw (t, u, w, y) (rw y at (value-passed v (sizeOf operator) (at + 1) kind (endsList operator) behind some (omega arith))))))
+      (λ y. rw (t, u, w, y) (same, rw y at (value-passed start v (sizeOf operator) (at + 1) kind (endsList operator) behind some (omega arith))))
+      (λ y. rw (t, u, w, y) (same, rw y at (value-passed start v (sizeOf operator) (at + 1) kind (endsList operator) behind some (omega arith))))))
       (λ u. rw (t, u) tt))
     where
-      behind-operator : at < length v → Expects v (at + 1) (Operand kind (sizeOf (getD v at 0)) (endsList (getD v at 0)))
-      behind-operator h = goes-on v at (Operator kind first) x h
+      same-pair : at < length v → numberAt (sizeOf (getD v at 0)) (plainFrom start v) (at + 1) ≡ plainOperand kind (numberAt (sizeOf (getD v at 0)) v (at + 1))
+          → pairOf (plainFrom start v) at (at + 1 + sizeOf (getD v at 0)) ≡ plainPair kind first (pairOf v at (at + 1 + sizeOf (getD v at 0)))
+      same-pair h e =
+          let size : at + 1 + sizeOf (getD v at 0) - (at + 1) ≡ sizeOf (getD v at 0) = omega arith in
+          rw size (λ i. record { operator = octet-there start v at (Operator kind first) x h i; value = e i })
 
-  -- a list is read the same in the plain spelling, and a type is expected behind it
+      behind-operator : at < length v → Expects start v (at + 1) (Operand kind (sizeOf (getD v at 0)) (endsList (getD v at 0)))
+      behind-operator h = goes-on start v at (Operator kind first) x h
+
+  -- a list in the plain spelling is the list of its pairs in the plain spelling, and a type is expected behind it
   ListSame : ℕ → Walk Pair BodyEnd → Type 0
-  ListSame at w = (first : Bool) → Expects v at (Operator kind first) → (pairsFrom kind (plain v) at .ending ≡ w .ending) × EndExpects v (w .ending)
+  ListSame at w = (first : Bool) → Expects start v at (Operator kind first)
+      → (pairsFrom kind (plainFrom start v) at ≡ plainList kind first w) × EndExpects start v (w .ending)
 
   list-same : (at : ℕ) → ListSame at (pairsFrom kind v at)
   unfolding ListSame EndExpects PairExpects
   list-same =
       pairs-ind kind v ListSame
-      (λ at number place e first x. (ap how (pairs-refused kind (plain v) at number place (pair-same at first x ∙ e)), tt))
-      (λ at next e first x. (ap how (pairs-last kind (plain v) at next (pair-same at first x ∙ e)), behind at next e (pair-then at first x)))
+      (λ at number place e first x. (pairs-refused kind (plainFrom start v) at number place (pair-same at first x ∙ e), tt))
+      (λ at next e first x.
+      let here = at-pair at first (Last next) e x in
+      (pairs-last kind (plainFrom start v) at next (pair-same at first x ∙ e) ∙ ap (λ (p : Pair). record { items = p ∷ []; ending = At next }) (here .0), here .1))
       (λ at next w e h first x.
-      let rest = h false (more-behind at next e (pair-then at first x)) in
-      (ap how (pairs-more kind (plain v) at next (pair-same at first x ∙ e)) ∙ rest .0, rest .1))
+      let here = at-pair at first (More next) e x in
+      let rest = h false (here .1) in
+      (pairs-more kind (plainFrom start v) at next (pair-same at first x ∙ e) ∙ ap₂ before (here .0) (rest .0), rest .1))
     where
-      how : Walk Pair BodyEnd → BodyEnd
-      how w = w .ending
+      at-pair : (at : ℕ) (first : Bool) (pair : NextPair) → pairAt kind v at ≡ pair → Expects start v at (Operator kind first)
+          → PairExpects start v kind first at pair
+      at-pair at first pair e x = subst (PairExpects start v kind first at) e (pair-then at first x)
 
-      behind : (at next : ℕ) → pairAt kind v at ≡ Last next → PairExpects v kind (pairAt kind v at) → Expects v next Kind
-      behind at next e x = subst (PairExpects v kind) e x
-
-      more-behind : (at next : ℕ) → pairAt kind v at ≡ More next → PairExpects v kind (pairAt kind v at) → Expects v next (Operator kind false)
-      more-behind at next e x = subst (PairExpects v kind) e x
-
-module _ (v : List ℕ) where
+module _ (start : Expected) (v : List ℕ) where
   -- behind the octets of a prefix stands a type
-  prefix-passed : (m left i : ℕ) → left ≤ m → Expects v i (Address left) → 1 ≤ left → i + (left + 7) / 8 ≤ length v → Expects v (i + (left + 7) / 8) Kind
+  prefix-passed : (m left i : ℕ) → left ≤ m → Expects start v i (Address left) → 1 ≤ left → i + (left + 7) / 8 ≤ length v → Expects start v (i + (left + 7) / 8) Kind
   unfolding after
   prefix-passed zero left i b x h k = absurd (omega arith)
   prefix-passed (suc m) left i b x h k =
-      go (prefix-passed m (left - 8) (i + 1)) (leb left 8) refl (goes-on v i (Address left) x (omega arith))
+      go (prefix-passed m (left - 8) (i + 1)) (leb left 8) refl (goes-on start v i (Address left) x (omega arith))
     where
-      go : (left - 8 ≤ m → Expects v (i + 1) (Address (left - 8)) → 1 ≤ left - 8 → i + 1 + (left - 8 + 7) / 8 ≤ length v
-          → Expects v (i + 1 + (left - 8 + 7) / 8) Kind) → (t : Bool) → leb left 8 ≡ t → Expects v (i + 1) (cond (leb left 8) Kind (Address (left - 8)))
-          → Expects v (i + (left + 7) / 8) Kind
+      go : (left - 8 ≤ m → Expects start v (i + 1) (Address (left - 8)) → 1 ≤ left - 8 → i + 1 + (left - 8 + 7) / 8 ≤ length v
+          → Expects start v (i + 1 + (left - 8 + 7) / 8) Kind) → (t : Bool) → leb left 8 ≡ t → Expects start v (i + 1) (cond (leb left 8) Kind (Address (left - 8)))
+          → Expects start v (i + (left + 7) / 8) Kind
       go ih true t y =
           let z = leb-true left 8 t in
           let e : i + 1 ≡ i + (left + 7) / 8 = omega arith in
@@ -157,14 +208,14 @@ module _ (v : List ℕ) where
           let e : i + 1 + (left - 8 + 7) / 8 ≡ i + (left + 7) / 8 = omega arith in
           rw (← e) (ih (omega arith) (rw t at y) (omega arith) (omega arith))
 
-  module _ (family : Family) (at : ℕ) (x : Expects v at Length) where
-    prefix-same : prefixEnd family (plain v) at ≡ prefixEnd family v at
+  module _ (family : Family) (at : ℕ) (x : Expects start v at Length) where
+    prefix-same : prefixEnd family (plainFrom start v) at ≡ prefixEnd family v at
     unfolding prefixEnd cleared
     prefix-same =
-        by-test (leb (length v) at) (λ t. rw (length-plain v, t))
-        (λ t. let h = leb-false (length v) at t in rw (length-plain v, octet-there v at Length x h))
+        by-test (leb (length v) at) (λ t. rw (length-plain-from start v, t))
+        (λ t. let h = leb-false (length v) at t in rw (length-plain-from start v, octet-there start v at Length x h))
 
-    prefix-then : EndExpects v (prefixEnd family v at)
+    prefix-then : EndExpects start v (prefixEnd family v at)
     unfolding prefixEnd EndExpects after
     prefix-then =
         by-test (leb (length v) at) (λ t. rw t tt)
@@ -172,51 +223,58 @@ module _ (v : List ℕ) where
         (λ u. by-test (ltb (length v - (at + 1)) ((getD v at 0 + 7) / 8)) (λ w. rw (t, u, w) tt)
         (λ w. rw (t, u, w) (go (leb-false (length v) at t) (ltb-false (length v - (at + 1)) ((getD v at 0 + 7) / 8) w) (eqb (getD v at 0) 0) refl))))
       where
-        go : at < length v → (getD v at 0 + 7) / 8 ≤ length v - (at + 1) → (t : Bool) → eqb (getD v at 0) 0 ≡ t → Expects v (at + 1 + (getD v at 0 + 7) / 8) Kind
+        go : at < length v → (getD v at 0 + 7) / 8 ≤ length v - (at + 1) → (t : Bool) → eqb (getD v at 0) 0 ≡ t → Expects start v (at + 1 + (getD v at 0 + 7) / 8) Kind
         go h k true t =
             let z = eqb-true (getD v at 0) 0 t in
             let e : at + 1 ≡ at + 1 + (getD v at 0 + 7) / 8 = omega arith in
-            rw (← e) (rw t at (goes-on v at Length x h))
+            rw (← e) (rw t at (goes-on start v at Length x h))
         go h k false t =
             let z = eqb-false (getD v at 0) 0 t in
-            prefix-passed (getD v at 0) (getD v at 0) (at + 1) (omega arith) (rw t at (goes-on v at Length x h)) (omega arith) (omega arith)
+            prefix-passed (getD v at 0) (getD v at 0) (at + 1) (omega arith) (rw t at (goes-on start v at Length x h)) (omega arith) (omega arith)
 
 -- what is expected behind a component
-NextExpects : List ℕ → Next → Type 0
-NextExpects v Nothing = Unit {0}
-NextExpects v (Component kind next) = Expects v next Kind
-NextExpects v (RefusedNext number place) = Unit {0}
+NextExpects : Expected → List ℕ → Next → Type 0
+NextExpects start v Nothing = Unit {0}
+NextExpects start v (Component kind next) = Expects start v next Kind
+NextExpects start v (RefusedNext number place) = Unit {0}
 
-module _ (v : List ℕ) (o : Octets v) (family : Family) where
-  body-same : (kind at : ℕ) → Expects v at (bodyOf kind) → (bodyEnd family kind (plain v) at ≡ bodyEnd family kind v at) × EndExpects v (bodyEnd family kind v at)
+module _ (start : Expected) (v : List ℕ) (o : Octets v) (family : Family) where
+  body-same : (kind at : ℕ) → Expects start v at (bodyOf kind) → (bodyEnd family kind (plainFrom start v) at ≡ bodyEnd family kind v at) × EndExpects start v (bodyEnd family kind v at)
   unfolding bodyEnd bodyOf ListSame
   body-same kind at x =
       by-test (isPrefix kind)
-      (λ t. let y = rw t at x in rw t (prefix-same v family at y, prefix-then v family at y))
-      (λ t. let y = rw t at x in rw t (list-same v o kind at true y))
+      (λ t. let y = rw t at x in rw t (prefix-same start v family at y, prefix-then start v family at y))
+      (λ t. let same = list-same start v o kind at true (rw t at x) in rw t (ap (λ (w : Walk Pair BodyEnd). w .ending) (same .0), same .1))
 
-  component-same : (at previous : ℕ) → Expects v at Kind
-      → (componentAt family (plain v) at previous ≡ componentAt family v at previous) × NextExpects v (componentAt family v at previous)
+  component-same : (at previous : ℕ) → Expects start v at Kind
+      → (componentAt family (plainFrom start v) at previous ≡ componentAt family v at previous) × NextExpects start v (componentAt family v at previous)
   unfolding componentAt cleared after NextExpects EndExpects
   component-same at previous x =
-      by-test (leb (length v) at) (λ t. rw (length-plain v, t) (refl, tt))
+      by-test (leb (length v) at) (λ t. rw (length-plain-from start v, t) (refl, tt))
       (λ t.
       let h = leb-false (length v) at t in
       let kind = getD v at 0 in
-      let same = body-same kind (at + 1) (goes-on v at Kind x h) in
-      rw (length-plain v, t, octet-there v at Kind x h, same .0)
+      let same = body-same kind (at + 1) (goes-on start v at Kind x h) in
+      rw (length-plain-from start v, t, octet-there start v at Kind x h, same .0)
       (refl, then kind (bodyEnd family kind v (at + 1)) (same .1)))
     where
-      then : (kind : ℕ) (e : BodyEnd) → EndExpects v e
-          → NextExpects v (cond (eqb kind 0) (RefusedNext 3 at) (cond (ltb (family .highest) kind) (RefusedNext 3 at) (cond (leb kind previous) (RefusedNext 4 at) (found kind e))))
+      then : (kind : ℕ) (e : BodyEnd) → EndExpects start v e
+          → NextExpects start v (cond (eqb kind 0) (RefusedNext 3 at) (cond (ltb (family .highest) kind) (RefusedNext 3 at) (cond (leb kind previous) (RefusedNext 4 at) (found kind e))))
       then kind e y =
           by-test (eqb kind 0) (λ t. rw t tt)
           (λ t. by-test (ltb (family .highest) kind) (λ u. rw (t, u) tt)
           (λ u. by-test (leb kind previous) (λ w. rw (t, u, w) tt) (λ w. rw (t, u, w) (last e y))))
         where
-          last : (e : BodyEnd) → EndExpects v e → NextExpects v (found kind e)
+          last : (e : BodyEnd) → EndExpects start v e → NextExpects start v (found kind e)
           last (At next) y = y
           last (RefusedBody number place) y = tt
+
+-- the pairs of a list in the plain spelling are its pairs in the plain spelling
+pub pairs-plain : (kind : ℕ) (v : List ℕ) → Octets v
+    → pairsFrom kind (plainFrom (Operator kind true) v) 0 .items ≡ plainPairs kind true (pairsFrom kind v 0 .items)
+unfolding ListSame
+pairs-plain kind v o =
+    ap (λ (w : Walk Pair BodyEnd). w .items) (list-same (Operator kind true) v o kind 0 true (starts (Operator kind true) v) .0)
 
 take-plain : (e : Expected) (n : ℕ) (v : List ℕ) → take n (plainFrom e v) ≡ plainFrom e (take n v)
 unfolding plainFrom
@@ -233,36 +291,36 @@ plainWalk w = record { items = map plainPart (w .items); ending = w .ending }
 
 module _ (family : Family) (v : List ℕ) (o : Octets v) where
   WalkSame : ℕ → ℕ → Walk Part Checked → Type 0
-  WalkSame at previous w = Expects v at Kind → componentsFrom family (plain v) (record { at = at; previous = previous }) ≡ plainWalk w
+  WalkSame at previous w = Expects Kind v at Kind → componentsFrom family (plainFrom Kind v) (record { at = at; previous = previous }) ≡ plainWalk w
 
   walk-same : (at previous : ℕ) → WalkSame at previous (componentsFrom family v (record { at = at; previous = previous }))
   unfolding WalkSame NextExpects Expects after
   walk-same =
       components-ind family v WalkSame
-      (λ at previous e x. components-none family (plain v) at previous (component-same v o family at previous x .0 ∙ e))
-      (λ at previous number place e x. components-refused family (plain v) at previous number place (component-same v o family at previous x .0 ∙ e))
+      (λ at previous e x. components-none family (plainFrom Kind v) at previous (component-same Kind v o family at previous x .0 ∙ e))
+      (λ at previous number place e x. components-refused family (plainFrom Kind v) at previous number place (component-same Kind v o family at previous x .0 ∙ e))
       (λ at previous kind next w e h x.
-      components-more family (plain v) at previous kind next (component-same v o family at previous x .0 ∙ e)
-      ∙ ap₂ before (one at previous kind next e x) (h (behind at previous kind next e (component-same v o family at previous x .1))))
+      components-more family (plainFrom Kind v) at previous kind next (component-same Kind v o family at previous x .0 ∙ e)
+      ∙ ap₂ before (one at previous kind next e x) (h (behind at previous kind next e (component-same Kind v o family at previous x .1))))
     where
-      behind : (at previous kind next : ℕ) → componentAt family v at previous ≡ Component kind next → NextExpects v (componentAt family v at previous) → Expects v next Kind
-      behind at previous kind next e x = subst (NextExpects v) e x
+      behind : (at previous kind next : ℕ) → componentAt family v at previous ≡ Component kind next → NextExpects Kind v (componentAt family v at previous) → Expects Kind v next Kind
+      behind at previous kind next e x = subst (NextExpects Kind v) e x
 
-      one : (at previous kind next : ℕ) → componentAt family v at previous ≡ Component kind next → Expects v at Kind
-          → record { kind = kind; body = between (plain v) (at + 1) next } ≡ plainPart (record { kind = kind; body = between v (at + 1) next })
+      one : (at previous kind next : ℕ) → componentAt family v at previous ≡ Component kind next → Expects Kind v at Kind
+          → record { kind = kind; body = between (plainFrom Kind v) (at + 1) next } ≡ plainPart (record { kind = kind; body = between v (at + 1) next })
       one at previous kind next e x =
           let f = was-found family v at previous kind next e in
-          let expects : Expects v (at + 1) (bodyOf kind) = rw (← f .is) at (goes-on v at Kind x (f .inside)) in
-          let body : between (plain v) (at + 1) next ≡ plainFrom (bodyOf kind) (between v (at + 1) next)
+          let expects : Expects Kind v (at + 1) (bodyOf kind) = rw (← f .is) at (goes-on Kind v at Kind x (f .inside)) in
+          let body : between (plainFrom Kind v) (at + 1) next ≡ plainFrom (bodyOf kind) (between v (at + 1) next)
           = ap (take (next - (at + 1))) expects ∙ take-plain (bodyOf kind) (next - (at + 1)) (drop (at + 1) v) in
           λ i. record { kind = kind; body = body i }
 
   -- the components of the plain spelling are the components in the plain spelling
   pub components-plain : components family (plain v) ≡ map plainPart (components family v)
-  unfolding components WalkSame
-  components-plain = ap (λ (w : Walk Part Checked). w .items) (walk-same 0 0 (starts v))
+  unfolding components WalkSame plain
+  components-plain = ap (λ (w : Walk Part Checked). w .items) (walk-same 0 0 (starts Kind v))
 
   -- a value is accepted exactly when its plain spelling is, and refused with the same number and place
   pub check-plain : checkValue family (plain v) ≡ checkValue family v
-  unfolding checkValue WalkSame
-  check-plain = rw (length-plain v, walk-same 0 0 (starts v))
+  unfolding checkValue WalkSame plain
+  check-plain = rw (length-plain-from Kind v, walk-same 0 0 (starts Kind v))
