@@ -17,7 +17,7 @@ use Rattle.packet.specs.Header.{isUnusable, fragmentData}
 use Rattle.packet.specs.Transport.{transportOctets, transportFields}
 use Rattle.packet.specs.Packet.{fieldsOf, packetOf}
 use Rattle.packet.specs.Operator.{numericHolds}
-use Rattle.packet.specs.PairList.{all, any, groupsFrom, groups, listHolds}
+use Rattle.packet.specs.PairList.{eachHolds, oneHolds, groupsFrom, groups, listHolds}
 use Rattle.packet.specs.Match.{dataFor, holdsFor, bodyHolds, fieldMatches, fieldFor, eitherPort, componentMatches, matches}
 use Rattle.flowspec.specs.Examples.{Example, answerTo, examples}
 
@@ -26,5 +26,5 @@ unfolding
     answerTo numberAt walk bits sameBits contains prefixOrder prefixOf endsList sizeOf isPrefix isBitmask sizeAllowed pairAt pairsFrom prefixEnd bodyEnd componentAt
     componentsFrom components checkValue bodyOf operandAfter after plainOperator plainOperand plainAddress cleared plainFrom plain fieldSize fieldLength lengthField
     bodyOrder partOrder partsOrder precedence scaled wholePart wholeOf rateOfParts rateOf isUnusable fragmentData transportOctets transportFields fieldsOf packetOf
-    numericHolds all any groupsFrom groups listHolds dataFor holdsFor bodyHolds fieldMatches fieldFor eitherPort componentMatches matches
+    numericHolds eachHolds oneHolds groupsFrom groups listHolds dataFor holdsFor bodyHolds fieldMatches fieldFor eitherPort componentMatches matches
 marked = refl

@@ -26,7 +26,7 @@ use Rattle.packet.specs.declared.Sight.the-variants.{Usable, Unusable}
 use Rattle.packet.specs.Header.{headerWords, fragmentOffset, isUnusable, protocol}
 use Rattle.packet.specs.Transport.{transportOctets, transportFields}
 use Rattle.packet.specs.Packet.{fieldsOf, packetOf, refusal}
-use Rattle.packet.specs.PairList.{all, any, joins, listHolds}
+use Rattle.packet.specs.PairList.{eachHolds, oneHolds, joins, listHolds}
 use Rattle.packet.specs.Match.{dataFor, holdsFor, pairHolds, fieldMatches, fieldFor, eitherPort, componentMatches, matches}
 use Rattle.packet.proofs.OperatorLaws.{numeric-row}
 use Rattle.packet.proofs.TransportLaws.{later-not-found}
@@ -68,14 +68,14 @@ module _ (packet : Packet) (shows : packet .transport ≡ hidden) where
       let nine : kind ≡ 9 = omega arith in
       rw (nine, shows))))))
 
-  one-fails : (components : List Part) → any asksTransport components ≡ true → all (componentMatches packet) components ≡ false
-  unfolding all any
+  one-fails : (components : List Part) → oneHolds asksTransport components ≡ true → eachHolds (componentMatches packet) components ≡ false
+  unfolding eachHolds oneHolds
   one-fails [] h = apart (cc)
   one-fails (c ∷ cs) h =
       by-test (asksTransport c) (λ t. rw (never-matches c t))
       (λ t. rw (one-fails cs (rw t at h), and-false (componentMatches packet c)))
 
-  pub never-met : (family : Family) (value : List ℕ) → any asksTransport (components family value) ≡ true → matches family value packet ≡ false
+  pub never-met : (family : Family) (value : List ℕ) → oneHolds asksTransport (components family value) ≡ true → matches family value packet ≡ false
   unfolding matches
   never-met family value = one-fails (components family value)
 
@@ -99,7 +99,7 @@ later-hidden s later = rw (later-not-found (headerWords s) (fragmentOffset s) la
 
 -- a later fragment meets no rule with a port, ICMP or flags component, whatever its operators
 pub later-fragment : (family : Family) (value s : List ℕ) (packet : Packet) → packetOf s ≡ Usable packet → (fragmentOffset s ≡ 0 → ⊥)
-    → any asksTransport (components family value) ≡ true → matches family value packet ≡ false
+    → oneHolds asksTransport (components family value) ≡ true → matches family value packet ≡ false
 later-fragment family value s packet seen later asks =
     never-met packet (ap (λ (p : Packet). p .transport) (usable-fields s packet seen) ∙ later-hidden s later) family value asks
 

@@ -6,14 +6,14 @@ use Rattle.rule.specs.Component.{Pair}
 use Rattle.packet.specs.Bit.{has}
 
 -- Whether a test holds of each element of a list.
-unfoldable pub all : {A : Type 0} → (A → Bool) → List A → Bool
-all test [] = true
-all test (a ∷ l) = test a && all test l
+unfoldable pub eachHolds : {A : Type 0} → (A → Bool) → List A → Bool
+eachHolds test [] = true
+eachHolds test (a ∷ l) = test a && eachHolds test l
 
 -- Whether a test holds of some element of a list.
-unfoldable pub any : {A : Type 0} → (A → Bool) → List A → Bool
-any test [] = false
-any test (a ∷ l) = test a || any test l
+unfoldable pub oneHolds : {A : Type 0} → (A → Bool) → List A → Bool
+oneHolds test [] = false
+oneHolds test (a ∷ l) = test a || oneHolds test l
 
 -- 0x40 joins a pair to the one before it by AND.
 abbrev pub joins : Pair → Bool
@@ -31,4 +31,4 @@ groups (p ∷ ps) = groupsFrom (p ∷ []) ps
 
 -- An OR of ANDs: some group all of whose pairs hold.
 unfoldable pub listHolds : (Pair → Bool) → List Pair → Bool
-listHolds test pairs = any (all test) (groups pairs)
+listHolds test pairs = oneHolds (eachHolds test) (groups pairs)
