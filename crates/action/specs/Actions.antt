@@ -65,13 +65,15 @@ kindOf type =
 abbrev pub hasBit : ℕ → ℕ → Bool
 hasBit community bit = not (eqb (bitAnd community bit) 0)
 
--- A rate counts with those of its kind before it: the smallest stands, and not-a-number makes the actions unsound (sections 7.1, 7.2).
+-- A rate counts with those of its kind before it: the smallest stands, and not-a-number makes the actions unsound;
+-- both are 01's choices, since section 7.7 leaves the first open and the RFC is silent on the second.
 abbrev pub withRate : (Given → Actions) → Given → Rate → Reading
 withRate change before (Number w) = Read (change (smallerOf before (given (w .number))))
 withRate change before NotANumber = Unsound
 
 -- What a community of a kind adds to the actions told so far: a rate is the last four octets; 0x02 is S and 0x01 is T; a marking is the low
--- six bits of the last octet; a redirect is the community itself. The first marking and the first redirect stand (sections 7.1 to 7.5).
+-- six bits of the last octet; a redirect is the community itself. The layouts are those of sections 7.1 to 7.5; that the
+-- first marking and the first redirect stand is 01's choice.
 unfoldable pub withKind : Kind → Actions → ℕ → Reading
 withKind ByteRate a c = withRate (withByteRate a) (a .bytes) (rateOf (c % 2 ^ 32))
 withKind PacketRate a c = withRate (withPacketRate a) (a .packets) (rateOf (c % 2 ^ 32))

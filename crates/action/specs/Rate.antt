@@ -1,6 +1,6 @@
 -- What number a rate stands for (RFC 8955 sections 7.1 and 7.2). A rate is an IEEE 754 single: one bit of sign, eight of exponent and
--- 23 of fraction. Its value times 2^149 is a natural number, since 2^-149 is the smallest positive single. The number of a rate is
--- the whole part of the value, at least 1 if the value is positive, and at most 2^63.
+-- 23 of fraction. Without its sign a finite value times 2^149 is a natural number, since 2^-149 is the smallest positive single. The
+-- number of a positive rate is the whole part of its value, at least 1 and at most 2^63; any other rate that is a number gives 0.
 use Prim.Native.Nat.{ℕ, zero, suc, _+_, _*_, _-_, _/_, _%_, _^_, min, max}
 use mathlib.Core.Bool.{Bool, cond, not, _&&_, _||_}
 use lib.Dec.{leb, ltb, eqb}

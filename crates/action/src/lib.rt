@@ -50,7 +50,7 @@ pub enum Reading {
     Unsound,
 }
 
-// The whole part of a single without its sign, by the size of its exponent.
+// The number that a single without its sign gives, by the size of its exponent.
 fn whole_of(exponent: u32, fraction: u32) -> u64
     requires { ⌜ fraction < 2 ^ 23 ⌝ }
     ensures { λ r. ⌜ r ≡ wholeOf exponent fraction ⌝ }
@@ -189,7 +189,7 @@ fn rate_in(community: u64) -> Rate
     rate_of(single as u32)
 }
 
-// What a community adds to the actions told so far: one field is changed, by the community's kind.
+// What a community adds to the actions told so far: its kind says which field is changed, S and T together, none where it is skipped.
 fn with_community(actions: Actions, community: u64) -> Reading
     ensures { λ r. ⌜ r ≡ withCommunity actions community ⌝ }
 {

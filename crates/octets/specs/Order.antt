@@ -1,5 +1,5 @@
--- Which of two comes first. RFC 8955 section 5.1 says one thing three times, of the bits of a prefix, the octets of a body and the
--- components of a rule: compare element by element, and what runs out first comes later. `lex` says it once.
+-- Which of two comes first. RFC 8955 section 5.1 compares the octets of a body and the components of a rule alike: element by element,
+-- and what runs out first comes later; its rule for prefixes comes to the same on their bits. `lex` says it once.
 -- `lt` means that the first of the two comes first, `gt` that the second does, and `eq` that they tie.
 use Prim.Native.Nat.{Ordering, Ordering·lt, Ordering·eq, Ordering·gt}
 use mathlib.Core.List.{List, [], _∷_}

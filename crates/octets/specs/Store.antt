@@ -1,4 +1,4 @@
--- What a buffer holds after a change to it, which never changes its length: octets stored at a place, the octets from a place on
+-- What a buffer holds after a change to a part inside it, which keeps its length: octets stored at a place, the octets from a place on
 -- cleared, a part of the buffer cut out, a gap opened in it. `size` counts octets, and `at` and `from` are places counted from 0.
 use Prim.Native.Nat.{ℕ, _+_, _-_}
 use mathlib.Core.Bool.{Bool, true, _&&_}

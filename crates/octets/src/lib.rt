@@ -88,7 +88,7 @@ pub fn store(buffer: &mut [u8], at: usize, s: &[u8])
     }
 }
 
-// Writes the n octets of a number from a place on, the highest first.
+// Writes the n lowest octets of a number from a place on, the highest of them first.
 pub fn write_number(n: usize, number: u64, buffer: &mut [u8], at: usize)
     requires { ⌜ at + n ≤ length (now buffer) ⌝ }
     ensures { λ _. ⌜ now (buffer .exit) ≡ stored (now (buffer .entry)) at (octetsOf n number) ⌝ }

@@ -40,7 +40,7 @@ pub enum Turn {
     Tied { kind: u8, here: usize, there: usize },
 }
 
-// Where the first value has run out, it comes later unless the second has run out too.
+// Where the first value has run out, it comes later unless the second has no further component either.
 pub fn runs_out(second: Next) -> Order
     ensures { λ r. ⌜ r ≡ runsOut second ⌝ }
 {

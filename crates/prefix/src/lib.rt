@@ -11,7 +11,7 @@ pub struct Prefix {
     pub address: u32,
 }
 
-// The lowest place, counted from 0 at the right, that the first n bits of an address reach.
+// How many bits of an address follow its first n.
 fn lowest_place(n: u32) -> u32
     ensures { λ r. ⌜ r ≡ 32 - n ⌝ }
 {

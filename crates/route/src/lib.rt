@@ -172,7 +172,7 @@ fn all_agree(seen: Neighbours, neighbour: u32) -> bool
     }
 }
 
-// Whether the best match has the originator, and its neighbour AS is the only one seen.
+// Whether the best match has the originator, and no other neighbour AS than its own was seen.
 fn is_validated(best: BestMatch, originator: u32, seen: Neighbours) -> bool
     ensures { λ r. ⌜ r ≡ validated best originator (agrees seen) ⌝ }
 {

@@ -1,5 +1,5 @@
 -- One component of a value (RFC 8955 section 4.2): what stands at a place, where it ends, and why it is refused. A component is its
--- type octet and its body, all that follows up to its end. A refusal is a number and a place in the value, as 01's table has them.
+-- type octet and its body, all that follows up to its end. A refusal is a number of 01's table and a place in the value.
 use Prim.Native.Nat.{ℕ, _+_, _-_, _/_}
 use mathlib.Core.Bool.{Bool, cond, _||_}
 use mathlib.Core.List.{List}

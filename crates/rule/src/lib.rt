@@ -1,6 +1,6 @@
-// One rule (RFC 8955 section 4): its components, its plain spelling, reading one and writing one. `component_at` is the one cursor:
-// it and the functions above it make every bounds check of the walk, and everything else loops over it. Every function answers
-// whatever octets it is lent.
+// One rule (RFC 8955 section 4): its components, its plain spelling, reading one and writing one. `component_at` is the one cursor
+// of reading: it and the functions that it calls make every bounds check of that walk. The plain spelling has a walk of its own, octet
+// by octet; only what fills or writes a buffer asks for its size.
 ghost use mathlib.Core.Path.{_≡_};
 ghost use mathlib.Core.Bool.{Bool, true, false};
 ghost use mathlib.Core.List.{_++_};
