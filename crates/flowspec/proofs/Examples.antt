@@ -1,6 +1,6 @@
 -- **The one claim about 01's marked examples**: the definitions give every question of the list the numbers it expects. Assumes nothing.
 use mathlib.Core.Path.{_≡_, refl}
-use mathlib.Core.List.{List, map}
+use mathlib.Core.List.{List, [], _∷_, map}
 use Prim.Native.Nat.{ℕ}
 use Rattle.octets.specs.Number.{numberAt}
 use Rattle.octets.specs.Walk.{walk}
@@ -9,7 +9,9 @@ use Rattle.rule.specs.Operator.{endsList, sizeOf, isPrefix, isBitmask, sizeAllo
 use Rattle.rule.specs.Component.{pairAt, pairsFrom, prefixEnd, bodyEnd, componentAt}
 use Rattle.rule.specs.Value.{componentsFrom, components, checkValue}
 use Rattle.rule.specs.Plain.{bodyOf, operandAfter, after, plainOperator, plainOperand, plainAddress, cleared, plainFrom, plain}
-use Rattle.rule.specs.Reading.{fieldSize, fieldLength}
+use Rattle.rule.specs.declared.Reading.the-variants.{Rule}
+use Rattle.rule.specs.Family.{ipv4}
+use Rattle.rule.specs.Reading.{fieldSize, fieldLength, firstRule, oneRule}
 use Rattle.rule.specs.Writing.{lengthField}
 use Rattle.order.specs.Precedence.{bodyOrder, partOrder, partsOrder, precedence}
 use Rattle.action.specs.Rate.{scaled, wholePart, wholeOf, rateOfParts, rateOf}
@@ -28,3 +30,9 @@ unfolding
     bodyOrder partOrder partsOrder precedence scaled wholePart wholeOf rateOfParts rateOf isUnusable fragmentData transportOctets transportFields fieldsOf packetOf
     numericHolds eachHolds oneHolds groupsFrom groups listHolds dataFor holdsFor bodyHolds fieldMatches fieldFor eitherPort componentMatches matches
 marked = refl
+
+-- **A rule that is accepted**: the announcement of 01's program, a rule of eleven octets behind a length field of one.
+pub accepted : oneRule ipv4 (0x0b ∷ 0x01 ∷ 0x18 ∷ 0xc0 ∷ 0x00 ∷ 0x02 ∷ 0x03 ∷ 0x81 ∷ 0x06 ∷ 0x04 ∷ 0x81 ∷ 0x19 ∷ []) ≡ Rule 1 11
+unfolding
+    oneRule firstRule fieldSize fieldLength checkValue componentsFrom componentAt bodyEnd prefixEnd pairsFrom pairAt endsList sizeOf isPrefix isBitmask sizeAllowed walk
+accepted = refl

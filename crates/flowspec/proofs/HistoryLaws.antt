@@ -1,4 +1,4 @@
--- **Demand 3.** From an all-zero buffer that only these calls write: after any history the table holds exactly the entries that each
+-- **Demand 3.** From an all-zero buffer of at most 65,536 octets that only these calls write: after any history the table holds exactly the entries that each
 -- rule's last counted call left in force, once, in precedence order; so that two histories which leave the same in force end in equal
 -- octets, and judge every packet alike. A call that is answered 11 changes nothing and does not count, so that nothing is asked of those.
 use mathlib.Core.Path.{_≡_, refl, sym, ap, ap₂, subst, _∙_}

@@ -1,5 +1,6 @@
--- What an operator relies on, of any sound table in which there is room: announcing a rule twice changes nothing the second time,
--- withdrawing after announcing gives the table without the rule, and the order of two announcements of different rules does not matter.
+-- What an operator relies on, of the octets that done announcements (`inserted`) and withdrawals (`removed`) leave: making the same
+-- announcement twice changes nothing the second time, withdrawing after it gives the table without the rule, and the order of two
+-- announcements of different rules does not matter where both are done.
 use mathlib.Core.Path.{_≡_, refl, sym, ap}
 use mathlib.Core.Bool.{true}
 use mathlib.Core.List.{List}

@@ -44,7 +44,7 @@ askedBy relaxed words rule originator (Rule start size) Unsound = NotAsked 13 0
 askedBy relaxed words rule originator (Rule start size) (Read actions) =
     Announce start size actions (isFeasible relaxed words (valueOf rule start size) originator)
 
--- Unsound routes are 9, before all else.
+-- Unsound routes are 9, before the rule is read.
 unfoldable pub asked : Bool → List ℕ → List ℕ → ℕ → List ℕ → Request
 asked relaxed words rule originator communities =
     cond (soundRoutes 32 words) (askedBy relaxed words rule originator (oneRule ipv4 rule) (actionsOf communities)) (NotAsked 9 0)

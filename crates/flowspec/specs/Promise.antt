@@ -1,5 +1,5 @@
--- What each public call promises, whatever octets it is lent: its answer, what that answer says in 01's terms, and what every lent
--- buffer holds at exit. No call has a `requires`. That no second answer satisfies a promise is shown in proofs/Unique.antt.
+-- What each public call promises, whatever octets it is lent: its answer, what that answer says in 01's terms, and what each buffer lent
+-- to be changed holds at exit; what is lent to be read alone cannot be changed. No call has a `requires`. That no second answer satisfies a promise is shown in proofs/Unique.antt.
 use Prim.Native.Nat.{ℕ}
 use mathlib.Core.Path.{_≡_}
 use mathlib.Core.Bool.{Bool}

@@ -1,4 +1,4 @@
--- Whether a packet matches a rule (RFC 8955 sections 4.2.2 and 5): when it matches each of the rule's components. A prefix is matched
+-- Whether a packet matches a rule (RFC 8955 section 4.2): when it matches each of the rule's components. A prefix is matched
 -- by an address that it contains, a list of pairs by a field of the packet; a field that the packet hides matches no list.
 use Prim.Native.Nat.{ℕ}
 use mathlib.Core.Bool.{Bool, false, cond, _||_}
@@ -76,6 +76,6 @@ componentMatches packet component =
     (cond (eqb (component .kind) 4) (eitherPort (component .body) (packet .transport))
     (fieldMatches (component .kind) (component .body) (fieldFor (component .kind) packet))))
 
--- Section 5: a packet matches a rule where it matches all components of the rule's value.
+-- Section 4.2: a packet matches a rule where it matches all components of the rule's value.
 unfoldable pub matches : Family → List ℕ → Packet → Bool
 matches family value packet = eachHolds (componentMatches packet) (components family value)
