@@ -166,9 +166,13 @@ module _ (relaxed : Bool) (routes : List ℕ) where
         settled h can made k = last-settled n k h none (emptyTable n) [] (empty-encodes n fits) (long-empty n) can made tt
 
     -- **one verdict**, with one count and one set of merged actions, on every packet
-    pub equal-verdicts : (packet : List ℕ) (a b : Looked) → LooksUp (endOf (emptyTable n) h) packet a → LooksUp (endOf (emptyTable n) g) packet b → a ≡ b
-    equal-verdicts packet a b x y = one-lookup (endOf (emptyTable n) g) packet a b (rw equal-octets at x) y
+    pub equal-verdicts : (packet : List ℕ) (a b : Looked) (k l : List (List ℕ)) → LooksUp (endOf (emptyTable n) h) packet a k
+        → LooksUp (endOf (emptyTable n) g) packet b l → a ≡ b
+    equal-verdicts packet a b k l x y = one-lookup k l (endOf (emptyTable n) g) packet a b (rw equal-octets at x) y .0
 
-    -- **one first match**: the octets given back are equal too
-    pub equal-matches : (packet part other : List ℕ) → FirstMatches (endOf (emptyTable n) h) packet part → FirstMatches (endOf (emptyTable n) g) packet other → part ≡ other
-    equal-matches packet part other x y = one-first-match (endOf (emptyTable n) g) packet part other (rw equal-octets at x) y
+    -- **one first match**: the octets given back are equal too, and stand at one place of tables that stand at one place
+    pub equal-matches : (packet part other : List ℕ) (lent stands stood : ℕ × ℕ) (k l : List (List ℕ))
+        → FirstMatches (endOf (emptyTable n) h) packet lent part stands k → FirstMatches (endOf (emptyTable n) g) packet lent other stood l
+        → (part ≡ other) × (stands ≡ stood)
+    equal-matches packet part other lent stands stood k l x y =
+        let one = one-first-match k l (endOf (emptyTable n) g) packet lent part other stands stood (rw equal-octets at x) y in (one .0, one .1 .0)

@@ -1,6 +1,6 @@
 -- Comparing two rules: one law for each way in which the code comes to an answer. Assumes nothing.
 use mathlib.Core.Path.{_≡_, refl, sym, ap, ap₂, _∙_}
-use mathlib.Core.List.{List}
+use mathlib.Core.List.{List, [], _∷_}
 use Prim.Native.Nat.{ℕ, _+_, _-_, _≤_, Ordering, Ordering·lt, Ordering·eq, Ordering·gt}
 use native.Mathlib.Omega.{arith}
 use native.Mathlib.Nat.{add-sub-cancel-left}
@@ -22,8 +22,8 @@ use Rattle.flowspec.specs.Told.{comparisonTold}
 use Rattle.flowspec.specs.Promise.{ComparesTwo}
 
 -- a promise from the equation for the answer
-kept : (a b : List ℕ) (answer : Comparison) → answer ≡ compareRules a b → ComparesTwo a b answer
-kept a b answer e = record { is = e; says = ap comparisonTold e }
+kept : (a b : List ℕ) (answer : Comparison) → answer ≡ compareRules a b → ComparesTwo a b answer (a ∷ b ∷ [])
+kept a b answer e = record { is = e; says = ap comparisonTold e; keeps = refl }
 
 two-orders : (o : Ordering) → comparisonOf (ordered o) ≡ compared o
 two-orders Ordering·lt = refl
@@ -37,12 +37,12 @@ module _ (a b : List ℕ) (family : Family) (four : family ≡ ipv4) (left right
   second-is : oneRule ipv4 b ≡ right
   second-is = rw (← four) (sym other-is)
 
-  pub compare-first-refused : (number place : ℕ) → left ≡ NotRead number place → ComparesTwo a b (Refused number place)
+  pub compare-first-refused : (number place : ℕ) → left ≡ NotRead number place → ComparesTwo a b (Refused number place) (a ∷ b ∷ [])
   unfolding compareRules
   compare-first-refused number place e = kept a b _ (rw (first-is, e))
 
   module _ (start size : ℕ) (read : left ≡ Rule start size) where
-    pub compare-second-refused : (number place : ℕ) → right ≡ NotRead number place → ComparesTwo a b (Refused number place)
+    pub compare-second-refused : (number place : ℕ) → right ≡ NotRead number place → ComparesTwo a b (Refused number place) (a ∷ b ∷ [])
     unfolding compareRules
     compare-second-refused number place e = kept a b _ (rw (first-is, read, second-is, e))
 
@@ -55,7 +55,7 @@ module _ (a b : List ℕ) (family : Family) (four : family ≡ ipv4) (left right
 
       pub compare-both : (which : Order) (answer : Comparison)
           → which ≡ ordered (precedence ipv4 (take (start + size - start) (drop start a)) (take (begin + extent - begin) (drop begin b)))
-          → answer ≡ comparisonOf which → ComparesTwo a b answer
+          → answer ≡ comparisonOf which → ComparesTwo a b answer (a ∷ b ∷ [])
       unfolding compareRules
       compare-both which answer e f =
           let g = rw (add-sub-cancel-left start size, add-sub-cancel-left begin extent) at e in

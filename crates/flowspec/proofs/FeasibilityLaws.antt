@@ -1,7 +1,7 @@
 -- Judging one rule: one law for each way in which the code comes to an answer. Assumes nothing.
 use mathlib.Core.Path.{_≡_, refl, sym, ap, _∙_}
 use mathlib.Core.Bool.{Bool, true, false, not, cond}
-use mathlib.Core.List.{List}
+use mathlib.Core.List.{List, [], _∷_}
 use Prim.Native.Nat.{ℕ, _+_, _-_}
 use native.Mathlib.Nat.{add-sub-cancel-left}
 use lib.ListN.{take, drop}
@@ -37,11 +37,11 @@ module _ (relaxed : Bool) (words value : List ℕ) (originator : ℕ) (destinati
 
 module _ (relaxed : Bool) (words rule : List ℕ) (originator : ℕ) where
   -- a promise from the equation for the answer
-  kept : (answer : Feasibility) → answer ≡ judgement relaxed words rule originator → JudgesOne relaxed words rule originator answer
-  kept answer e = record { is = e; says = ap feasibilityTold e }
+  kept : (answer : Feasibility) → answer ≡ judgement relaxed words rule originator → JudgesOne relaxed words rule originator answer (words ∷ rule ∷ [])
+  kept answer e = record { is = e; says = ap feasibilityTold e; keeps = refl }
 
   module _ (sound : Bool) (is : sound ≡ soundRoutes 32 words) where
-    pub judge-unsound : not sound ≡ true → JudgesOne relaxed words rule originator (Refused 9 0)
+    pub judge-unsound : not sound ≡ true → JudgesOne relaxed words rule originator (Refused 9 0) (words ∷ rule ∷ [])
     unfolding judgement
     judge-unsound h = kept _ (rw (← is, not-true sound h))
 
@@ -49,7 +49,7 @@ module _ (relaxed : Bool) (words rule : List ℕ) (originator : ℕ) where
       found : oneRule ipv4 rule ≡ reading
       found = rw (← four) (sym read-is)
 
-      pub judge-refused : (number place : ℕ) → reading ≡ NotRead number place → JudgesOne relaxed words rule originator (Refused number place)
+      pub judge-refused : (number place : ℕ) → reading ≡ NotRead number place → JudgesOne relaxed words rule originator (Refused number place) (words ∷ rule ∷ [])
       unfolding judgement
       judge-refused number place e = kept _ (rw (← is, not-false sound ok, found, e))
 
@@ -57,6 +57,6 @@ module _ (relaxed : Bool) (words rule : List ℕ) (originator : ℕ) where
       judged-rule start size e = one-read ipv4 rule start size (found ∙ e)
 
       pub judge-read : (start size : ℕ) (answer : Feasibility) → reading ≡ Rule start size
-          → answer ≡ judged (isFeasible relaxed words (take (start + size - start) (drop start rule)) originator) → JudgesOne relaxed words rule originator answer
+          → answer ≡ judged (isFeasible relaxed words (take (start + size - start) (drop start rule)) originator) → JudgesOne relaxed words rule originator answer (words ∷ rule ∷ [])
       unfolding judgement
       judge-read start size answer e f = kept answer (rw (← is, not-false sound ok, found, e) (rw (add-sub-cancel-left start size) at f))

@@ -59,11 +59,12 @@ withdraw-keeps rule t = by-test (soundTable ipv4 t) (λ s. rw s (go (oneRule ipv
     go (NotRead number place) = λ m p h n. refl
 
 -- the same of the calls, by their promises
-pub refused-announcement : (relaxed : Bool) (words rule : List ℕ) (originator : ℕ) (communities t : List ℕ) (answer : Change) (exit : List ℕ)
-    → Announces relaxed words rule originator communities t answer exit → (number place : ℕ) → answer ≡ Refused number place → (number ≡ 8 → ⊥) → exit ≡ t
-refused-announcement relaxed words rule originator communities t answer exit p number place e n =
+pub refused-announcement : (relaxed : Bool) (words rule : List ℕ) (originator : ℕ) (communities t : List ℕ) (answer : Change) (exit : List ℕ) (kept : List (List ℕ))
+    → Announces relaxed words rule originator communities t answer exit kept → (number place : ℕ) → answer ≡ Refused number place → (number ≡ 8 → ⊥)
+    → exit ≡ t
+refused-announcement relaxed words rule originator communities t answer exit kept p number place e n =
     p .leaves ∙ announce-keeps relaxed words rule originator communities t number place (sym (p .is) ∙ e) n
 
-pub refused-withdrawal : (rule t : List ℕ) (answer : Change) (exit : List ℕ) → Withdraws rule t answer exit → (number place : ℕ) → answer ≡ Refused number place
-    → (number ≡ 8 → ⊥) → exit ≡ t
-refused-withdrawal rule t answer exit p number place e n = p .leaves ∙ withdraw-keeps rule t number place (sym (p .is) ∙ e) n
+pub refused-withdrawal : (rule t : List ℕ) (answer : Change) (exit : List ℕ) (kept : List (List ℕ)) → Withdraws rule t answer exit kept
+    → (number place : ℕ) → answer ≡ Refused number place → (number ≡ 8 → ⊥) → exit ≡ t
+refused-withdrawal rule t answer exit kept p number place e n = p .leaves ∙ withdraw-keeps rule t number place (sym (p .is) ∙ e) n

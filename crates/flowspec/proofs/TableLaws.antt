@@ -1,7 +1,7 @@
 -- Announcing, withdrawing and looking up: the promises, one law for each way in which the code comes to an answer. Assumes nothing.
 use mathlib.Core.Path.{_≡_, refl, sym, ap, ap₂, subst, _∙_}
 use mathlib.Core.Bool.{Bool, true, false, not, cond}
-use mathlib.Core.List.{List}
+use mathlib.Core.List.{List, [], _∷_}
 use Prim.Native.Nat.{ℕ, _+_, _-_, _≤_}
 use native.Mathlib.Omega.{arith}
 use native.Mathlib.Nat.{add-sub-cancel-left}
@@ -63,18 +63,18 @@ module _ (t : List ℕ) (s : Soundness) (is : s ≡ soundness ipv4 t) where
 module _ (relaxed : Bool) (words rule : List ℕ) (originator : ℕ) (communities t : List ℕ) where
   -- a promise from the equation for the outcome
   announce-kept : (o : Outcome) (answer : Change) (exit : List ℕ) → announcing relaxed words rule originator communities t ≡ o → answer ≡ o .answer → exit ≡ o .table
-      → Announces relaxed words rule originator communities t answer exit
+      → Announces relaxed words rule originator communities t answer exit (words ∷ rule ∷ communities ∷ [])
   announce-kept o answer exit e a x =
       let q : answer ≡ announcing relaxed words rule originator communities t .answer = rw e a in
-      record { is = q; says = ap changeTold q; leaves = rw e x }
+      record { is = q; says = ap changeTold q; leaves = rw e x; keeps = refl }
 
   module _ (s : Soundness) (is : s ≡ soundness ipv4 t) where
-    pub announce-unsound : s ≡ Unsound → Announces relaxed words rule originator communities t (NotChanged 10 0) t
+    pub announce-unsound : s ≡ Unsound → Announces relaxed words rule originator communities t (NotChanged 10 0) t (words ∷ rule ∷ communities ∷ [])
     unfolding announcing
     announce-unsound e = announce-kept (refusal 10 0 t) _ _ (rw (was-unsound t s is e)) refl refl
 
     module _ (used : ℕ) (e : s ≡ Sound used) (request : Request) (asks : request ≡ asked relaxed words rule originator communities) where
-      pub announce-refused : (number place : ℕ) → request ≡ NotAsked number place → Announces relaxed words rule originator communities t (NotChanged number place) t
+      pub announce-refused : (number place : ℕ) → request ≡ NotAsked number place → Announces relaxed words rule originator communities t (NotChanged number place) t (words ∷ rule ∷ communities ∷ [])
       unfolding announcing
       announce-refused number place f = announce-kept (refusal number place t) _ _ (rw (was-sound t s is used e .0, ← asks, f)) refl refl
 
@@ -90,7 +90,7 @@ module _ (relaxed : Bool) (words rule : List ℕ) (originator : ℕ) (communitie
         pub announce-done : (number : ℕ) (answer : Change) (exit : List ℕ)
             → (number ≡ announced ipv4 t (record { originator = originator; actions = actions; value = plain (take (start + size - start) (drop start rule)) }) feasible .number)
             × (exit ≡ announced ipv4 t (record { originator = originator; actions = actions; value = plain (take (start + size - start) (drop start rule)) }) feasible .table)
-            → answer ≡ changeOf number → Announces relaxed words rule originator communities t answer exit
+            → answer ≡ changeOf number → Announces relaxed words rule originator communities t answer exit (words ∷ rule ∷ communities ∷ [])
         unfolding announcing
         announce-done number answer exit h a =
             let k = rw (add-sub-cancel-left start size) at h in
@@ -100,13 +100,13 @@ module _ (relaxed : Bool) (words rule : List ℕ) (originator : ℕ) (communitie
 -- ---- withdrawing ----
 
 module _ (rule t : List ℕ) where
-  withdraw-kept : (o : Outcome) (answer : Change) (exit : List ℕ) → withdrawing rule t ≡ o → answer ≡ o .answer → exit ≡ o .table → Withdraws rule t answer exit
+  withdraw-kept : (o : Outcome) (answer : Change) (exit : List ℕ) → withdrawing rule t ≡ o → answer ≡ o .answer → exit ≡ o .table → Withdraws rule t answer exit (rule ∷ [])
   withdraw-kept o answer exit e a x =
       let q : answer ≡ withdrawing rule t .answer = rw e a in
-      record { is = q; says = ap changeTold q; leaves = rw e x }
+      record { is = q; says = ap changeTold q; leaves = rw e x; keeps = refl }
 
   module _ (s : Soundness) (is : s ≡ soundness ipv4 t) where
-    pub withdraw-unsound : s ≡ Unsound → Withdraws rule t (NotChanged 10 0) t
+    pub withdraw-unsound : s ≡ Unsound → Withdraws rule t (NotChanged 10 0) t (rule ∷ [])
     unfolding withdrawing
     withdraw-unsound e = withdraw-kept (refusal 10 0 t) _ _ (rw (was-unsound t s is e)) refl refl
 
@@ -114,7 +114,7 @@ module _ (rule t : List ℕ) where
       found : oneRule ipv4 rule ≡ reading
       found = rw (← four) (sym read-is)
 
-      pub withdraw-refused : (number place : ℕ) → reading ≡ NotRead number place → Withdraws rule t (NotChanged number place) t
+      pub withdraw-refused : (number place : ℕ) → reading ≡ NotRead number place → Withdraws rule t (NotChanged number place) t (rule ∷ [])
       unfolding withdrawing
       withdraw-refused number place f = withdraw-kept (refusal number place t) _ _ (rw (was-sound t s is used e .0, found, f)) refl refl
 
@@ -127,7 +127,7 @@ module _ (rule t : List ℕ) where
 
         pub withdraw-done : (number : ℕ) (answer : Change) (exit : List ℕ)
             → (number ≡ withdrawn ipv4 t (keysOf ipv4 (plain (take (start + size - start) (drop start rule)))) .number)
-            × (exit ≡ withdrawn ipv4 t (keysOf ipv4 (plain (take (start + size - start) (drop start rule)))) .table) → answer ≡ changeOf number → Withdraws rule t answer exit
+            × (exit ≡ withdrawn ipv4 t (keysOf ipv4 (plain (take (start + size - start) (drop start rule)))) .table) → answer ≡ changeOf number → Withdraws rule t answer exit (rule ∷ [])
         unfolding withdrawing
         withdraw-done number answer exit h a =
             let k = rw (add-sub-cancel-left start size) at h in
@@ -136,11 +136,11 @@ module _ (rule t : List ℕ) where
 -- ---- looking up ----
 
 module _ (t octets : List ℕ) where
-  look-kept : (answer : Looked) → answer ≡ lookingUp t octets → LooksUp t octets answer
-  look-kept answer e = record { is = e; says = ap lookupTold e }
+  look-kept : (answer : Looked) → answer ≡ lookingUp t octets → LooksUp t octets answer (t ∷ octets ∷ [])
+  look-kept answer e = record { is = e; says = ap lookupTold e; keeps = refl }
 
   module _ (s : Soundness) (is : s ≡ soundness ipv4 t) where
-    pub look-unsound : s ≡ Unsound → LooksUp t octets (NotLookedUp 10 0)
+    pub look-unsound : s ≡ Unsound → LooksUp t octets (NotLookedUp 10 0) (t ∷ octets ∷ [])
     unfolding lookingUp
     look-unsound e = look-kept _ (rw (was-unsound t s is e))
 
@@ -152,11 +152,11 @@ module _ (t octets : List ℕ) where
       pub look-sound : soundTable ipv4 t ≡ true
       look-sound = was-sound t s is used e .0
 
-      pub look-unusable : sight ≡ Unusable → LooksUp t octets (NotLookedUp 12 0)
+      pub look-unusable : sight ≡ Unusable → LooksUp t octets (NotLookedUp 12 0) (t ∷ octets ∷ [])
       unfolding lookingUp
       look-unusable f = look-kept _ (rw (look-sound, ← seen, f))
 
-      pub look-judged : (packet : Packet) (verdict : Verdict) → sight ≡ Usable packet → verdict ≡ verdictFor ipv4 packet (entries t) → LooksUp t octets (Judged verdict)
+      pub look-judged : (packet : Packet) (verdict : Verdict) → sight ≡ Usable packet → verdict ≡ verdictFor ipv4 packet (entries t) → LooksUp t octets (Judged verdict) (t ∷ octets ∷ [])
       unfolding lookingUp
       look-judged packet verdict f v = look-kept _ (rw (look-sound, ← seen, f, v))
 

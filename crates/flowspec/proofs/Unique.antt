@@ -12,32 +12,39 @@ use Rattle.flowspec.specs.declared.Change.{Change}
 use Rattle.flowspec.specs.declared.Looked.{Looked}
 use Rattle.flowspec.specs.Promise.{ReadsOne, WritesOne, ComparesTwo, JudgesOne, ReadsActions, Announces, Withdraws, LooksUp, FirstMatches}
 
-pub one-reading : (rule : List ℕ) (a b : Reading) → ReadsOne rule a → ReadsOne rule b → a ≡ b
-one-reading rule a b p q = p .is ∙ sym (q .is)
+module _ (k l : List (List ℕ)) where
+  pub one-reading : (rule : List ℕ) (a b : Reading) → ReadsOne rule a k → ReadsOne rule b l → (a ≡ b) × (k ≡ l)
+  one-reading rule a b p q = (p .is ∙ sym (q .is), p .keeps ∙ sym (q .keeps))
 
-pub one-writing : (value buffer : List ℕ) (a b : Writing) (x y : List ℕ) → WritesOne value buffer a x → WritesOne value buffer b y → (a ≡ b) × (x ≡ y)
-one-writing value buffer a b x y p q = (p .is ∙ sym (q .is), p .leaves ∙ sym (q .leaves))
+  pub one-writing : (value buffer : List ℕ) (a b : Writing) (x y : List ℕ) → WritesOne value buffer a x k → WritesOne value buffer b y l
+      → (a ≡ b) × ((x ≡ y) × (k ≡ l))
+  one-writing value buffer a b x y p q = (p .is ∙ sym (q .is), (p .leaves ∙ sym (q .leaves), p .keeps ∙ sym (q .keeps)))
 
-pub one-comparison : (first second : List ℕ) (a b : Comparison) → ComparesTwo first second a → ComparesTwo first second b → a ≡ b
-one-comparison first second a b p q = p .is ∙ sym (q .is)
+  pub one-comparison : (first second : List ℕ) (a b : Comparison) → ComparesTwo first second a k → ComparesTwo first second b l → (a ≡ b) × (k ≡ l)
+  one-comparison first second a b p q = (p .is ∙ sym (q .is), p .keeps ∙ sym (q .keeps))
 
-pub one-judgement : (relaxed : Bool) (routes rule : List ℕ) (originator : ℕ) (a b : Feasibility) → JudgesOne relaxed routes rule originator a
-    → JudgesOne relaxed routes rule originator b → a ≡ b
-one-judgement relaxed routes rule originator a b p q = p .is ∙ sym (q .is)
+  pub one-judgement : (relaxed : Bool) (routes rule : List ℕ) (originator : ℕ) (a b : Feasibility) → JudgesOne relaxed routes rule originator a k
+      → JudgesOne relaxed routes rule originator b l → (a ≡ b) × (k ≡ l)
+  one-judgement relaxed routes rule originator a b p q = (p .is ∙ sym (q .is), p .keeps ∙ sym (q .keeps))
 
-pub one-reading-of-actions : (communities : List ℕ) (a b : ActionsReading) → ReadsActions communities a → ReadsActions communities b → a ≡ b
-one-reading-of-actions communities a b p q = p .is ∙ sym (q .is)
+  pub one-reading-of-actions : (communities : List ℕ) (a b : ActionsReading) → ReadsActions communities a k → ReadsActions communities b l
+      → (a ≡ b) × (k ≡ l)
+  one-reading-of-actions communities a b p q = (p .is ∙ sym (q .is), p .keeps ∙ sym (q .keeps))
 
-pub one-announcement : (relaxed : Bool) (routes rule : List ℕ) (originator : ℕ) (communities table : List ℕ) (a b : Change) (x y : List ℕ)
-    → Announces relaxed routes rule originator communities table a x → Announces relaxed routes rule originator communities table b y → (a ≡ b) × (x ≡ y)
-one-announcement relaxed routes rule originator communities table a b x y p q = (p .is ∙ sym (q .is), p .leaves ∙ sym (q .leaves))
+  pub one-announcement : (relaxed : Bool) (routes rule : List ℕ) (originator : ℕ) (communities table : List ℕ) (a b : Change) (x y : List ℕ)
+      → Announces relaxed routes rule originator communities table a x k → Announces relaxed routes rule originator communities table b y l
+      → (a ≡ b) × ((x ≡ y) × (k ≡ l))
+  one-announcement relaxed routes rule originator communities table a b x y p q =
+      (p .is ∙ sym (q .is), (p .leaves ∙ sym (q .leaves), p .keeps ∙ sym (q .keeps)))
 
-pub one-withdrawal : (rule table : List ℕ) (a b : Change) (x y : List ℕ) → Withdraws rule table a x → Withdraws rule table b y → (a ≡ b) × (x ≡ y)
-one-withdrawal rule table a b x y p q = (p .is ∙ sym (q .is), p .leaves ∙ sym (q .leaves))
+  pub one-withdrawal : (rule table : List ℕ) (a b : Change) (x y : List ℕ) → Withdraws rule table a x k → Withdraws rule table b y l
+      → (a ≡ b) × ((x ≡ y) × (k ≡ l))
+  one-withdrawal rule table a b x y p q = (p .is ∙ sym (q .is), (p .leaves ∙ sym (q .leaves), p .keeps ∙ sym (q .keeps)))
 
-pub one-lookup : (table packet : List ℕ) (a b : Looked) → LooksUp table packet a → LooksUp table packet b → a ≡ b
-one-lookup table packet a b p q = p .is ∙ sym (q .is)
+  pub one-lookup : (table packet : List ℕ) (a b : Looked) → LooksUp table packet a k → LooksUp table packet b l → (a ≡ b) × (k ≡ l)
+  one-lookup table packet a b p q = (p .is ∙ sym (q .is), p .keeps ∙ sym (q .keeps))
 
--- where the part begins in the table is an equation of its own in the call's `ensures`, and so has one answer too
-pub one-first-match : (table packet x y : List ℕ) → FirstMatches table packet x → FirstMatches table packet y → x ≡ y
-one-first-match table packet x y p q = p .is ∙ sym (q .is)
+  -- a first match is settled in its octets and in where it stands
+  pub one-first-match : (table packet : List ℕ) (lent : ℕ × ℕ) (x y : List ℕ) (p q : ℕ × ℕ) → FirstMatches table packet lent x p k
+      → FirstMatches table packet lent y q l → (x ≡ y) × ((p ≡ q) × (k ≡ l))
+  one-first-match table packet lent x y p q a b = (a .is ∙ sym (b .is), (a .begins ∙ sym (b .begins), a .keeps ∙ sym (b .keeps)))

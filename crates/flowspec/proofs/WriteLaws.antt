@@ -1,6 +1,6 @@
 -- Writing one rule: the promise from what the rule crate's writer ensures. Assumes nothing.
-use mathlib.Core.Path.{_≡_, ap}
-use mathlib.Core.List.{List}
+use mathlib.Core.Path.{_≡_, refl, ap}
+use mathlib.Core.List.{List, [], _∷_}
 use Prim.Native.Nat.{ℕ}
 use lib.ListN.{length}
 use Rattle.rule.specs.declared.Family.{Family}
@@ -11,7 +11,7 @@ use Rattle.flowspec.specs.Told.{writingTold}
 use Rattle.flowspec.specs.Promise.{WritesOne}
 
 pub writes : (value buffer : List ℕ) (family : Family) → family ≡ ipv4 → (answer : Writing) (exit : List ℕ)
-    → (answer ≡ writing family value (length buffer)) × (exit ≡ afterWriting family value buffer) → WritesOne value buffer answer exit
+    → (answer ≡ writing family value (length buffer)) × (exit ≡ afterWriting family value buffer) → WritesOne value buffer answer exit (value ∷ [])
 writes value buffer family four answer exit h =
     let e : answer ≡ writing ipv4 value (length buffer) = rw (← four) (h .0) in
-    record { is = e; says = ap writingTold e; leaves = rw (← four) (h .1) }
+    record { is = e; says = ap writingTold e; leaves = rw (← four) (h .1); keeps = refl }

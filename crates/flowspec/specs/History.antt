@@ -70,8 +70,8 @@ module _ (relaxed : Bool) (routes : List ℕ) where
 
   -- A call's promise, with a table at entry.
   abbrev pub Promised : Call → List ℕ → Change → List ℕ → Type 0
-  Promised (announcement rule originator communities) table answer left = Announces relaxed routes rule originator communities table answer left
-  Promised (withdrawal rule) table answer left = Withdraws rule table answer left
+  Promised (announcement rule originator communities) table answer left = Announces relaxed routes rule originator communities table answer left (routes ∷ rule ∷ communities ∷ [])
+  Promised (withdrawal rule) table answer left = Withdraws rule table answer left (rule ∷ [])
 
   -- A history from a table on, the oldest call first: each call keeps its promise on the table that the call before it left.
   abbrev pub Happened : List ℕ → List Made → Type 0

@@ -1,9 +1,10 @@
--- What each public call promises, whatever octets it is lent: its answer, what that answer says in 01's terms, and what each buffer lent
--- to be changed holds at exit; what is lent to be read alone cannot be changed. No call has a `requires`. That no second answer satisfies a promise is shown in proofs/Unique.antt.
-use Prim.Native.Nat.{ℕ}
+-- What each public call promises, whatever octets it is lent: its answer (`is`), what that answer says in 01's terms (`says`), what each
+-- buffer lent to be changed holds at exit (`leaves`), and that what is lent to be read alone is as it was (`keeps`; `kept` is what those
+-- slices hold at exit). No call has a `requires`. That no second result satisfies a promise is shown in proofs/Unique.antt.
+use Prim.Native.Nat.{ℕ, _+_}
 use mathlib.Core.Path.{_≡_}
 use mathlib.Core.Bool.{Bool}
-use mathlib.Core.List.{List}
+use mathlib.Core.List.{List, [], _∷_}
 use lib.ListN.{length}
 use Rattle.rule.specs.declared.Reading.{Reading}
 use Rattle.rule.specs.declared.Writing.{Writing}
@@ -24,51 +25,61 @@ use Rattle.flowspec.specs.Feasibility.{judgement}
 use Rattle.flowspec.specs.Told.{readingTold, writingTold, comparisonTold, feasibilityTold, changeTold, lookupTold}
 
 -- Reading one rule: refusals 1 to 7, then 15.
-pub record ReadsOne (rule : List ℕ) (answer : Reading) : Type 0 where
+pub record ReadsOne (rule : List ℕ) (answer : Reading) (kept : List (List ℕ)) : Type 0 where
   pub is : answer ≡ oneRule ipv4 rule
   pub says : readingTold answer ≡ readingTold (oneRule ipv4 rule)
+  pub keeps : kept ≡ rule ∷ []
 
 -- Writing one rule from a value: refusals 1 to 7, then 16; on success the front of the buffer is filled and the rest kept, and a
 -- refusal changes no octet.
-pub record WritesOne (value buffer : List ℕ) (answer : Writing) (exit : List ℕ) : Type 0 where
+pub record WritesOne (value buffer : List ℕ) (answer : Writing) (exit : List ℕ) (kept : List (List ℕ)) : Type 0 where
   pub is : answer ≡ writing ipv4 value (length buffer)
   pub says : writingTold answer ≡ writingTold (writing ipv4 value (length buffer))
   pub leaves : exit ≡ afterWriting ipv4 value buffer
+  pub keeps : kept ≡ value ∷ []
 
 -- Comparing two rules: refusals 1 to 7 and 15 of the first, then of the second.
-pub record ComparesTwo (first second : List ℕ) (answer : Comparison) : Type 0 where
+pub record ComparesTwo (first second : List ℕ) (answer : Comparison) (kept : List (List ℕ)) : Type 0 where
   pub is : answer ≡ compareRules first second
   pub says : comparisonTold answer ≡ comparisonTold (compareRules first second)
+  pub keeps : kept ≡ first ∷ second ∷ []
 
 -- Judging one rule: refusals 9, 1 to 7, 15, 8.
-pub record JudgesOne (relaxed : Bool) (routes rule : List ℕ) (originator : ℕ) (answer : Feasibility) : Type 0 where
+pub record JudgesOne (relaxed : Bool) (routes rule : List ℕ) (originator : ℕ) (answer : Feasibility) (kept : List (List ℕ)) : Type 0 where
   pub is : answer ≡ judgement relaxed routes rule originator
   pub says : feasibilityTold answer ≡ feasibilityTold (judgement relaxed routes rule originator)
+  pub keeps : kept ≡ routes ∷ rule ∷ []
 
 -- Reading actions: refusal 13; `told` gives the number, and the values with absent ones 0.
-pub record ReadsActions (communities : List ℕ) (answer : ActionsReading) : Type 0 where
+pub record ReadsActions (communities : List ℕ) (answer : ActionsReading) (kept : List (List ℕ)) : Type 0 where
   pub is : answer ≡ actionsOf communities
   pub says : told answer ≡ told (actionsOf communities)
+  pub keeps : kept ≡ communities ∷ []
 
 -- Announcing: refusals 10, 9, 1 to 7, 15, 13, 8, 11. The table at exit is the outcome's: changed where done and, at 8, where the rule was
 -- held; every other refusal changes no octet.
-pub record Announces (relaxed : Bool) (routes rule : List ℕ) (originator : ℕ) (communities table : List ℕ) (answer : Change) (exit : List ℕ) : Type 0 where
+pub record Announces (relaxed : Bool) (routes rule : List ℕ) (originator : ℕ) (communities table : List ℕ) (answer : Change) (exit : List ℕ) (kept : List (List ℕ)) : Type 0 where
   pub is : answer ≡ announcing relaxed routes rule originator communities table .answer
   pub says : changeTold answer ≡ changeTold (announcing relaxed routes rule originator communities table .answer)
   pub leaves : exit ≡ announcing relaxed routes rule originator communities table .table
+  pub keeps : kept ≡ routes ∷ rule ∷ communities ∷ []
 
 -- Withdrawing: refusals 10, 1 to 7, 15, 14, none of which changes an octet.
-pub record Withdraws (rule table : List ℕ) (answer : Change) (exit : List ℕ) : Type 0 where
+pub record Withdraws (rule table : List ℕ) (answer : Change) (exit : List ℕ) (kept : List (List ℕ)) : Type 0 where
   pub is : answer ≡ withdrawing rule table .answer
   pub says : changeTold answer ≡ changeTold (withdrawing rule table .answer)
   pub leaves : exit ≡ withdrawing rule table .table
+  pub keeps : kept ≡ rule ∷ []
 
 -- Looking up: refusals 10, 12.
-pub record LooksUp (table packet : List ℕ) (answer : Looked) : Type 0 where
+pub record LooksUp (table packet : List ℕ) (answer : Looked) (kept : List (List ℕ)) : Type 0 where
   pub is : answer ≡ lookingUp table packet
   pub says : lookupTold answer ≡ lookupTold (lookingUp table packet)
+  pub keeps : kept ≡ table ∷ packet ∷ []
 
--- The first match's record: the table's octets at its place, and none where nothing matches or the lookup is refused. That the part
--- begins at that place of the lent table is said beside it, of its pointer.
-pub record FirstMatches (table packet part : List ℕ) : Type 0 where
+-- The first match's record: the table's octets at its place, and none where nothing matches or the lookup is refused. `lent` and `stands`
+-- are where the table and the part stand in memory, a block and a place in it: the part begins in the table, at its place there.
+pub record FirstMatches (table packet : List ℕ) (lent : ℕ × ℕ) (part : List ℕ) (stands : ℕ × ℕ) (kept : List (List ℕ)) : Type 0 where
   pub is : part ≡ between table (firstMatch table packet .start) (firstMatch table packet .end)
+  pub begins : stands ≡ (lent .0, firstMatch table packet .start + lent .1)
+  pub keeps : kept ≡ table ∷ packet ∷ []

@@ -1,12 +1,13 @@
 // The door: every public call of the flow-rule part, each with its promise (specs/Promise.antt). No call has a `requires`: whatever
 // octets it is lent, it answers, and a refusal is a number and a place of 01's table.
 ghost use mathlib.Core.Path.{_≡_};
+ghost use mathlib.Core.List.{[], _∷_};
 ghost use Rattle.flowspec.specs.Compare.{comparisonOf};
 ghost use Rattle.flowspec.specs.Feasibility.{isFeasible, judged};
 ghost use Rattle.flowspec.specs.Promise.{ReadsOne, WritesOne, ComparesTwo, JudgesOne, ReadsActions, Announces, Withdraws, LooksUp, FirstMatches};
 ghost use Rattle.flowspec.specs.Announce.{changeOf, asked};
 ghost use Rattle.flowspec.specs.Look.{firstMatch};
-ghost use Prim.Native.Nat.{_+_, _≤_};
+ghost use Prim.Native.Nat.{_≤_};
 ghost use lib.ListN.{length};
 use action::Actions;
 use octets::Order;
@@ -60,14 +61,14 @@ pub enum Looked {
 
 // Reads one rule: where its value starts and how long it is.
 pub fn read_rule(rule: &[u8]) -> Reading
-    ensures { λ r. ⌜ ReadsOne (now (rule .entry)) r ⌝ }
+    ensures { λ r. ⌜ ReadsOne (now (rule .entry)) r (now (rule .exit) ∷ []) ⌝ }
 {
     rule::one_rule(rule::ipv4(), rule)
 }
 
 // Writes one rule from its value, in its plain spelling, to the front of a buffer: how many octets were written.
 pub fn write_rule(value: &[u8], buffer: &mut [u8]) -> Writing
-    ensures { λ r. ⌜ WritesOne (now (value .entry)) (now (buffer .entry)) r (now (buffer .exit)) ⌝ }
+    ensures { λ r. ⌜ WritesOne (now (value .entry)) (now (buffer .entry)) r (now (buffer .exit)) (now (value .exit) ∷ []) ⌝ }
 {
     rule::write_rule(rule::ipv4(), value, buffer)
 }
@@ -85,7 +86,7 @@ fn comparison_of(which: Order) -> Comparison
 
 // Compares two rules by their precedence.
 pub fn compare_rules(first: &[u8], second: &[u8]) -> Comparison
-    ensures { λ r. ⌜ ComparesTwo (now (first .entry)) (now (second .entry)) r ⌝ }
+    ensures { λ r. ⌜ ComparesTwo (now (first .entry)) (now (second .entry)) r (now (first .exit) ∷ now (second .exit) ∷ []) ⌝ }
 {
     let family = rule::ipv4();
     let left = rule::one_rule(family, first);
@@ -122,7 +123,7 @@ fn judge_value(relaxed: bool, routes: &[u32], value: &[u8], originator: u32) -> 
 
 // Judges whether a rule is feasible for an originator by the lent routes.
 pub fn judge_rule(relaxed: bool, routes: &[u32], rule: &[u8], originator: u32) -> Feasibility
-    ensures { λ r. ⌜ JudgesOne relaxed (now (routes .entry)) (now (rule .entry)) originator r ⌝ }
+    ensures { λ r. ⌜ JudgesOne relaxed (now (routes .entry)) (now (rule .entry)) originator r (now (routes .exit) ∷ now (rule .exit) ∷ []) ⌝ }
 {
     if !route::sound_routes(routes) {
         return Feasibility::Refused {
@@ -141,7 +142,7 @@ pub fn judge_rule(relaxed: bool, routes: &[u32], rule: &[u8], originator: u32) -
 
 // Reads the filtering actions of a rule's communities.
 pub fn read_actions(communities: &[u8]) -> action::Reading
-    ensures { λ r. ⌜ ReadsActions (now (communities .entry)) r ⌝ }
+    ensures { λ r. ⌜ ReadsActions (now (communities .entry)) r (now (communities .exit) ∷ []) ⌝ }
 {
     action::actions_of(communities)
 }
@@ -197,7 +198,7 @@ pub fn announce(
     originator: u32,
     communities: &[u8],
 ) -> Change
-    ensures { λ r. ⌜ Announces relaxed (now (routes .entry)) (now (rule .entry)) originator (now (communities .entry)) (now (table .entry)) r (now (table .exit)) ⌝ }
+    ensures { λ r. ⌜ Announces relaxed (now (routes .entry)) (now (rule .entry)) originator (now (communities .entry)) (now (table .entry)) r (now (table .exit)) (now (routes .exit) ∷ now (rule .exit) ∷ now (communities .exit) ∷ []) ⌝ }
 {
     match table::sound_table(table) {
         Soundness::Unsound => Change::Refused {
@@ -228,7 +229,7 @@ pub fn announce(
 
 // Withdraws a rule from a table.
 pub fn withdraw(table: &mut [u8], rule: &[u8]) -> Change
-    ensures { λ r. ⌜ Withdraws (now (rule .entry)) (now (table .entry)) r (now (table .exit)) ⌝ }
+    ensures { λ r. ⌜ Withdraws (now (rule .entry)) (now (table .entry)) r (now (table .exit)) (now (rule .exit) ∷ []) ⌝ }
 {
     match table::sound_table(table) {
         Soundness::Unsound => Change::Refused {
@@ -247,7 +248,7 @@ pub fn withdraw(table: &mut [u8], rule: &[u8]) -> Change
 
 // Looks a packet up in a table.
 pub fn lookup(table: &[u8], packet: &[u8]) -> Looked
-    ensures { λ r. ⌜ LooksUp (now (table .entry)) (now (packet .entry)) r ⌝ }
+    ensures { λ r. ⌜ LooksUp (now (table .entry)) (now (packet .entry)) r (now (table .exit) ∷ now (packet .exit) ∷ []) ⌝ }
 {
     match table::sound_table(table) {
         Soundness::Unsound => Looked::Refused {
@@ -279,7 +280,7 @@ fn first_match_place(table: &[u8], packet: &[u8]) -> Place
 
 // The first match's record, as a part of the table.
 pub fn first_match<'a>(table: &'a [u8], packet: &[u8]) -> &'a [u8]
-    ensures { λ r. ⌜ FirstMatches (now (table .entry)) (now (packet .entry)) (now r) × ((r .ptr .0 ≡ table .entry .ptr .0) × (r .ptr .1 ≡ firstMatch (now (table .entry)) (now (packet .entry)) .start + table .entry .ptr .1)) ⌝ }
+    ensures { λ r. ⌜ FirstMatches (now (table .entry)) (now (packet .entry)) (table .entry .ptr) (now r) (r .ptr) (now (table .exit) ∷ now (packet .exit) ∷ []) ⌝ }
 {
     let place = first_match_place(table, packet);
     let start = place.start;

@@ -19,7 +19,7 @@ part-result-end : tie.Need-part-result-end
 part-result-end c = search needs
 
 returns : tie.Need-returns
-returns c = let e = c .before .first-match-place .ensures .0 in (record { is = rw (← e) refl }, (refl, rw (← e) refl))
+returns c = let e = c .before .first-match-place .ensures .0 in record { is = rw (← e) refl; begins = rw (← e) refl; keeps = refl }
 
 pub first-match-spec : {M : Type 1} → statement M
 first-match-spec =

@@ -1,5 +1,5 @@
 -- The answer is the rule crate's.
-use mathlib.Core.Path.{ap, _∙_}
+use mathlib.Core.Path.{refl, ap, _∙_}
 use Rattle.rule.specs.Reading.{oneRule}
 use Rattle.flowspec.specs.Told.{readingTold}
 use borrow.Author.Needs.{needs}
@@ -18,7 +18,7 @@ one-rule-requires c κs = search needs
 
 returns : tie.Need-returns
 returns c = let e = c .one-rule .ensures ∙ ap (λ f. oneRule f (c .before .before .before .args .rule .now)) (c .before .ipv4 .ensures) in
-    record { is = e; says = ap readingTold e }
+    record { is = e; says = ap readingTold e; keeps = refl }
 
 pub read-rule-spec : {M : Type 1} → statement M
 read-rule-spec = tie.close (tie.spec ipv4-requires one-rule-requires returns)
