@@ -150,12 +150,12 @@ pub octets-value : (rule : List ℕ) (start size : ℕ) → Octets rule → Octe
 octets-value rule start size o = rw (add-sub-cancel-left start size) at (octets-between rule start (start + size) o)
 
 -- what is asked to be announced could be
-abbrev Could : List ℕ → ℕ → Request → Type 0
+abbrev pub Could : List ℕ → ℕ → Request → Type 0
 Could rule originator (NotAsked number place) = Unit {0}
 Could rule originator (Announce start size actions feasible) =
     possible ipv4 (record { originator = originator; actions = actions; value = plain (valueOf rule start size) }) ≡ true
 
-asked-could : (relaxed : Bool) (routes rule : List ℕ) (originator : ℕ) (communities : List ℕ) → Octets rule → originator < 2 ^ 32
+pub asked-could : (relaxed : Bool) (routes rule : List ℕ) (originator : ℕ) (communities : List ℕ) → Octets rule → originator < 2 ^ 32
     → Could rule originator (asked relaxed routes rule originator communities)
 unfolding asked
 asked-could relaxed routes rule originator communities o small =

@@ -1,58 +1,244 @@
--- What an operator relies on, of the octets that done announcements (`inserted`) and withdrawals (`removed`) leave: making the same
--- announcement twice changes nothing the second time, withdrawing after it gives the table without the rule, and the order of two
--- announcements of different rules does not matter where both are done.
-use mathlib.Core.Path.{_≡_, refl, sym, ap}
-use mathlib.Core.Bool.{true}
+-- What an operator relies on, of the calls by their own promises: an announcement that was done, made again, is done and changes nothing;
+-- withdrawing after it is done, and leaves what withdrawing alone would have left; and two announcements of different rules, done in
+-- either order, leave equal octets. Of what a call is given only what its types say is assumed (`CanBe`).
+use mathlib.Core.Path.{_≡_, refl, sym, ap, ap₂, _∙_}
+use mathlib.Core.Bool.{Bool, true, false}
 use mathlib.Core.List.{List}
-use Prim.Native.Nat.{ℕ}
+use mathlib.Core.Option.{Option, none, some}
+use Prim.Native.Nat.{ℕ, _^_, _<_, Ordering, Ordering·eq}
+use lib.Dec.{leb}
 use lib.ListN.{length}
 use borrow.Author.Tests.{leb-true}
-use Rattle.sorted.specs.Table.{insert}
-use Rattle.sorted.specs.History.{costs}
-use Rattle.sorted.proofs.TableLaws.{insert-sorted, insert-again, remove-insert, insert-swap}
+use Rattle.octets.proofs.Cases.{by-test, apart}
+use Rattle.octets.proofs.Facts.{Octets}
+use Rattle.sorted.specs.Table.{lookup, insert, remove}
+use Rattle.sorted.specs.History.{costs, isHeld}
+use Rattle.sorted.proofs.TableLaws.{insert-sorted, insert-again, remove-insert, remove-absent, lookup-insert, insert-swap}
+use Rattle.rule.specs.declared.Reading.{Reading}
+use Rattle.rule.specs.declared.Reading.the-variants.{Rule, Refused as NotRead}
 use Rattle.rule.specs.Family.{ipv4}
-use Rattle.order.specs.Key.{keyOrder}
-use Rattle.order.proofs.KeyLaws.{key-order}
+use Rattle.rule.specs.Plain.{plain}
+use Rattle.rule.specs.Reading.{oneRule}
+use Rattle.order.specs.Precedence.{precedence}
+use Rattle.order.specs.Key.{keysOf, keyOrder}
+use Rattle.order.proofs.KeyLaws.{key-order, keys-plain, one-order}
+use Rattle.route.specs.Route.{soundRoutes}
+use Rattle.action.specs.declared.Actions.{Actions}
+use Rattle.action.specs.declared.Reading.{Reading as ActionsReading}
+use Rattle.action.specs.declared.Reading.the-variants.{Read, Unsound}
+use Rattle.action.specs.Actions.{actionsOf}
 use Rattle.entry.specs.Entry.{Entry, entryKey, possible}
 use Rattle.table.specs.Walk.{entries}
-use Rattle.table.specs.Sound.{cost, tableOf, Encodes}
-use Rattle.table.specs.Change.{removed, hasRoom, inserted}
+use Rattle.table.specs.Sound.{cost, tableOf, soundTable, Encodes}
+use Rattle.table.specs.Change.{holds, removed, hasRoom, inserted, announced, withdrawn}
 use Rattle.table.proofs.SpliceLaws.{length-table}
-use Rattle.table.proofs.SoundLaws.{encodes-entries}
-use Rattle.flowspec.proofs.HistoryLaws.{every-insert, encoding}
+use Rattle.table.proofs.SoundLaws.{sound-encodes, encodes-sound, encodes-entries}
+use Rattle.flowspec.specs.declared.Change.{Change}
+use Rattle.flowspec.specs.declared.Change.the-variants.{Done, Refused}
+use Rattle.flowspec.specs.declared.Comparison.{Comparison}
+use Rattle.flowspec.specs.declared.Comparison.the-variants.{Same}
+use Rattle.flowspec.specs.declared.Request.{Request}
+use Rattle.flowspec.specs.declared.Request.the-variants.{Announce, Refused as NotAsked}
+use Rattle.flowspec.specs.Announce.{Outcome, changeOf, outcome, valueOf, askedBy, asked, announcedBy, announcing, withdrawnBy, withdrawing}
+use Rattle.flowspec.specs.Compare.{compared, compareRules}
+use Rattle.flowspec.specs.Promise.{Announces, Withdraws}
+use Rattle.flowspec.proofs.HistoryLaws.{every-insert, encoding, octets-value, Could, asked-could}
 
 module _ (t : List ℕ) (c : Encodes ipv4 t (entries t)) where
   -- the table with an entry encodes its entries with that one, in a buffer of the same length
   with-entry : (e : Entry) → possible ipv4 e ≡ true → hasRoom ipv4 t e ≡ true
-      → (entries (inserted ipv4 t e) ≡ insert keyOrder (entryKey ipv4) e (entries t)) × (length (inserted ipv4 t e) ≡ length t)
+      → Encodes ipv4 (inserted ipv4 t e) (insert keyOrder (entryKey ipv4) e (entries t)) × (length (inserted ipv4 t e) ≡ length t)
   unfolding hasRoom inserted
   with-entry e ok room =
       let fits = leb-true (costs cost (insert keyOrder (entryKey ipv4) e (entries t))) (length t) room in (
-        encodes-entries ipv4 (tableOf (length t) (insert keyOrder (entryKey ipv4) e (entries t))) (insert keyOrder (entryKey ipv4) e (entries t))
-            (encoding t (entries t) c (insert keyOrder (entryKey ipv4) e (entries t)) fits (every-insert (possible ipv4) e (entries t) ok (c .each)) (insert-sorted keyOrder (entryKey ipv4) key-order e (entries t) (c .rising))),
+        encoding t (entries t) c (insert keyOrder (entryKey ipv4) e (entries t)) fits (every-insert (possible ipv4) e (entries t) ok (c .each)) (insert-sorted keyOrder (entryKey ipv4) key-order e (entries t) (c .rising)),
         length-table (length t) (insert keyOrder (entryKey ipv4) e (entries t)) fits,
       )
 
   module _ (e : Entry) (ok : possible ipv4 e ≡ true) (room : hasRoom ipv4 t e ≡ true) where
-    -- **announcing twice**
-    pub announced-twice : inserted ipv4 (inserted ipv4 t e) e ≡ inserted ipv4 t e
+    entries-with : entries (inserted ipv4 t e) ≡ insert keyOrder (entryKey ipv4) e (entries t)
+    entries-with = encodes-entries ipv4 (inserted ipv4 t e) (insert keyOrder (entryKey ipv4) e (entries t)) (with-entry e ok room .0)
+
+    sound-with : soundTable ipv4 (inserted ipv4 t e) ≡ true
+    sound-with = encodes-sound ipv4 (inserted ipv4 t e) (insert keyOrder (entryKey ipv4) e (entries t)) (with-entry e ok room .0)
+
+    -- putting an entry in again finds room and changes nothing
+    room-again : hasRoom ipv4 (inserted ipv4 t e) e ≡ true
+    unfolding hasRoom
+    room-again =
+        rw (entries-with, with-entry e ok room .1, insert-again keyOrder (entryKey ipv4) key-order e e (entries t) refl) room
+
+    inserted-again : inserted ipv4 (inserted ipv4 t e) e ≡ inserted ipv4 t e
     unfolding inserted
-    announced-twice =
-        let w = with-entry e ok room in
-        rw (w .0, w .1, insert-again keyOrder (entryKey ipv4) key-order e e (entries t) refl)
+    inserted-again = rw (entries-with, with-entry e ok room .1, insert-again keyOrder (entryKey ipv4) key-order e e (entries t) refl)
 
-    -- **announcing, then withdrawing**
-    pub announced-withdrawn : removed ipv4 (inserted ipv4 t e) (entryKey ipv4 e) ≡ removed ipv4 t (entryKey ipv4 e)
+    -- what was put in is held, and taken out again leaves the table without its rule
+    holds-with : holds ipv4 (inserted ipv4 t e) (entryKey ipv4 e) ≡ true
+    unfolding holds
+    holds-with = rw (entries-with, lookup-insert keyOrder (entryKey ipv4) key-order (entryKey ipv4 e) e (entries t), key-order .same (entryKey ipv4 e))
+
+    removed-again : removed ipv4 (inserted ipv4 t e) (entryKey ipv4 e) ≡ removed ipv4 t (entryKey ipv4 e)
     unfolding removed
-    announced-withdrawn =
-        let w = with-entry e ok room in
-        rw (w .0, w .1, remove-insert keyOrder (entryKey ipv4) key-order e (entries t))
+    removed-again = rw (entries-with, with-entry e ok room .1, remove-insert keyOrder (entryKey ipv4) key-order e (entries t))
 
-    -- **two announcements of different rules**, in either order
-    pub announced-either-way : (x : Entry) → possible ipv4 x ≡ true → hasRoom ipv4 t x ≡ true → (entryKey ipv4 e ≡ entryKey ipv4 x → ⊥)
+    -- two entries of different rules may be put in in either order
+    inserted-either : (x : Entry) → possible ipv4 x ≡ true → hasRoom ipv4 t x ≡ true → (entryKey ipv4 e ≡ entryKey ipv4 x → ⊥)
+        → entries (inserted ipv4 t x) ≡ insert keyOrder (entryKey ipv4) x (entries t) → length (inserted ipv4 t x) ≡ length t
         → inserted ipv4 (inserted ipv4 t e) x ≡ inserted ipv4 (inserted ipv4 t x) e
     unfolding inserted
-    announced-either-way x fine space differ =
-        let w = with-entry e ok room in
-        let z = with-entry x fine space in
-        rw (w .0, w .1, z .0, z .1) (ap (tableOf (length t)) (sym (insert-swap keyOrder (entryKey ipv4) key-order e x (entries t) (c .rising) differ)))
+    inserted-either x fine space differ has long =
+        rw (entries-with, with-entry e ok room .1, has, long) (ap (tableOf (length t)) (sym (insert-swap keyOrder (entryKey ipv4) key-order e x (entries t) (c .rising) differ)))
+
+-- the entry that an announcement asks for, by where its value stands in the rule and its actions as read
+abbrev announcedEntry : List ℕ → ℕ → ℕ → ℕ → Actions → Entry
+announcedEntry rule originator start size actions = record { originator = originator; actions = actions; value = plain (valueOf rule start size) }
+
+-- an announcement that asks for an entry read its rule
+asked-read : (relaxed : Bool) (routes rule : List ℕ) (originator : ℕ) (communities : List ℕ) (start size : ℕ) (actions : Actions) (feasible : Bool)
+    → asked relaxed routes rule originator communities ≡ Announce start size actions feasible → oneRule ipv4 rule ≡ Rule start size
+unfolding asked
+asked-read relaxed routes rule originator communities start size actions feasible e =
+    by-test (soundRoutes 32 routes) (λ h. go (oneRule ipv4 rule) refl (actionsOf communities) (rw h at e)) (λ h. let z = rw h at e in apart (cc))
+  where
+    go : (r : Reading) → oneRule ipv4 rule ≡ r → (a : ActionsReading) → askedBy relaxed routes rule originator r a ≡ Announce start size actions feasible
+        → oneRule ipv4 rule ≡ Rule start size
+    go (NotRead number place) f a z = apart (cc)
+    go (Rule begin extent) f Unsound z = apart (cc)
+    go (Rule begin extent) f (Read read) z =
+        let starts : begin ≡ start = cc in
+        let sizes : extent ≡ size = cc in
+        f ∙ rw (starts, sizes)
+
+module _ (relaxed : Bool) (routes rule : List ℕ) (originator : ℕ) (communities : List ℕ) where
+  -- what a done announcement asked, what it found, and what it left
+  record Stored (t left : List ℕ) : Type 0 where
+    pub start : ℕ
+    pub size : ℕ
+    pub actions : Actions
+    pub asks : asked relaxed routes rule originator communities ≡ Announce start size actions true
+    pub sound : soundTable ipv4 t ≡ true
+    pub room : hasRoom ipv4 t (announcedEntry rule originator start size actions) ≡ true
+    pub is : left ≡ inserted ipv4 t (announcedEntry rule originator start size actions)
+
+  done-stored : (t left : List ℕ) (kept : List (List ℕ)) → Announces relaxed routes rule originator communities t Done left kept → Stored t left
+  unfolding announcing changeOf
+  done-stored t left kept p =
+      by-test (soundTable ipv4 t) (λ s. go s (asked relaxed routes rule originator communities) refl (rw s at (p .is)) (rw s at (p .leaves)))
+      (λ s. let z : Done ≡ Refused 10 0 = rw s at (p .is) in apart (cc))
+    where
+      go : soundTable ipv4 t ≡ true → (r : Request) → asked relaxed routes rule originator communities ≡ r → Done ≡ announcedBy t rule originator r .answer
+          → left ≡ announcedBy t rule originator r .table → Stored t left
+      go s (NotAsked number place) e a l = apart (cc)
+      go s (Announce start size actions false) e a l = let z : Done ≡ Refused 8 0 = a in apart (cc)
+      go s (Announce start size actions true) e a l =
+          by-test (hasRoom ipv4 t (announcedEntry rule originator start size actions))
+          (λ h. record { start = start; size = size; actions = actions; asks = e; sound = s; room = h; is = rw h at l })
+          (λ h. let z : Done ≡ Refused 11 0 = rw h at a in apart (cc))
+
+  stores : (t : List ℕ) (start size : ℕ) (actions : Actions) → asked relaxed routes rule originator communities ≡ Announce start size actions true
+      → soundTable ipv4 t ≡ true → hasRoom ipv4 t (announcedEntry rule originator start size actions) ≡ true
+      → announcing relaxed routes rule originator communities t ≡ record { answer = Done; table = inserted ipv4 t (announcedEntry rule originator start size actions) }
+  unfolding announcing changeOf
+  stores t start size actions e s h = rw (s, e, h)
+
+  -- an announcement asks for the same entry wherever it is made
+  one-entry : (t left u exit : List ℕ) (s : Stored t left) (r : Stored u exit)
+      → announcedEntry rule originator (s .start) (s .size) (s .actions) ≡ announcedEntry rule originator (r .start) (r .size) (r .actions)
+  one-entry t left u exit s r =
+      let same = sym (s .asks) ∙ r .asks in
+      let starts : s .start ≡ r .start = cc in
+      let sizes : s .size ≡ r .size = cc in
+      let acts : s .actions ≡ r .actions = cc in
+      rw (starts, sizes, acts)
+
+  module _ (o : Octets rule) (small : originator < 2 ^ 32) (t : List ℕ) (octets : Octets t) (left : List ℕ) (kept : List (List ℕ))
+      (done : Announces relaxed routes rule originator communities t Done left kept) where
+    stored : Stored t left
+    stored = done-stored t left kept done
+
+    abbrev entered : Entry
+    entered = announcedEntry rule originator (stored .start) (stored .size) (stored .actions)
+
+    before : Encodes ipv4 t (entries t)
+    before = sound-encodes ipv4 t octets (stored .sound)
+
+    could : possible ipv4 entered ≡ true
+    could = rw (stored .asks) at (asked-could relaxed routes rule originator communities o small)
+
+    -- **the same announcement twice**: the second is done too, and changes nothing
+    pub announced-twice : (answer : Change) (exit : List ℕ) (held : List (List ℕ)) → Announces relaxed routes rule originator communities left answer exit held
+        → (answer ≡ Done) × (exit ≡ left)
+    announced-twice answer exit held q =
+        let again = stores (inserted ipv4 t entered) (stored .start) (stored .size) (stored .actions) (stored .asks) (sound-with t before entered could (stored .room)) (room-again t before entered could (stored .room)) in
+        let asks = ap (announcing relaxed routes rule originator communities) (stored .is) ∙ again in (
+          q .is ∙ ap (λ (x : Outcome). x .answer) asks,
+          q .leaves ∙ ap (λ (x : Outcome). x .table) asks ∙ inserted-again t before entered could (stored .room) ∙ sym (stored .is),
+        )
+
+    read : oneRule ipv4 rule ≡ Rule (stored .start) (stored .size)
+    read = asked-read relaxed routes rule originator communities (stored .start) (stored .size) (stored .actions) true (stored .asks)
+
+    -- withdrawing from a table that holds the rule, and from any sound one
+    withdraws : soundTable ipv4 (inserted ipv4 t entered) ≡ true → holds ipv4 (inserted ipv4 t entered) (entryKey ipv4 entered) ≡ true
+        → withdrawing rule (inserted ipv4 t entered) ≡ record { answer = Done; table = removed ipv4 (inserted ipv4 t entered) (entryKey ipv4 entered) }
+    unfolding withdrawing withdrawn changeOf
+    withdraws s h = rw (s, read, h)
+
+    alone : withdrawing rule t .table ≡ removed ipv4 t (entryKey ipv4 entered)
+    unfolding withdrawing withdrawn removed holds
+    alone =
+        rw (stored .sound, read)
+        (by-test (isHeld (lookup keyOrder (entryKey ipv4) (entryKey ipv4 entered) (entries t))) (λ h. rw h)
+        (λ h. rw (h, remove-absent keyOrder (entryKey ipv4) (entryKey ipv4 entered) (entries t) (not-held _ h)) (before .is)))
+      where
+        not-held : (o : Option Entry) → isHeld o ≡ false → o ≡ none
+        not-held none h = refl
+        not-held (some e) h = apart (cc)
+
+    -- **announcing, then withdrawing**: the withdrawal is done, and leaves what it would have left without the announcement
+    pub announced-withdrawn : (answer : Change) (exit : List ℕ) (held : List (List ℕ)) → Withdraws rule left answer exit held
+        → (other : Change) (without : List ℕ) (lent : List (List ℕ)) → Withdraws rule t other without lent → (answer ≡ Done) × (exit ≡ without)
+    announced-withdrawn answer exit held q other without lent r =
+        let out = ap (withdrawing rule) (stored .is) ∙ withdraws (sound-with t before entered could (stored .room)) (holds-with t before entered could (stored .room)) in (
+          q .is ∙ ap (λ (x : Outcome). x .answer) out,
+          q .leaves ∙ ap (λ (x : Outcome). x .table) out ∙ removed-again t before entered could (stored .room) ∙ sym (r .leaves ∙ alone),
+        )
+
+-- rules with one key are the same rule
+same-rule : (rule other : List ℕ) (start size begin extent : ℕ) → Octets rule → Octets other → oneRule ipv4 rule ≡ Rule start size
+    → oneRule ipv4 other ≡ Rule begin extent → keysOf ipv4 (plain (valueOf rule start size)) ≡ keysOf ipv4 (plain (valueOf other begin extent))
+    → compareRules rule other ≡ Same
+unfolding compareRules
+same-rule rule other start size begin extent o p found also same =
+    let v = valueOf rule start size in
+    let w = valueOf other begin extent in
+    let first = octets-value rule start size o in
+    let second = octets-value other begin extent p in
+    let keys : keysOf ipv4 v ≡ keysOf ipv4 w = sym (keys-plain ipv4 v first) ∙ same ∙ keys-plain ipv4 w second in
+    let tie : precedence ipv4 v w ≡ Ordering·eq = one-order ipv4 4 refl v w first second ∙ rw keys (key-order .same (keysOf ipv4 w)) in
+    rw (found, also, tie)
+
+module _ (relaxed : Bool) (routes rule : List ℕ) (originator : ℕ) (communities other : List ℕ) (founder : ℕ) (others : List ℕ)
+    (o : Octets rule) (small : originator < 2 ^ 32) (p : Octets other) (little : founder < 2 ^ 32) (t : List ℕ) (octets : Octets t) where
+  -- **two announcements of different rules**, done in either order, leave equal octets
+  pub announced-either-way : (compareRules rule other ≡ Same → ⊥) → (first both second all : List ℕ) (k l m n : List (List ℕ))
+      → Announces relaxed routes rule originator communities t Done first k → Announces relaxed routes other founder others first Done both l
+      → Announces relaxed routes other founder others t Done second m → Announces relaxed routes rule originator communities second Done all n
+      → both ≡ all
+  announced-either-way differ first both second all k l m n a b c d =
+      let x = stored relaxed routes rule originator communities o small t octets first k a in
+      let y = stored relaxed routes other founder others p little t octets second m c in
+      let z = done-stored relaxed routes other founder others first both l b in
+      let w = done-stored relaxed routes rule originator communities second all n d in
+      let e = entered relaxed routes rule originator communities o small t octets first k a in
+      let f = entered relaxed routes other founder others p little t octets second m c in
+      let can = could relaxed routes rule originator communities o small t octets first k a in
+      let also = could relaxed routes other founder others p little t octets second m c in
+      let whole = before relaxed routes rule originator communities o small t octets first k a in
+      let apart-keys : entryKey ipv4 e ≡ entryKey ipv4 f → ⊥ = λ same.
+      differ (same-rule rule other (x .start) (x .size) (y .start) (y .size) o p (read relaxed routes rule originator communities o small t octets first k a)
+      (read relaxed routes other founder others p little t octets second m c) same) in
+      let either = inserted-either t whole e can (x .room) f also (y .room) apart-keys (entries-with t whole f also (y .room)) (with-entry t whole f also (y .room) .1) in
+      z .is ∙ ap₂ (inserted ipv4) (x .is) (one-entry relaxed routes other founder others first both t second z y)
+      ∙ either
+      ∙ sym (w .is ∙ ap₂ (inserted ipv4) (y .is) (one-entry relaxed routes rule originator communities second all t first w x))
