@@ -34,8 +34,8 @@ use Rattle.flowspec.specs.declared.Request.the-variants.{Announce, Refus
 use Rattle.flowspec.specs.Announce.{valueOf, askedBy, asked}
 use Rattle.flowspec.specs.Told.{changeTold}
 use Rattle.flowspec.specs.Promise.{LooksUp, FirstMatches}
-use Rattle.flowspec.specs.History.{Call, announcement, withdrawal, Made, deed, deedOf, asksToAnnounce, asksToWithdraw, asks, Happened, isCounted, lastFrom, lastCounted, leavesInForce, Agree, endOf, emptyTable}
-use Rattle.flowspec.proofs.HistoryLaws.{CanBe, EachCanBe, Same, octets-value, empty-encodes, long-empty, step, histories-agree}
+use Rattle.flowspec.specs.History.{Call, announcement, withdrawal, Made, CanBe, EachCanBe, deed, deedOf, asksToAnnounce, asksToWithdraw, asks, Happened, isCounted, lastFrom, lastCounted, leavesInForce, Agree, endOf, emptyTable}
+use Rattle.flowspec.proofs.HistoryLaws.{Same, octets-value, empty-encodes, long-empty, step, histories-agree}
 use Rattle.flowspec.proofs.Unique.{one-lookup, one-first-match}
 
 tie : (o : Ordering) → isEq o ≡ true → o ≡ Ordering·eq

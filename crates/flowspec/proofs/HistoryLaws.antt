@@ -47,7 +47,7 @@ use Rattle.flowspec.specs.declared.Change.{Change}
 use Rattle.flowspec.specs.declared.Request.{Request}
 use Rattle.flowspec.specs.declared.Request.the-variants.{Announce, Refused as NotAsked}
 use Rattle.flowspec.specs.Announce.{Outcome, changeOf, outcome, valueOf, askedBy, asked, announcedBy, announcing, withdrawnBy, withdrawing}
-use Rattle.flowspec.specs.History.{Call, announcement, withdrawal, Made, asksToAnnounce, asksToWithdraw, asks, Promised, Happened, isCounted, lastFrom, lastCounted, leavesInForce, inForceAfter, endOf, emptyTable}
+use Rattle.flowspec.specs.History.{Call, announcement, withdrawal, Made, CanBe, EachCanBe, asksToAnnounce, asksToWithdraw, asks, Promised, Happened, isCounted, lastFrom, lastCounted, leavesInForce, inForceAfter, endOf, emptyTable}
 use Rattle.flowspec.specs.Told.{changeTold}
 
 -- what holds of every entry and of a new one holds of every entry with it put in, and with one taken out
@@ -135,15 +135,6 @@ module _ (t : List ℕ) (es : List Entry) (c : Encodes ipv4 t es) where
       (by-test (isHeld (lookup keyOrder (entryKey ipv4) k es))
       (λ h. rw h (record { answers = refl; encodes = out; long = long }))
       (λ h. rw h (record { answers = refl; encodes = c; long = refl })))
-
--- what every call is given, by the types of what it is lent: octets, and an originator of 32 bits
-abbrev pub CanBe : Call → Type 0
-CanBe (announcement rule originator communities) = Octets rule × (originator < 2 ^ 32)
-CanBe (withdrawal rule) = Unit {0}
-
-abbrev pub EachCanBe : List Made → Type 0
-EachCanBe [] = Unit {0}
-EachCanBe (m ∷ h) = CanBe (m .call) × EachCanBe h
 
 -- a rule's value is octets
 pub octets-value : (rule : List ℕ) (start size : ℕ) → Octets rule → Octets (valueOf rule start size)

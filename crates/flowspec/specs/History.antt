@@ -1,11 +1,12 @@
 -- Histories: calls that change one table, each with its answer and the octets it left. A rule is known by its key: two rules have one key
 -- exactly when their plain spellings are equal (crate order, KeyLaws: `keys-only` and `keys-same`).
-use Prim.Native.Nat.{ℕ}
+use Prim.Native.Nat.{ℕ, _^_, _<_}
 use mathlib.Core.Path.{_≡_}
 use mathlib.Core.Bool.{Bool, cond, _&&_}
 use mathlib.Core.List.{List, [], _∷_}
 use mathlib.Core.Option.{Option, none, some}
 use lib.ListN.{replicate}
+use Rattle.octets.specs.Number.{Octets}
 use Rattle.sorted.specs.History.{Op, refuse, announce, withdraw, counts, inForce, isAbout}
 use Rattle.rule.specs.declared.Reading.{Reading}
 use Rattle.rule.specs.declared.Reading.the-variants.{Rule, Refused as NotRead}
@@ -48,6 +49,15 @@ pub record Made : Type 0 where
   pub call : Call
   pub answer : Change
   pub left : List ℕ
+
+-- What every call is given, by the types of what it is lent: octets, and an originator of 32 bits.
+abbrev pub CanBe : Call → Type 0
+CanBe (announcement rule originator communities) = Octets rule × (originator < 2 ^ 32)
+CanBe (withdrawal rule) = Unit {0}
+
+abbrev pub EachCanBe : List Made → Type 0
+EachCanBe [] = Unit {0}
+EachCanBe (m ∷ h) = CanBe (m .call) × EachCanBe h
 
 -- What two histories compare of a call: its kind and its answer and, of an announcement, the originator and the actions as read. The
 -- rule's spelling and the communities' octets are not compared.

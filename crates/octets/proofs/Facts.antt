@@ -7,8 +7,8 @@ use Prim.Native.Nat.{ℕ, zero, suc, _<_}
 use native.Mathlib.Omega.{arith}
 use native.Mathlib.Decide.{decLt}
 use lib.Dec.{eqb}
-use lib.ListN.{getD}
 use borrow.Author.Tests.{eqb-true}
+pub use Rattle.octets.specs.Number.{Octets}
 
 -- the test passes at every number below n
 abbrev pub allBelow : ℕ → (ℕ → Bool) → Bool
@@ -33,10 +33,6 @@ below (suc n) f t x h = ⊎-elim (λ e. rw e (left (f n) (allBelow n f) t)) (λ 
 -- two functions that agree at every octet, by computation
 pub octet : (f g : ℕ → ℕ) → allBelow 256 (λ x. eqb (f x) (g x)) ≡ true → (x : ℕ) → x < 256 → f x ≡ g x
 octet f g t x h = eqb-true (f x) (g x) (below 256 (λ x. eqb (f x) (g x)) t x h)
-
--- every element is an octet, as every element of a slice of octets is
-abbrev pub Octets : List ℕ → Type 0
-Octets s = (i : ℕ) → getD s i 0 < 256
 
 same-test : (a b : Bool) → Bool·beq a b ≡ true → a ≡ b
 same-test true true e = refl
