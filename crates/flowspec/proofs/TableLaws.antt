@@ -27,6 +27,7 @@ use Rattle.packet.specs.Packet.{packetOf}
 use Rattle.table.specs.declared.Soundness.{Soundness}
 use Rattle.table.specs.declared.Soundness.the-variants.{Sound, Unsound}
 use Rattle.table.specs.declared.Verdict.{Verdict}
+use Rattle.table.specs.declared.Verdict.the-variants.{Unmatched, Matched}
 use Rattle.table.specs.declared.Place.{Place}
 use Rattle.table.specs.Walk.{entries}
 use Rattle.table.specs.Sound.{cost, soundTable, soundness}
@@ -38,10 +39,11 @@ use Rattle.flowspec.specs.declared.Change.{Change}
 use Rattle.flowspec.specs.declared.Change.the-variants.{Done, Refused as NotChanged}
 use Rattle.flowspec.specs.declared.Looked.{Looked}
 use Rattle.flowspec.specs.declared.Looked.the-variants.{Judged, Refused as NotLookedUp}
+use Rattle.flowspec.specs.declared.MatchPlace.{MatchPlace}
 use Rattle.flowspec.specs.Announce.{Outcome, changeOf, outcome, refusal, valueOf, asked, announcing, withdrawing}
-use Rattle.flowspec.specs.Look.{lookingUp, nowhere, firstMatch}
-use Rattle.flowspec.specs.Told.{changeTold, lookupTold}
-use Rattle.flowspec.specs.Promise.{Announces, Withdraws, LooksUp}
+use Rattle.flowspec.specs.Look.{lookingUp, firstMatch, matchPlace}
+use Rattle.flowspec.specs.Told.{changeTold, verdictTold, lookupTold}
+use Rattle.flowspec.specs.Promise.{Announces, Withdraws, LooksUp, LocatesFirst}
 use Rattle.flowspec.proofs.AskLaws.{asked-rule}
 
 -- what the answer on soundness says of a table
@@ -144,9 +146,9 @@ module _ (t octets : List ℕ) where
     unfolding lookingUp
     look-unsound e = look-kept _ (rw (was-unsound t s is e))
 
-    pub first-unsound : s ≡ Unsound → nowhere ≡ firstMatch t octets
-    unfolding firstMatch
-    first-unsound e = rw (was-unsound t s is e)
+    pub locate-unsound : s ≡ Unsound → LocatesFirst t octets (record { number = 10; start = 0; end = 0 }) (t ∷ octets ∷ [])
+    unfolding matchPlace lookingUp firstMatch
+    locate-unsound e = record { is = rw (was-unsound t s is e); ordered = omega arith; inside = omega arith; keeps = refl }
 
     module _ (used : ℕ) (e : s ≡ Sound used) (sight : Sight) (seen : sight ≡ packetOf octets) where
       pub look-sound : soundTable ipv4 t ≡ true
@@ -160,10 +162,29 @@ module _ (t octets : List ℕ) where
       unfolding lookingUp
       look-judged packet verdict f v = look-kept _ (rw (look-sound, ← seen, f, v))
 
-      pub first-unusable : sight ≡ Unusable → nowhere ≡ firstMatch t octets
-      unfolding firstMatch
-      first-unusable f = rw (look-sound, ← seen, f)
+      pub locate-unusable : sight ≡ Unusable → LocatesFirst t octets (record { number = 12; start = 0; end = 0 }) (t ∷ octets ∷ [])
+      unfolding matchPlace lookingUp firstMatch
+      locate-unusable f = record { is = rw (look-sound, ← seen, f); ordered = omega arith; inside = omega arith; keeps = refl }
 
-      pub first-found : (packet : Packet) (place : Place) → sight ≡ Usable packet → place ≡ firstPlace (hit ipv4 packet) 0 (entries t) → place ≡ firstMatch t octets
-      unfolding firstMatch
-      first-found packet place f v = rw (look-sound, ← seen, f) v
+      -- a lookup that judges a packet is not refused
+      judged-done : (verdict : Verdict) → 0 ≡ verdictTold verdict .number
+      judged-done Unmatched = refl
+      judged-done (Matched actions count) = refl
+
+      pub locate-found : (packet : Packet) (place : Place) → sight ≡ Usable packet
+          → (place ≡ firstPlace (hit ipv4 packet) 0 (entries t)) × ((place .start ≤ place .end) × (place .end ≤ length t))
+          → LocatesFirst t octets (record { number = 0; start = place .start; end = place .end }) (t ∷ octets ∷ [])
+      unfolding matchPlace lookingUp firstMatch
+      locate-found packet place f v =
+          record {
+            is = rw (look-sound, ← seen, f, ← v .0, ← judged-done (verdictFor ipv4 packet (entries t)));
+            ordered = v .1 .0;
+            inside = v .1 .1;
+            keeps = refl;
+          }
+
+-- where a first match was located is where it stands
+pub located-at : {t octets : List ℕ} {answer : MatchPlace} {kept : List (List ℕ)} → LocatesFirst t octets answer kept
+    → (answer .start ≡ firstMatch t octets .start) × (answer .end ≡ firstMatch t octets .end)
+unfolding matchPlace
+located-at h = (rw (h .is), rw (h .is))

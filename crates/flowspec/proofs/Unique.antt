@@ -10,7 +10,8 @@ use Rattle.flowspec.specs.declared.Comparison.{Comparison}
 use Rattle.flowspec.specs.declared.Feasibility.{Feasibility}
 use Rattle.flowspec.specs.declared.Change.{Change}
 use Rattle.flowspec.specs.declared.Looked.{Looked}
-use Rattle.flowspec.specs.Promise.{ReadsOne, WritesOne, ComparesTwo, JudgesOne, ReadsActions, Announces, Withdraws, LooksUp, FirstMatches}
+use Rattle.flowspec.specs.declared.MatchPlace.{MatchPlace}
+use Rattle.flowspec.specs.Promise.{ReadsOne, WritesOne, ComparesTwo, JudgesOne, ReadsActions, Announces, Withdraws, LooksUp, LocatesFirst, FirstMatches}
 
 module _ (k l : List (List ℕ)) where
   pub one-reading : (rule : List ℕ) (a b : Reading) → ReadsOne rule a k → ReadsOne rule b l → (a ≡ b) × (k ≡ l)
@@ -43,6 +44,9 @@ module _ (k l : List (List ℕ)) where
 
   pub one-lookup : (table packet : List ℕ) (a b : Looked) → LooksUp table packet a k → LooksUp table packet b l → (a ≡ b) × (k ≡ l)
   one-lookup table packet a b p q = (p .is ∙ sym (q .is), p .keeps ∙ sym (q .keeps))
+
+  pub one-match-place : (table packet : List ℕ) (a b : MatchPlace) → LocatesFirst table packet a k → LocatesFirst table packet b l → (a ≡ b) × (k ≡ l)
+  one-match-place table packet a b p q = (p .is ∙ sym (q .is), p .keeps ∙ sym (q .keeps))
 
   -- a first match is settled in its octets and in where it stands
   pub one-first-match : (table packet : List ℕ) (lent : ℕ × ℕ) (x y : List ℕ) (p q : ℕ × ℕ) → FirstMatches table packet lent x p k

@@ -1,8 +1,8 @@
 pub mod Compare
 pub mod Feasibility
 pub mod Announce
-pub mod Look
 pub mod Told
+pub mod Look
 pub mod Promise
 pub mod Examples
 pub mod History

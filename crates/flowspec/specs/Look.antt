@@ -14,6 +14,8 @@ use Rattle.table.specs.Sound.{soundTable}
 use Rattle.table.specs.Lookup.{hit, verdictFor, firstPlace}
 use Rattle.flowspec.specs.declared.Looked.{Looked}
 use Rattle.flowspec.specs.declared.Looked.the-variants.{Judged, Refused}
+use Rattle.flowspec.specs.declared.MatchPlace.{MatchPlace}
+use Rattle.flowspec.specs.Told.{lookupTold}
 
 -- What a sound table says of a packet: an unusable one is 12.
 abbrev pub lookedUp : List ℕ → Sight → Looked
@@ -34,3 +36,8 @@ firstIn t (Usable packet) = firstPlace (hit ipv4 packet) 0 (entries t)
 -- Where the first match's record stands.
 unfoldable pub firstMatch : List ℕ → List ℕ → Place
 firstMatch t octets = cond (soundTable ipv4 t) (firstIn t (packetOf octets)) nowhere
+
+-- The same with the lookup's number.
+unfoldable pub matchPlace : List ℕ → List ℕ → MatchPlace
+matchPlace t octets =
+    record { number = lookupTold (lookingUp t octets) .number; start = firstMatch t octets .start; end = firstMatch t octets .end }

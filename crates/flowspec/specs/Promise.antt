@@ -1,7 +1,7 @@
 -- What each public call promises, whatever octets it is lent: its answer (`is`), what that answer says in 01's terms (`says`), what each
 -- buffer lent to be changed holds at exit (`leaves`), and that what is lent to be read alone is as it was (`keeps`; `kept` is what those
 -- slices hold at exit). No call has a `requires`. That no second result satisfies a promise is shown in proofs/Unique.antt.
-use Prim.Native.Nat.{ℕ, _+_}
+use Prim.Native.Nat.{ℕ, _+_, _≤_}
 use mathlib.Core.Path.{_≡_}
 use mathlib.Core.Bool.{Bool}
 use mathlib.Core.List.{List, [], _∷_}
@@ -17,8 +17,9 @@ use Rattle.action.specs.Actions.{actionsOf, told}
 use Rattle.flowspec.specs.declared.Feasibility.{Feasibility}
 use Rattle.flowspec.specs.declared.Change.{Change}
 use Rattle.flowspec.specs.declared.Looked.{Looked}
+use Rattle.flowspec.specs.declared.MatchPlace.{MatchPlace}
 use Rattle.flowspec.specs.Announce.{announcing, withdrawing}
-use Rattle.flowspec.specs.Look.{lookingUp, firstMatch}
+use Rattle.flowspec.specs.Look.{lookingUp, firstMatch, matchPlace}
 use Rattle.rule.specs.Value.{between}
 use Rattle.flowspec.specs.Compare.{compareRules}
 use Rattle.flowspec.specs.Feasibility.{judgement}
@@ -75,6 +76,14 @@ pub record Withdraws (rule table : List ℕ) (answer : Change) (exit : List ℕ)
 pub record LooksUp (table packet : List ℕ) (answer : Looked) (kept : List (List ℕ)) : Type 0 where
   pub is : answer ≡ lookingUp table packet
   pub says : lookupTold answer ≡ lookupTold (lookingUp table packet)
+  pub keeps : kept ≡ table ∷ packet ∷ []
+
+-- The first match's place with the lookup's number, refusals 10, 12: a part of the table, 0 and 0 where nothing matches or the lookup is
+-- refused.
+pub record LocatesFirst (table packet : List ℕ) (answer : MatchPlace) (kept : List (List ℕ)) : Type 0 where
+  pub is : answer ≡ matchPlace table packet
+  pub ordered : answer .start ≤ answer .end
+  pub inside : answer .end ≤ length table
   pub keeps : kept ≡ table ∷ packet ∷ []
 
 -- The first match's record: the table's octets at its place, and none where nothing matches or the lookup is refused. `lent` and `stands`

@@ -4,17 +4,13 @@ ghost use mathlib.Core.Path.{_≡_};
 ghost use mathlib.Core.List.{[], _∷_};
 ghost use Rattle.flowspec.specs.Compare.{comparisonOf};
 ghost use Rattle.flowspec.specs.Feasibility.{isFeasible, judged};
-ghost use Rattle.flowspec.specs.Promise.{ReadsOne, WritesOne, ComparesTwo, JudgesOne, ReadsActions, Announces, Withdraws, LooksUp, FirstMatches};
+ghost use Rattle.flowspec.specs.Promise.{ReadsOne, WritesOne, ComparesTwo, JudgesOne, ReadsActions, Announces, Withdraws, LooksUp, LocatesFirst, FirstMatches};
 ghost use Rattle.flowspec.specs.Announce.{changeOf, asked};
-ghost use Rattle.flowspec.specs.Look.{firstMatch};
-ghost use Prim.Native.Nat.{_≤_};
-ghost use lib.ListN.{length};
 use action::Actions;
 use octets::Order;
 use packet::Sight;
 use rule::Reading;
 use rule::Writing;
-use table::Place;
 use table::Soundness;
 use table::Verdict;
 
@@ -57,6 +53,13 @@ pub enum Change {
 pub enum Looked {
     Judged(Verdict),
     Refused { number: u8, place: usize },
+}
+
+// The lookup's number, and where the first match's record begins and ends in the table.
+pub struct MatchPlace {
+    pub number: u8,
+    pub start: usize,
+    pub end: usize,
 }
 
 // Reads one rule: where its value starts and how long it is.
@@ -265,15 +268,30 @@ pub fn lookup(table: &[u8], packet: &[u8]) -> Looked
     }
 }
 
-// Where the first match's record stands in a table; 0 and 0 where nothing matches or the lookup is refused.
-fn first_match_place(table: &[u8], packet: &[u8]) -> Place
-    ensures { λ r. ⌜ (r ≡ firstMatch (now (table .entry)) (now (packet .entry))) × ((r .start ≤ r .end) × (r .end ≤ length (now (table .entry)))) ⌝ }
+// Where the first match's record stands in a table, with the lookup's number; 0 and 0 where nothing matches or the lookup is refused.
+pub fn first_match_place(table: &[u8], packet: &[u8]) -> MatchPlace
+    ensures { λ r. ⌜ LocatesFirst (now (table .entry)) (now (packet .entry)) r (now (table .exit) ∷ now (packet .exit) ∷ []) ⌝ }
 {
     match table::sound_table(table) {
-        Soundness::Unsound => Place { start: 0, end: 0 },
+        Soundness::Unsound => MatchPlace {
+            number: 10,
+            start: 0,
+            end: 0,
+        },
         Soundness::Sound(_) => match packet::packet_of(packet) {
-            Sight::Unusable => Place { start: 0, end: 0 },
-            Sight::Usable(seen) => table::first_place(table, seen),
+            Sight::Unusable => MatchPlace {
+                number: 12,
+                start: 0,
+                end: 0,
+            },
+            Sight::Usable(seen) => {
+                let place = table::first_place(table, seen);
+                MatchPlace {
+                    number: 0,
+                    start: place.start,
+                    end: place.end,
+                }
+            }
         },
     }
 }

@@ -1,4 +1,5 @@
 use mathlib.Core.Path.{refl}
+use Rattle.flowspec.proofs.TableLaws.{located-at}
 use borrow.Author.Needs.{needs}
 use Rattle.flowspec.proofs.first_match.Statement.{statement}
 use Rattle.flowspec.proofs.first_match.Tie as tie
@@ -19,7 +20,9 @@ part-result-end : tie.Need-part-result-end
 part-result-end c = search needs
 
 returns : tie.Need-returns
-returns c = let e = c .before .first-match-place .ensures .0 in record { is = rw (← e) refl; begins = rw (← e) refl; keeps = refl }
+returns c =
+    let at = located-at (c .before .first-match-place .ensures) in
+    record { is = rw (← at .0, ← at .1) refl; begins = rw (← at .0) refl; keeps = refl }
 
 pub first-match-spec : {M : Type 1} → statement M
 first-match-spec =

@@ -1,6 +1,5 @@
--- One law for each return; no part lies at octet 0.
-use native.Mathlib.Omega.{arith}
-use Rattle.flowspec.proofs.TableLaws.{look-sound, first-unsound, first-unusable, first-found}
+-- One law for each return.
+use Rattle.flowspec.proofs.TableLaws.{look-sound, locate-unsound, locate-unusable, locate-found}
 use borrow.Author.Needs.{needs}
 use Rattle.flowspec.proofs.first_match_place.Statement.{statement}
 use Rattle.flowspec.proofs.first_match_place.Tie as tie
@@ -32,16 +31,13 @@ first-place-requires : tie.Need-first-place-requires
 first-place-requires c κs = look-sound _ _ _ (c .before .before .before .before .before .before .sound-table .ensures) _ (c .before .before .before .before .enum-told2 .given .1) _ (c .before .before .before .packet-of .ensures)
 
 returns : tie.Need-returns
-returns c = (first-unsound _ _ _ (c .before .before .sound-table .ensures) (c .enum-told .given .1), (omega arith, omega arith))
+returns c = locate-unsound _ _ _ (c .before .before .sound-table .ensures) (c .enum-told .given .1)
 
 returns-2 : tie.Need-returns-2
-returns-2 c = (first-unusable _ _ _ (c .before .before .before .before .before .sound-table .ensures) _ (c .before .before .before .enum-told2 .given .1) _ (c .before .before .packet-of .ensures) (c .enum-told3 .given .1), (omega arith, omega arith))
+returns-2 c = locate-unusable _ _ _ (c .before .before .before .before .before .sound-table .ensures) _ (c .before .before .before .enum-told2 .given .1) _ (c .before .before .packet-of .ensures) (c .enum-told3 .given .1)
 
 returns-3 : tie.Need-returns-3
-returns-3 c = (
-  first-found _ _ _ (c .before .before .before .before .before .before .before .sound-table .ensures) _ (c .before .before .before .before .before .enum-told2 .given .1) _ (c .before .before .before .before .packet-of .ensures) _ _ (c .before .before .seen .given .1) (c .first-place .ensures .0),
-  c .first-place .ensures .1,
-)
+returns-3 c = locate-found _ _ _ (c .before .before .before .before .before .before .before .sound-table .ensures) _ (c .before .before .before .before .before .enum-told2 .given .1) _ (c .before .before .before .before .packet-of .ensures) _ _ (c .before .before .seen .given .1) (c .first-place .ensures)
 
 pub first-match-place-spec : {M : Type 1} → statement M
 first-match-place-spec =
