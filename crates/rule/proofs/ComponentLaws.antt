@@ -48,31 +48,43 @@ module _ (kind : ℕ) (v : List ℕ) (at : ℕ) where
 abbrev pub Within : List ℕ → ℕ → ℕ → Type 0
 Within v at next = (at < next) × (next ≤ length v)
 
+-- a refusal met in a value: one of the numbers 3 to 7, at an octet of the value or at its end
+abbrev pub Met : List ℕ → ℕ → ℕ → Type 0
+Met v number place = (3 ≤ number) × ((number ≤ 7) × (place ≤ length v))
+
+-- cut short is 6 at the value's end
+short : (v : List ℕ) → Met v 6 (length v)
+short v = (omega arith, (omega arith, omega arith))
+
 abbrev pub PairWithin : List ℕ → ℕ → NextPair → Type 0
 PairWithin v at (More next) = Within v at next
 PairWithin v at (Last next) = Within v at next
-PairWithin v at (RefusedPair number place) = Unit {0}
+PairWithin v at (RefusedPair number place) = Met v number place
 
 module _ (kind : ℕ) (v : List ℕ) where
   pub pair-within : (at : ℕ) → PairWithin v at (pairAt kind v at)
   unfolding pairAt
   pair-within at =
       let operator = getD v at 0 in
-      by-test (leb (length v) at) (λ t. rw t tt)
-      (λ t. by-test (sizeAllowed kind (sizeOf operator))
-      (λ u. by-test (ltb (length v - (at + 1)) (sizeOf operator)) (λ w. rw (t, u, w) tt)
-      (λ w.
+      by-test (leb (length v) at) (λ t. rw t (short v))
+      (λ t.
       let inside = leb-false (length v) at t in
+      by-test (sizeAllowed kind (sizeOf operator))
+      (λ u. by-test (ltb (length v - (at + 1)) (sizeOf operator)) (λ w. rw (t, u, w) (short v))
+      (λ w.
       let fits = ltb-false (length v - (at + 1)) (sizeOf operator) w in
       let q : Within v at (at + 1 + sizeOf operator) = (omega arith, omega arith) in
       by-test (endsList operator) (λ x. rw (t, u, w, x) q) (λ x. rw (t, u, w, x) q)))
-      (λ u. rw (t, u) tt))
+      (λ u. let q : Met v 7 at = (omega arith, (omega arith, omega arith)) in rw (t, u) q))
 
   pub more-within : (at next : ℕ) → pairAt kind v at ≡ More next → Within v at next
   more-within at next e = subst (PairWithin v at) e (pair-within at)
 
   pub last-within : (at next : ℕ) → pairAt kind v at ≡ Last next → Within v at next
   last-within at next e = subst (PairWithin v at) e (pair-within at)
+
+  pub refused-within : (at number place : ℕ) → pairAt kind v at ≡ RefusedPair number place → Met v number place
+  refused-within at number place e = subst (PairWithin v at) e (pair-within at)
 
   -- a step on along a list goes towards the value's end
   falls : (i j : ℕ) (a : Pair) → pairStep v i (pairAt kind v i) ≡ more a j → length v - j < length v - i
@@ -148,29 +160,30 @@ module _ (kind : ℕ) (v : List ℕ) (start at : ℕ) (pair : NextPair) (is : pa
   pub list-refused : (number place : ℕ) → pair ≡ RefusedPair number place → RefusedBody number place ≡ pairsFrom kind v start .ending
   list-refused number place e = sym (so-far ∙ rw (pairs-refused kind v at number place (sym is ∙ e)))
 
--- an end of a body lies behind the body's start and in the value
+-- an end of a body lies behind the body's start and in the value, and so does a refusal
 abbrev pub EndWithin : List ℕ → ℕ → BodyEnd → Type 0
 EndWithin v at (At next) = Within v at next
-EndWithin v at (RefusedBody number place) = Unit {0}
+EndWithin v at (RefusedBody number place) = Met v number place
 
 module _ (v : List ℕ) where
   pub list-within : (kind at : ℕ) → EndWithin v at (pairsFrom kind v at .ending)
   list-within kind at =
-      pairs-ind kind v (λ i w. EndWithin v i (w .ending)) (λ i number place e. tt) (λ i next e. last-within kind v i next e)
+      pairs-ind kind v (λ i w. EndWithin v i (w .ending)) (λ i number place e. refused-within kind v i number place e) (λ i next e. last-within kind v i next e)
       (λ i next w e h. further i next (w .ending) (more-within kind v i next e) h) at
     where
       further : (i next : ℕ) (e : BodyEnd) → Within v i next → EndWithin v next e → EndWithin v i e
       further i next (At j) h k = (omega arith, k .1)
-      further i next (RefusedBody number place) h k = tt
+      further i next (RefusedBody number place) h k = k
 
   pub prefix-within : (family : Family) (at : ℕ) → EndWithin v at (prefixEnd family v at)
   unfolding prefixEnd
   prefix-within family at =
-      by-test (leb (length v) at) (λ t. rw t tt)
-      (λ t. by-test (ltb (family .width) (getD v at 0)) (λ u. rw (t, u) tt)
-      (λ u. by-test (ltb (length v - (at + 1)) ((getD v at 0 + 7) / 8)) (λ w. rw (t, u, w) tt)
-      (λ w.
+      by-test (leb (length v) at) (λ t. rw t (short v))
+      (λ t.
       let inside = leb-false (length v) at t in
+      by-test (ltb (family .width) (getD v at 0)) (λ u. let q : Met v 5 at = (omega arith, (omega arith, omega arith)) in rw (t, u) q)
+      (λ u. by-test (ltb (length v - (at + 1)) ((getD v at 0 + 7) / 8)) (λ w. rw (t, u, w) (short v))
+      (λ w.
       let fits = ltb-false (length v - (at + 1)) ((getD v at 0 + 7) / 8) w in
       let q : Within v at (at + 1 + (getD v at 0 + 7) / 8) = (omega arith, omega arith) in
       rw (t, u, w) q)))

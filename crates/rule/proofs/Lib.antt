@@ -1,4 +1,5 @@
 pub mod OperatorLaws
+pub mod Refusal
 pub mod ComponentLaws
 pub mod ValueLaws
 pub mod PlainLaws

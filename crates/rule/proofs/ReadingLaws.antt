@@ -17,6 +17,8 @@ use Rattle.rule.specs.declared.Reading.{Reading}
 use Rattle.rule.specs.declared.Reading.the-variants.{Rule, Refused}
 use Rattle.rule.specs.Value.{checkValue}
 use Rattle.rule.specs.Reading.{fieldSize, fieldLength, readAs, firstRule, alone, oneRule}
+use Rattle.rule.proofs.Refusal.{Refusal, placeless}
+use Rattle.rule.proofs.ValueLaws.{Checks, value-checks}
 
 -- the length field in both forms
 module _ (s : List ℕ) (first : ℕ) (is : first ≡ getD s 0 0) where
@@ -67,16 +69,17 @@ pub record ReadRule (family : Family) (s : List ℕ) (start size : ℕ) : Type 0
   pub inside : start + size ≤ length s
   pub accepted : checkValue family (take size (drop start s)) ≡ Accepted
 
+-- what an answer says: such a rule, or a refusal of 01's table
 abbrev pub SaysRule : Family → List ℕ → Reading → Type 0
 SaysRule family s (Rule start size) = ReadRule family s start size
-SaysRule family s (Refused number place) = Unit {0}
+SaysRule family s (Refused number place) = Refusal number place
 
 module _ (family : Family) (s : List ℕ) where
   pub reading-says : SaysRule family s (firstRule family s)
   unfolding firstRule
   reading-says =
-      by-test (ltb (length s) (fieldSize s)) (λ t. rw t tt)
-      (λ t. by-test (ltb (length s - fieldSize s) (fieldLength s)) (λ u. rw (t, u) tt)
+      by-test (ltb (length s) (fieldSize s)) (λ t. rw t (placeless 1 (omega arith) (omega arith)))
+      (λ t. by-test (ltb (length s - fieldSize s) (fieldLength s)) (λ u. rw (t, u) (placeless 1 (omega arith) (omega arith)))
       (λ u. rw (t, u) (go t u (checkValue family (take (fieldLength s) (drop (fieldSize s) s))) refl)))
     where
       go : ltb (length s) (fieldSize s) ≡ false → ltb (length s - fieldSize s) (fieldLength s) ≡ false → (c : Checked)
@@ -85,7 +88,7 @@ module _ (family : Family) (s : List ℕ) where
           let h = ltb-false (length s) (fieldSize s) t in
           let k = ltb-false (length s - fieldSize s) (fieldLength s) u in
           record { field = refl; tells = refl; inside = omega arith; accepted = e }
-      go t u (RefusedValue number place) e = tt
+      go t u (RefusedValue number place) e = subst Checks e (value-checks family (take (fieldLength s) (drop (fieldSize s) s)))
 
   pub rule-read : (start size : ℕ) → firstRule family s ≡ Rule start size → ReadRule family s start size
   rule-read start size e = subst (SaysRule family s) e reading-says
@@ -104,15 +107,16 @@ module _ (family : Family) (s : List ℕ) where
     alone-refused number place e = rw (← is, e)
 
   -- the one rule that octets are is the rule they begin with
-  SaysOne : Reading → Type 0
-  SaysOne (Rule start size) = ReadRule family s start size
-  SaysOne (Refused number place) = Unit {0}
+  pub one-says : SaysRule family s (oneRule family s)
+  unfolding oneRule
+  one-says = go (firstRule family s) reading-says
+    where
+      go : (r : Reading) → SaysRule family s r → SaysRule family s (alone (length s) r)
+      go (Rule start size) h = by-test (eqb (start + size) (length s)) (λ t. rw t h) (λ t. rw t (placeless 15 (omega arith) (omega arith)))
+      go (Refused number place) h = h
 
   pub one-read : (start size : ℕ) → oneRule family s ≡ Rule start size → ReadRule family s start size
-  unfolding oneRule SaysOne
-  one-read start size e = subst SaysOne e (go (firstRule family s) refl)
-    where
-      go : (r : Reading) → firstRule family s ≡ r → SaysOne (alone (length s) r)
-      go (Rule begin extent) f =
-          by-test (eqb (begin + extent) (length s)) (λ t. rw t (rule-read begin extent f)) (λ t. rw t tt)
-      go (Refused number place) f = tt
+  one-read start size e = subst (SaysRule family s) e one-says
+
+  pub one-refused : (number place : ℕ) → oneRule family s ≡ Refused number place → Refusal number place
+  one-refused number place e = subst (SaysRule family s) e one-says

@@ -19,7 +19,8 @@ use Rattle.rule.specs.declared.Checked.{Checked}
 use Rattle.rule.specs.declared.Checked.the-variants.{Accepted, Refused}
 use Rattle.rule.specs.Component.{bodyEnd, found, componentAt}
 use Rattle.rule.specs.Value.{Part, between, Progress, componentStep, componentsFrom, checkValue}
-use Rattle.rule.proofs.ComponentLaws.{Within, EndWithin, body-within}
+use Rattle.rule.proofs.ComponentLaws.{Within, Met, EndWithin, body-within}
+use Rattle.rule.proofs.Refusal.{Refusal, placeless}
 
 -- what the cursor found: a type octet of the family, above the one before, and a body behind it that ends in the value
 pub record Found (family : Family) (v : List ℕ) (at previous kind next : ℕ) : Type 0 where
@@ -34,7 +35,7 @@ pub record Found (family : Family) (v : List ℕ) (at previous kind next : ℕ) 
 abbrev pub Says : Family → List ℕ → ℕ → ℕ → Next → Type 0
 Says family v at previous Nothing = length v ≤ at
 Says family v at previous (Component kind next) = Found family v at previous kind next
-Says family v at previous (RefusedNext number place) = Unit {0}
+Says family v at previous (RefusedNext number place) = Met v number place
 
 module _ (family : Family) (v : List ℕ) where
   pub cursor-says : (at previous : ℕ) → Says family v at previous (componentAt family v at previous)
@@ -42,9 +43,13 @@ module _ (family : Family) (v : List ℕ) where
   cursor-says at previous =
       let kind = getD v at 0 in
       by-test (leb (length v) at) (λ t. rw t (leb-true _ _ t))
-      (λ t. by-test (eqb kind 0) (λ u. rw (t, u) tt)
-      (λ u. by-test (ltb (family .highest) kind) (λ w. rw (t, u, w) tt)
-      (λ w. by-test (leb kind previous) (λ x. rw (t, u, w, x) tt)
+      (λ t.
+      let inside = leb-false (length v) at t in
+      let unknown : Met v 3 at = (omega arith, (omega arith, omega arith)) in
+      let unordered : Met v 4 at = (omega arith, (omega arith, omega arith)) in
+      by-test (eqb kind 0) (λ u. rw (t, u) unknown)
+      (λ u. by-test (ltb (family .highest) kind) (λ w. rw (t, u, w) unknown)
+      (λ w. by-test (leb kind previous) (λ x. rw (t, u, w, x) unordered)
       (λ x. rw (t, u, w, x) (go t u w x (bodyEnd family kind v (at + 1)) refl)))))
     where
       go : leb (length v) at ≡ false → eqb (getD v at 0) 0 ≡ false → ltb (family .highest) (getD v at 0) ≡ false → leb (getD v at 0) previous ≡ false
@@ -59,13 +64,16 @@ module _ (family : Family) (v : List ℕ) where
             ends = e;
             within = subst (EndWithin v (at + 1)) e (body-within v family (getD v at 0) (at + 1));
           }
-      go t u w x (RefusedBody number place) e = tt
+      go t u w x (RefusedBody number place) e = subst (EndWithin v (at + 1)) e (body-within v family (getD v at 0) (at + 1))
 
   pub was-found : (at previous kind next : ℕ) → componentAt family v at previous ≡ Component kind next → Found family v at previous kind next
   was-found at previous kind next e = subst (Says family v at previous) e (cursor-says at previous)
 
   pub none-left : (at previous : ℕ) → componentAt family v at previous ≡ Nothing → length v ≤ at
   none-left at previous e = subst (Says family v at previous) e (cursor-says at previous)
+
+  pub was-refused : (at previous number place : ℕ) → componentAt family v at previous ≡ RefusedNext number place → Met v number place
+  was-refused at previous number place e = subst (Says family v at previous) e (cursor-says at previous)
 
   falls : (p q : Progress) (a : Part) → componentStep v (p .at) (componentAt family v (p .at) (p .previous)) ≡ more a q
       → length v - q .at < length v - p .at
@@ -187,3 +195,22 @@ module _ (family : Family) (v : List ℕ) (ok : checkValue family v ≡ Accepted
 
   pub accepted-walk : accepts family v 0 0 ≡ Accepted
   accepted-walk = sym (check-walk family v accepted-small accepted-some) ∙ ok
+
+-- a value that is not accepted is refused with a number of 01's table, at a place in it
+abbrev pub Checks : Checked → Type 0
+Checks Accepted = Unit {0}
+Checks (Refused number place) = Refusal number place
+
+pub value-checks : (family : Family) (v : List ℕ) → Checks (checkValue family v)
+unfolding checkValue
+value-checks family v =
+    by-test (ltb 4095 (length v)) (λ t. rw t (placeless 1 (omega arith) (omega arith)))
+    (λ t. by-test (eqb (length v) 0) (λ u. rw (t, u) (placeless 2 (omega arith) (omega arith))) (λ u. rw (t, u) (walked (ltb-false _ _ t))))
+  where
+    walked : length v ≤ 4095 → Checks (accepts family v 0 0)
+    walked h =
+        components-ind family v (λ at previous w. Checks (w .ending)) (λ at previous e. tt)
+        (λ at previous number place e.
+        let m = was-refused family v at previous number place e in
+        record { given = omega arith; listed = omega arith; near = omega arith })
+        (λ at previous kind next w e rest. rest) 0 0

@@ -1,5 +1,5 @@
 -- Writing one rule: the length field in both forms, the stores in a row, and the writer's answers. Assumes nothing.
-use mathlib.Core.Path.{_≡_, refl, sym, ap, _∙_}
+use mathlib.Core.Path.{_≡_, refl, sym, ap, subst, _∙_}
 use mathlib.Core.Bool.{Bool, true, false, cond}
 use mathlib.Core.List.{List, [], _∷_, _++_, append-assoc}
 use Prim.Native.Nat.{ℕ, _+_, _-_, _/_, _%_, _<_, _≤_}
@@ -11,6 +11,7 @@ use lib.ListN.{length, take, drop, set, replicate, length-append, length-replica
 use lib.Seq.{take-at, drop-at, drop-append-le, drop-drop, drop-append-add}
 use borrow.Author.Tests.{lt-ltb, le-ltb}
 use Rattle.octets.specs.Store.{stored}
+use Rattle.octets.proofs.Cases.{by-test}
 use Rattle.rule.specs.declared.Family.{Family}
 use Rattle.rule.specs.declared.Checked.{Checked}
 use Rattle.rule.specs.declared.Checked.the-variants.{Accepted, Refused as RefusedValue}
@@ -19,6 +20,8 @@ use Rattle.rule.specs.declared.Writing.the-variants.{Written, Refused}
 use Rattle.rule.specs.Value.{checkValue}
 use Rattle.rule.specs.Plain.{plain}
 use Rattle.rule.specs.Writing.{lengthField, ruleFor, intoRoom, filled, writing, afterWriting}
+use Rattle.rule.proofs.Refusal.{Refusal, placeless}
+use Rattle.rule.proofs.ValueLaws.{Checks, value-checks}
 use Rattle.rule.proofs.PlainLaws.{length-plain}
 
 -- the length field
@@ -112,3 +115,17 @@ module _ (family : Family) (v b : List ℕ) (checked : Checked) (is : checked �
       → (Refused number place ≡ writing family v (length b)) × (b ≡ afterWriting family v b)
   unfolding writing afterWriting
   write-refused number place e = (rw (← is, e), rw (← is, e))
+
+-- a writer that refuses has a refusal of 01's table
+abbrev Writes : Writing → Type 0
+Writes (Written octets) = Unit {0}
+Writes (Refused number place) = Refusal number place
+
+module _ (family : Family) (v : List ℕ) (room : ℕ) where
+  pub not-written : (number place : ℕ) → writing family v room ≡ Refused number place → Refusal number place
+  unfolding writing
+  not-written number place e = subst Writes e (go (checkValue family v) (value-checks family v))
+    where
+      go : (c : Checked) → Checks c → Writes (intoRoom v room c)
+      go Accepted h = by-test (ltb room (length (ruleFor v))) (λ t. rw t (placeless 16 (omega arith) (omega arith))) (λ t. rw t tt)
+      go (RefusedValue number place) h = h
