@@ -23,13 +23,17 @@ use Rattle.table.specs.Sound.{soundTable}
 use Rattle.table.proofs.ChangeLaws.{removed-none}
 use Rattle.table.specs.Change.{holds, removed, hasRoom, inserted, Changed, announced, withdrawn}
 
+-- the table may hold the plain spelling of an accepted value
+pub plain-held : (v : List ℕ) → Octets v → checkValue ipv4 v ≡ Accepted → plainValue ipv4 (plain v) ≡ true
+plain-held v o ok = value-holds ipv4 (plain v) (check-plain ipv4 v o ∙ ok) (plain-again v o)
+
 -- what the front of the working array is
 module _ (v zeros work : List ℕ) (filled : work ≡ plain v ++ drop (length v) zeros) where
   pub front-is : take (length v) work ≡ plain v
   front-is = front-plain v zeros work filled
 
   pub front-held : Octets v → checkValue ipv4 v ≡ Accepted → plainValue ipv4 (take (length v) work) ≡ true
-  front-held o ok = rw front-is (value-holds ipv4 (plain v) (check-plain ipv4 v o ∙ ok) (plain-again v o))
+  front-held o ok = rw front-is (plain-held v o ok)
 
   module _ (t exit : List ℕ) (r : Bool) where
     pub withdrew : (r ≡ holds ipv4 t (keysOf ipv4 (take (length v) work))) × (exit ≡ removed ipv4 t (keysOf ipv4 (take (length v) work))) → r ≡ true

@@ -1,13 +1,15 @@
--- Cutting a rule's record out of a table and putting one in are the changes of its list of entries. Assumes nothing.
-use mathlib.Core.Path.{_≡_, refl, sym, ap, ap₂, _∙_}
+-- Cutting a rule's record out of a table, putting one in and writing one over that of the same rule are the changes of its list of
+-- entries; and which of these have room. Assumes nothing.
+use mathlib.Core.Path.{_≡_, refl, sym, ap, ap₂, subst, _∙_}
 use mathlib.Core.Bool.{Bool, true, false, cond}
 use mathlib.Core.List.{List, [], _∷_, _++_, append-nil}
+use mathlib.Core.Logic.{_⊎_, ⊎-elim}
 use mathlib.Core.Option.{Option, none, some}
 use Prim.Native.Nat.{ℕ, _+_, _-_, _^_, _<_, _≤_}
 use native.Mathlib.Omega.{arith}
-use native.Mathlib.Nat.{add-zero, zero-add}
-use lib.Dec.{leb}
-use lib.ListN.{length, take, drop, replicate, take-append-drop}
+use native.Mathlib.Nat.{add-zero, zero-add, add-sub-cancel-left}
+use lib.ListN.{length, take, drop, take-append-drop}
+use lib.Seq.{getD-drop}
 use borrow.Author.Tests.{le-leb, lt-leb}
 use Rattle.octets.specs.Store.{stored, cutOut, gapOpened}
 use Rattle.octets.proofs.Cases.{apart}
@@ -15,20 +17,25 @@ use Rattle.octets.proofs.Facts.{Octets}
 use Rattle.sorted.specs.Table.{lookup, insert, remove}
 use Rattle.sorted.specs.Split.{front, rear, skip}
 use Rattle.sorted.specs.History.{costs, isHeld}
+use Rattle.sorted.proofs.Cases.{by-order}
 use Rattle.sorted.proofs.SplitLaws.{front-rear, insert-split, remove-split, held-split, absent-split}
 use Rattle.sorted.proofs.HistoryLaws.{costs-append}
+use Rattle.sorted.proofs.MemberLaws.{found-in}
 use Rattle.sorted.proofs.TableLaws.{remove-absent}
 use Rattle.rule.specs.Family.{ipv4}
-use Rattle.order.specs.Key.{keysOf, keyOrder}
-use Rattle.entry.specs.Entry.{Entry, entryKey, plainValue}
-use Rattle.entry.proofs.ValueLaws.{Held, held as value-held}
+use Rattle.order.specs.Key.{keyOrder}
+use Rattle.order.proofs.KeyLaws.{key-order, keys-only}
+use Rattle.entry.specs.Entry.{Entry, entryKey, plainValue, possible}
+use Rattle.entry.proofs.ValueLaws.{held as value-held, is-possible}
 use Rattle.entry.specs.Record.{headCost, recordOf}
+use Rattle.entry.proofs.CodecLaws.{value-record}
 use Rattle.table.specs.declared.Place.{Place}
 use Rattle.table.specs.Walk.{entries}
-use Rattle.table.specs.Sound.{cost, tableOf, Encodes, soundTable}
+use Rattle.table.specs.Sound.{cost, tableOf, every, Encodes, soundTable}
 use Rattle.table.specs.Place.{placeIn}
-use Rattle.table.specs.Change.{holds, removed, hasRoom, inserted}
-use Rattle.table.proofs.SpliceLaws.{length-table, table-cut, table-put}
+use Rattle.table.specs.Change.{holds, removed, hasRoom, inserted, announced}
+use Rattle.table.proofs.SpliceLaws.{table-record, table-cut, table-over, table-put}
+use Rattle.table.proofs.EntryLaws.{every-both, octets-between}
 use Rattle.table.proofs.FindLaws.{place-start, place-held, place-absent}
 use Rattle.table.proofs.SoundLaws.{sound-encodes}
 
@@ -37,32 +44,81 @@ cut-nothing : (b : List ℕ) (at : ℕ) → cutOut b at 0 ≡ b
 unfolding cutOut
 cut-nothing b at = rw (add-zero at, append-nil (drop at b)) (take-append-drop at b)
 
-module _ (t : List ℕ) (es : List Entry) (c : Encodes ipv4 t es) (k : List (List ℕ)) where
-  abbrev before : List Entry
-  before = front keyOrder (entryKey ipv4) k es
+-- the entries before the place of a key, and those behind it
+abbrev before : List Entry → List (List ℕ) → List Entry
+before es k = front keyOrder (entryKey ipv4) k es
 
-  abbrev behind : List Entry
-  behind = skip keyOrder (entryKey ipv4) k (rear keyOrder (entryKey ipv4) k es)
+abbrev behind : List Entry → List (List ℕ) → List Entry
+behind es k = skip keyOrder (entryKey ipv4) k (rear keyOrder (entryKey ipv4) k es)
+
+-- an entry that is found passes a test that every entry passes
+every-found : (test : Entry → Bool) (k : List (List ℕ)) (es : List Entry) (y : Entry) → lookup keyOrder (entryKey ipv4) k es ≡ some y
+    → every test es ≡ true → test y ≡ true
+every-found test k [] y h g = apart (cc)
+every-found test k (x ∷ es) y h g =
+    let gs = every-both test x es g in
+    by-order (keyOrder k (entryKey ipv4 x)) (λ f. apart (cc)) (λ f. let s : x ≡ y = cc in rw (← s) (gs .0))
+    (λ f. every-found test k es y (rw f at h) (gs .1))
+
+module _ (t : List ℕ) (es : List Entry) (c : Encodes ipv4 t es) (k : List (List ℕ)) where
+  -- a held rule's record
+  module _ (y : Entry) (e : lookup keyOrder (entryKey ipv4) k es ≡ some y) where
+    whole : before es k ++ y ∷ behind es k ≡ es
+    whole = rw (← held-split keyOrder (entryKey ipv4) k es y e) (front-rear keyOrder (entryKey ipv4) k es)
+
+    made : t ≡ tableOf (length t) (before es k ++ y ∷ behind es k)
+    made = c .is ∙ ap (tableOf (length t)) (sym whole)
+
+    value-octets : Octets t → Octets (y .value)
+    value-octets o =
+        let at = costs cost (before es k) in
+        let part = rw (add-sub-cancel-left at (cost y)) at (octets-between t at (at + cost y) o) in
+        let here = ap (λ (b : List ℕ). take (cost y) (drop at b)) made ∙ table-record (length t) (before es k) y (behind es k) in
+        let octets : Octets (recordOf y) = subst Octets here part in
+        subst Octets (value-record y) (λ i. rw (getD-drop headCost (recordOf y) i 0) (octets (headCost + i)))
+
+    -- the same rule has the same plain spelling, and so a record of the same length
+    pub same-cost : Octets t → (x : Entry) → Octets (x .value) → plainValue ipv4 (x .value) ≡ true → entryKey ipv4 x ≡ k → cost x ≡ cost y
+    same-cost o x octets plain key =
+        let new = value-held ipv4 (x .value) plain in
+        let old = is-possible ipv4 y (every-found (possible ipv4) k es y e (c .each)) .value in
+        let keys = key ∙ sym (found-in keyOrder (entryKey ipv4) key-order k y es e .1) in
+        let spelled = keys-only ipv4 4 refl (x .value) (y .value) octets (value-octets o) (new .accepted) (old .accepted) keys in
+        ap (λ (v : List ℕ). headCost + length v) (sym (new .spelled) ∙ spelled ∙ old .spelled)
+
+    -- a record that costs as much, put in its place
+    module _ (x : Entry) (same : cost x ≡ cost y) where
+      costs-over : costs cost (before es k ++ x ∷ behind es k) ≤ length t
+      costs-over =
+          let all = ap (costs cost) whole in
+          let old = costs-append cost (before es k) (y ∷ behind es k) in
+          let new = costs-append cost (before es k) (x ∷ behind es k) in
+          let room = c .room in
+          omega arith
+
+      stored-over : stored t (costs cost (before es k)) (recordOf x) ≡ tableOf (length t) (before es k ++ x ∷ behind es k)
+      stored-over =
+          ap (λ (b : List ℕ). stored b (costs cost (before es k)) (recordOf x)) made ∙ table-over (length t) (before es k) y (behind es k) x same
 
   -- what a place says of the table: where it is, what its record costs, and what is left without it
   pub record Placed (p : Place) : Type 0 where
-    pub start : p .start ≡ costs cost before
-    pub held : costs cost es ≡ costs cost before + (p .end - p .start) + costs cost behind
+    pub start : p .start ≡ costs cost (before es k)
+    pub held : costs cost es ≡ costs cost (before es k) + (p .end - p .start) + costs cost (behind es k)
     pub order : p .start ≤ p .end
     pub inside : p .end ≤ length t
-    pub cut : cutOut t (p .start) (p .end - p .start) ≡ tableOf (length t) (before ++ behind)
+    pub cut : cutOut t (p .start) (p .end - p .start) ≡ tableOf (length t) (before es k ++ behind es k)
     pub says : isHeld (lookup keyOrder (entryKey ipv4) k es) ≡ true → p .start < p .end
     pub not : isHeld (lookup keyOrder (entryKey ipv4) k es) ≡ false → p .end ≡ p .start
 
-  at-start : placeIn ipv4 k 0 es .start ≡ costs cost before
-  at-start = place-start k 0 es ∙ zero-add (costs cost before)
+  at-start : placeIn ipv4 k 0 es .start ≡ costs cost (before es k)
+  at-start = place-start k 0 es ∙ zero-add (costs cost (before es k))
 
   placed : (o : Option Entry) → lookup keyOrder (entryKey ipv4) k es ≡ o → Placed (placeIn ipv4 k 0 es)
   placed none e =
       let same = place-absent k 0 es e in
-      let whole : before ++ behind ≡ es = rw (absent-split keyOrder (entryKey ipv4) k es e) (front-rear keyOrder (entryKey ipv4) k es) in
-      let sum = costs-append cost before behind in
-      let all = ap (costs cost) whole in
+      let none-left : before es k ++ behind es k ≡ es = rw (absent-split keyOrder (entryKey ipv4) k es e) (front-rear keyOrder (entryKey ipv4) k es) in
+      let sum = costs-append cost (before es k) (behind es k) in
+      let all = ap (costs cost) none-left in
       let room = c .room in
       let at = at-start in
       let none-cut : placeIn ipv4 k 0 es .end - placeIn ipv4 k 0 es .start ≡ 0 = omega arith in
@@ -71,27 +127,25 @@ module _ (t : List ℕ) (es : List Entry) (c : Encodes ipv4 t es) (k : List (Lis
         held = omega arith;
         order = omega arith;
         inside = omega arith;
-        cut = rw none-cut (cut-nothing t (placeIn ipv4 k 0 es .start)) ∙ c .is ∙ ap (tableOf (length t)) (sym whole);
+        cut = rw none-cut (cut-nothing t (placeIn ipv4 k 0 es .start)) ∙ c .is ∙ ap (tableOf (length t)) (sym none-left);
         says = λ h. let z : false ≡ true = rw e at h in apart (cc);
         not = λ h. same;
       }
   placed (some x) e =
       let far = place-held k 0 es x e in
-      let whole : before ++ x ∷ behind ≡ es = rw (← held-split keyOrder (entryKey ipv4) k es x e) (front-rear keyOrder (entryKey ipv4) k es) in
-      let sum = costs-append cost before (x ∷ behind) in
-      let all = ap (costs cost) whole in
+      let sum = costs-append cost (before es k) (x ∷ behind es k) in
+      let all = ap (costs cost) (whole x e) in
       let room = c .room in
       let at = at-start in
       let size : placeIn ipv4 k 0 es .end - placeIn ipv4 k 0 es .start ≡ cost x = omega arith in
-      let made : t ≡ tableOf (length t) (before ++ x ∷ behind) = c .is ∙ ap (tableOf (length t)) (sym whole) in
       record {
         start = at-start;
         held = omega arith;
         order = omega arith;
         inside = omega arith;
         cut =
-            ap₂ (cutOut t) at-start size ∙ ap (λ (b : List ℕ). cutOut b (costs cost before) (cost x)) made
-            ∙ table-cut (length t) before x behind (omega arith);
+            ap₂ (cutOut t) at-start size ∙ ap (λ (b : List ℕ). cutOut b (costs cost (before es k)) (cost x)) (made x e)
+            ∙ table-cut (length t) (before es k) x (behind es k) (omega arith);
         says = λ h. omega arith;
         not = λ h. let z : true ≡ false = rw e at h in apart (cc);
       }
@@ -141,48 +195,91 @@ module _ (t : List ℕ) (o : Octets t) (sound : soundTable ipv4 t ≡ true) wher
 
   -- ---- announcing ----
 
-  pub sum-fits : (used held : ℕ) (v : List ℕ) → used ≡ costs cost (entries t) → plainValue ipv4 v ≡ true → used - held + (headCost + length v) < 2 ^ 64
-  sum-fits used held v e h =
+  pub sum-fits : (used : ℕ) (v : List ℕ) → used ≡ costs cost (entries t) → plainValue ipv4 v ≡ true → used + (headCost + length v) < 2 ^ 64
+  sum-fits used v e h =
       let room = encoded .room in
       let short = encoded .short in
       let small = value-held ipv4 v h .small in
       omega arith
 
-  module _ (x : Entry) (p : Place) (is : p ≡ placeIn ipv4 (entryKey ipv4 x) 0 (entries t)) where
-    pub entry-place : Placed t (entries t) encoded (entryKey ipv4 x) p
-    entry-place = place-is (entryKey ipv4 x) p is
+  -- what the table is when the record is written: a new rule has a gap opened for it, and a held one nothing moved
+  abbrev pub Readied : Place → Entry → List ℕ → Type 0
+  Readied p x ready =
+      ((p .end - p .start ≡ 0) × (ready ≡ gapOpened t (p .start) (cost x))) ⊎ ((p .end - p .start ≡ 0 → ⊥) × (ready ≡ t))
 
-    -- the costs with the entry: those of the table without the record it replaces, and its own
-    costs-with : costs cost (insert keyOrder (entryKey ipv4) x (entries t)) + (p .end - p .start) ≡ costs cost (entries t) + cost x
-    costs-with =
-        let f = front keyOrder (entryKey ipv4) (entryKey ipv4 x) (entries t) in
-        let s = skip keyOrder (entryKey ipv4) (entryKey ipv4 x) (rear keyOrder (entryKey ipv4) (entryKey ipv4 x) (entries t)) in
-        let split = ap (costs cost) (insert-split keyOrder (entryKey ipv4) x (entries t)) in
-        let sum = costs-append cost (front keyOrder (entryKey ipv4) (entryKey ipv4 x) (entries t))
-        (x ∷ skip keyOrder (entryKey ipv4) (entryKey ipv4 x) (rear keyOrder (entryKey ipv4) (entryKey ipv4 x) (entries t))) in
-        let held = entry-place .held in
-        omega arith
+  module _ (x : Entry) where
+    split : insert keyOrder (entryKey ipv4) x (entries t) ≡ before (entries t) (entryKey ipv4 x) ++ x ∷ behind (entries t) (entryKey ipv4 x)
+    split = insert-split keyOrder (entryKey ipv4) x (entries t)
 
-    module _ (used : ℕ) (all : used ≡ costs cost (entries t)) where
-      pub no-room : length t < used - (p .end - p .start) + cost x → (false ≡ hasRoom ipv4 t x) × (t ≡ cond (hasRoom ipv4 t x) (inserted ipv4 t x) t)
+    -- **A held rule never meets 11.** 01: "No room means exactly that the costs after the call would pass the buffer's length." The same
+    -- rule has a record of the same length, so that the costs after the call are those before it.
+    module _ (octets : Octets (x .value)) (plain : plainValue ipv4 (x .value) ≡ true) (held : holds ipv4 t (entryKey ipv4 x) ≡ true) where
+      as-long : (y : Entry) × ((lookup keyOrder (entryKey ipv4) (entryKey ipv4 x) (entries t) ≡ some y) × (cost x ≡ cost y))
+      unfolding holds
+      as-long = go (lookup keyOrder (entryKey ipv4) (entryKey ipv4 x) (entries t)) refl
+        where
+          go : (l : Option Entry) → lookup keyOrder (entryKey ipv4) (entryKey ipv4 x) (entries t) ≡ l
+              → (y : Entry) × ((lookup keyOrder (entryKey ipv4) (entryKey ipv4 x) (entries t) ≡ some y) × (cost x ≡ cost y))
+          go none e = let z : false ≡ true = rw e at held in apart (cc)
+          go (some y) e = (y, (e, same-cost t (entries t) encoded (entryKey ipv4 x) y e o x octets plain refl))
+
+      pub held-has-room : hasRoom ipv4 t x ≡ true
       unfolding hasRoom
-      no-room h =
-          let w = costs-with in
-          let held = entry-place .held in
-          let r = lt-leb (costs cost (insert keyOrder (entryKey ipv4) x (entries t))) (length t) (omega arith) in
-          (sym r, rw r)
+      held-has-room =
+          rw split (le-leb _ (length t) (costs-over t (entries t) encoded (entryKey ipv4 x) (as-long .0) (as-long .1 .0) x (as-long .1 .1)))
 
-      pub has-room : (cut gap exit : List ℕ) → used - (p .end - p .start) + cost x ≤ length t → cut ≡ cutOut t (p .start) (p .end - p .start)
-          → gap ≡ gapOpened cut (p .start) (cost x) → exit ≡ stored gap (p .start) (recordOf x)
-          → (true ≡ hasRoom ipv4 t x) × (exit ≡ cond (hasRoom ipv4 t x) (inserted ipv4 t x) t)
-      unfolding hasRoom inserted
-      has-room cut gap exit h a b e =
-          let w = costs-with in
-          let held = entry-place .held in
-          let f = front keyOrder (entryKey ipv4) (entryKey ipv4 x) (entries t) in
-          let split = insert-split keyOrder (entryKey ipv4) x (entries t) in
-          let fits = ap (costs cost) split in
-          let r = le-leb (costs cost (insert keyOrder (entryKey ipv4) x (entries t))) (length t) (omega arith) in
-          let put = table-put (length t) (front keyOrder (entryKey ipv4) (entryKey ipv4 x) (entries t)) x
-          (skip keyOrder (entryKey ipv4) (entryKey ipv4 x) (rear keyOrder (entryKey ipv4) (entryKey ipv4 x) (entries t))) (omega arith) in
-          (sym r, e ∙ rw (b, a, entry-place .cut, entry-place .start, r) (put ∙ ap (tableOf (length t)) (sym split)))
+      pub held-is-done : announced ipv4 t x true .number ≡ 0
+      held-is-done = rw held-has-room
+
+    module _ (p : Place) (is : p ≡ placeIn ipv4 (entryKey ipv4 x) 0 (entries t)) where
+      entry-place : Placed t (entries t) encoded (entryKey ipv4 x) p
+      entry-place = place-is (entryKey ipv4 x) p is
+
+      -- a held rule's record is written over
+      replaced : Octets (x .value) → plainValue ipv4 (x .value) ≡ true → (p .end - p .start ≡ 0 → ⊥)
+          → (hasRoom ipv4 t x ≡ true) × (stored t (p .start) (recordOf x) ≡ inserted ipv4 t x)
+      unfolding inserted
+      replaced octets plain h =
+          let held = sym (was-held (entryKey ipv4 x) p is (cutOut t (p .start) (p .end - p .start)) h refl .0) in
+          let old = as-long octets plain held in (
+            held-has-room octets plain held,
+            rw (entry-place .start, split) (stored-over t (entries t) encoded (entryKey ipv4 x) (old .0) (old .1 .0) x (old .1 .1)),
+          )
+
+      module _ (used : ℕ) (all : used ≡ costs cost (entries t)) where
+        -- the costs with the entry: those of the table without the record it replaces, and its own
+        costs-with : costs cost (insert keyOrder (entryKey ipv4) x (entries t)) ≡ used - (p .end - p .start) + cost x
+        costs-with =
+            let sums = ap (costs cost) split in
+            let sum = costs-append cost (before (entries t) (entryKey ipv4 x)) (x ∷ behind (entries t) (entryKey ipv4 x)) in
+            let held = entry-place .held in
+            omega arith
+
+        pub no-room : length t < used - (p .end - p .start) + cost x → (false ≡ hasRoom ipv4 t x) × (t ≡ cond (hasRoom ipv4 t x) (inserted ipv4 t x) t)
+        unfolding hasRoom
+        no-room h =
+            let r = lt-leb (costs cost (insert keyOrder (entryKey ipv4) x (entries t))) (length t) (rw costs-with h) in
+            (sym r, rw r)
+
+        -- a new rule's record is put into a gap
+        added : p .end - p .start ≡ 0 → used - (p .end - p .start) + cost x ≤ length t
+            → (hasRoom ipv4 t x ≡ true) × (stored (gapOpened t (p .start) (cost x)) (p .start) (recordOf x) ≡ inserted ipv4 t x)
+        unfolding hasRoom inserted
+        added new h =
+            let f = before (entries t) (entryKey ipv4 x) in
+            let r = behind (entries t) (entryKey ipv4 x) in
+            let fits : costs cost (f ++ x ∷ r) ≤ length t = rw (← split, costs-with) h in
+            let whole : t ≡ tableOf (length t) (f ++ r) = sym (cut-nothing t (p .start)) ∙ rw new at (entry-place .cut) in (
+              le-leb _ (length t) (rw costs-with h),
+              rw (entry-place .start, split)
+                  (ap (λ (l : List ℕ). stored (gapOpened l (costs cost f) (cost x)) (costs cost f) (recordOf x)) whole ∙ table-put (length t) f x r fits),
+            )
+
+        pub has-room : (ready exit : List ℕ) → Octets (x .value) → plainValue ipv4 (x .value) ≡ true → used - (p .end - p .start) + cost x ≤ length t
+            → Readied p x ready → exit ≡ stored ready (p .start) (recordOf x)
+            → (true ≡ hasRoom ipv4 t x) × (exit ≡ cond (hasRoom ipv4 t x) (inserted ipv4 t x) t)
+        has-room ready exit octets plain h way e =
+            ⊎-elim
+            (λ new. let a = added (new .0) h in (sym (a .0), e ∙ rw (new .1, a .0) (a .1)))
+            (λ old. let a = replaced octets plain (old .0) in (sym (a .0), e ∙ rw (old .1, a .0) (a .1)))
+            way

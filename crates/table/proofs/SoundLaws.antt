@@ -26,12 +26,11 @@ use Rattle.order.specs.Key.{keyOrder}
 use Rattle.entry.specs.Entry.{Entry, entryKey, possible}
 use Rattle.entry.specs.Record.{headCost, recordOf, entryOf, goodRecord}
 use Rattle.entry.proofs.ValueLaws.{Possible, is-possible}
-use Rattle.entry.proofs.CodecLaws.{size-back, read-written, good-written, written-read, good-possible}
+use Rattle.entry.proofs.CodecLaws.{length-record, size-back, read-written, good-written, written-read, good-possible}
 use Rattle.table.specs.declared.NextRecord.the-variants.{Nothing, Record, Unsound}
 use Rattle.table.specs.Walk.{recordAt, recordsFrom, records, entries}
 use Rattle.table.specs.Sound.{mostOctets, cost, joined, tableOf, every, Encodes, soundTable}
 use Rattle.table.proofs.WalkLaws.{Found, was-found, rest-zero, records-more, records-end, records-ind, at-end, at-record}
-use Rattle.table.proofs.SpliceLaws.{length-record, length-joined}
 use Rattle.table.proofs.EntryLaws.{every-both, octets-between, length-there, cost-there}
 
 -- a number behind other octets, and in a part

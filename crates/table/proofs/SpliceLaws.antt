@@ -1,24 +1,18 @@
--- A table's octets when a record is cut out or put in: the same change to its list of entries. Assumes nothing.
+-- A table's octets when a record is cut out, put in or written over: the same change to its list of entries. Assumes nothing.
 use mathlib.Core.Path.{_≡_, refl, sym, ap, ap₂, _∙_}
 use mathlib.Core.List.{List, [], _∷_, _++_, append-assoc}
-use Prim.Native.Nat.{ℕ, zero, suc, _+_, _-_, _<_, _≤_}
+use Prim.Native.Nat.{ℕ, zero, suc, _+_, _-_, _≤_}
 use native.Mathlib.Omega.{arith}
 use lib.ListN.{length, take, drop, replicate, length-append, length-replicate, replicate-append-replicate}
 use lib.Seq.{take-at, drop-at, take-append-add, drop-drop}
-use Rattle.octets.specs.Number.{octetsOf}
 use Rattle.octets.specs.Store.{stored, cutOut, gapOpened}
-use Rattle.octets.proofs.NumberLaws.{length-octetsOf}
 use Rattle.octets.proofs.StoreLaws.{stored-opened}
 use Rattle.sorted.specs.History.{costs}
 use Rattle.sorted.proofs.HistoryLaws.{costs-append}
 use Rattle.entry.specs.Entry.{Entry}
-use Rattle.entry.specs.Record.{headWidths, headCost, writtenFields, fieldsOf, recordOf}
+use Rattle.entry.specs.Record.{recordOf}
+use Rattle.entry.proofs.CodecLaws.{length-record}
 use Rattle.table.specs.Sound.{cost, joined, tableOf}
-
--- a record has as many octets as it costs
-pub length-record : (e : Entry) → length (recordOf e) ≡ cost e
-unfolding recordOf writtenFields fieldsOf
-length-record e = simp (length-append, length-octetsOf) (omega arith)
 
 pub length-joined : (es : List Entry) → length (joined es) ≡ costs cost es
 unfolding joined
@@ -51,25 +45,47 @@ module _ (n : ℕ) (f r : List Entry) where
   pub table-rear : drop (costs cost f) (tableOf n (f ++ r)) ≡ joined r ++ replicate (n - costs cost (f ++ r)) 0
   table-rear = rw split (drop-at (joined f) _ (costs cost f) (length-joined f))
 
--- cutting a record out
-pub table-cut : (n : ℕ) (f : List Entry) (x : Entry) (r : List Entry) → costs cost (f ++ x ∷ r) ≤ n
-    → cutOut (tableOf n (f ++ x ∷ r)) (costs cost f) (cost x) ≡ tableOf n (f ++ r)
-unfolding cutOut joined
-table-cut n f x r h =
-    let c = costs-append cost f (x ∷ r) in
-    let d = costs-append cost f r in
-    let zeros : n - costs cost (f ++ x ∷ r) + cost x ≡ n - costs cost (f ++ r) = omega arith in
-    let behind : drop (costs cost f + cost x) (tableOf n (f ++ x ∷ r)) ≡ joined r ++ replicate (n - costs cost (f ++ x ∷ r)) 0
-    = sym (drop-drop (cost x) (costs cost f) (tableOf n (f ++ x ∷ r))) ∙ ap (drop (cost x)) (table-rear n f (x ∷ r) ∙ append-assoc (recordOf x) (joined r) _)
-    ∙ drop-at (recordOf x) _ (cost x) (length-record x) in
-    rw (
-      table-front n f (x ∷ r),
-      behind,
-      append-assoc (joined r) (replicate (n - costs cost (f ++ x ∷ r)) 0) (replicate (cost x) 0),
-      replicate-append-replicate {A = ℕ} (n - costs cost (f ++ x ∷ r)) (cost x) 0,
-      zeros,
-    )
-    (sym (split n f r))
+-- a record in a table: its own octets, and those behind it
+module _ (n : ℕ) (f : List Entry) (x : Entry) (r : List Entry) where
+  record-rear : drop (costs cost f) (tableOf n (f ++ x ∷ r)) ≡ recordOf x ++ (joined r ++ replicate (n - costs cost (f ++ x ∷ r)) 0)
+  unfolding joined
+  record-rear = table-rear n f (x ∷ r) ∙ append-assoc (recordOf x) (joined r) _
+
+  pub table-record : take (cost x) (drop (costs cost f) (tableOf n (f ++ x ∷ r))) ≡ recordOf x
+  table-record = rw record-rear (take-at (recordOf x) _ (cost x) (length-record x))
+
+  table-behind : drop (costs cost f + cost x) (tableOf n (f ++ x ∷ r)) ≡ joined r ++ replicate (n - costs cost (f ++ x ∷ r)) 0
+  table-behind =
+      sym (drop-drop (cost x) (costs cost f) (tableOf n (f ++ x ∷ r))) ∙ ap (drop (cost x)) record-rear
+      ∙ drop-at (recordOf x) _ (cost x) (length-record x)
+
+  -- cutting a record out
+  pub table-cut : costs cost (f ++ x ∷ r) ≤ n → cutOut (tableOf n (f ++ x ∷ r)) (costs cost f) (cost x) ≡ tableOf n (f ++ r)
+  unfolding cutOut
+  table-cut h =
+      let c = costs-append cost f (x ∷ r) in
+      let d = costs-append cost f r in
+      let zeros : n - costs cost (f ++ x ∷ r) + cost x ≡ n - costs cost (f ++ r) = omega arith in
+      rw (
+        table-front n f (x ∷ r),
+        table-behind,
+        append-assoc (joined r) (replicate (n - costs cost (f ++ x ∷ r)) 0) (replicate (cost x) 0),
+        replicate-append-replicate {A = ℕ} (n - costs cost (f ++ x ∷ r)) (cost x) 0,
+        zeros,
+      )
+      (sym (split n f r))
+
+  -- writing a record over one that costs as much
+  pub table-over : (y : Entry) → cost y ≡ cost x → stored (tableOf n (f ++ x ∷ r)) (costs cost f) (recordOf y) ≡ tableOf n (f ++ y ∷ r)
+  unfolding stored joined
+  table-over y same =
+      let c = costs-append cost f (x ∷ r) in
+      let d = costs-append cost f (y ∷ r) in
+      let size : length (recordOf y) ≡ cost x = length-record y ∙ same in
+      let zeros : n - costs cost (f ++ y ∷ r) ≡ n - costs cost (f ++ x ∷ r) = omega arith in
+      rw (size, table-front n f (x ∷ r), table-behind)
+      (append-assoc (joined f) (recordOf y) _ ∙ ap (λ (l : List ℕ). joined f ++ l) (sym (append-assoc (recordOf y) (joined r) _) ∙ rw (← zeros))
+      ∙ sym (split n f (y ∷ r)))
 
 -- putting a record in
 pub table-put : (n : ℕ) (f : List Entry) (x : Entry) (r : List Entry) → costs cost (f ++ x ∷ r) ≤ n

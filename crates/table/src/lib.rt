@@ -261,8 +261,8 @@ pub fn remove_rule(table: &mut [u8], value: &[u8]) -> bool
     true
 }
 
-// Puts a rule, by its plain value, with its originator and actions into a sound table whose records take `used` octets, in the place of
-// the one held for the same rule; where there is no room it tells so and changes nothing.
+// Puts a rule, by its plain value, with its originator and actions into a sound table whose records take `used` octets; where there is
+// no room it tells so and changes nothing. Equal rules have records of equal length, so that a held one is written over where it stands.
 pub fn insert_rule(
     table: &mut [u8],
     used: usize,
@@ -281,8 +281,9 @@ pub fn insert_rule(
     if table.len() < others + size {
         return false;
     }
-    octets::cut_out(table, start, held);
-    octets::open_gap(table, start, size);
+    if held == 0 {
+        octets::open_gap(table, start, size);
+    }
     entry::write_record(table, start, originator, actions, value);
     true
 }

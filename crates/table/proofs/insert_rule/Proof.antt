@@ -1,17 +1,18 @@
-use Rattle.table.proofs.ChangeLaws.{sum-fits}
-use mathlib.Core.Path.{refl}
+-- The record of a new rule is written into a gap, and that of a held one over the old record.
+use mathlib.Core.Path.{_≡_, ap, _∙_}
+use mathlib.Core.Logic.{inl, inr, ⊎-elim}
 use native.Mathlib.Omega.{arith}
+use lib.ListN.{length}
 use Rattle.rule.specs.Family.{ipv4}
 use Rattle.order.specs.Key.{keysOf}
 use Rattle.table.specs.Walk.{entries}
-use Rattle.table.proofs.ChangeLaws.{Placed, encoded, place-is, no-room, has-room}
+use Rattle.table.proofs.ChangeLaws.{Placed, encoded, place-is, sum-fits, Readied, no-room, has-room}
 use borrow.Author.Needs.{needs}
 use Rattle.table.proofs.insert_rule.Statement.{statement}
 use Rattle.table.proofs.insert_rule.Tie as tie
 use Rattle.table.proofs.insert_rule.Reads as reads
 use Rattle.table.proofs.insert_rule.Lts as lts
 use Rattle.entry.proofs.write_record.Reads as write-record-reads
-use Rattle.octets.proofs.cut_out.Reads as cut-out-reads
 use Rattle.octets.proofs.open_gap.Reads as open-gap-reads
 use Rattle.table.proofs.find.Reads as find-reads
 
@@ -19,6 +20,15 @@ there : (c : tie.After-struct-known)
     → Placed (c .before .before .before .before .before .args .table .now) (entries (c .before .before .before .before .before .args .table .now))
     (encoded (c .before .before .before .before .before .args .table .now) (λ i. c .before .before .before .before .slice-known .given i .fits) (c .before .before .before .before .before .pre .0)) (keysOf ipv4 (c .before .before .before .before .before .args .value .now)) (c .before .find .result)
 there c = place-is _ (λ i. c .before .before .before .before .slice-known .given i .fits) (c .before .before .before .before .before .pre .0) _ _ (c .before .find .ensures)
+
+-- what the table is where the record is written
+ready : (c : tie.Joined2)
+    → Readied (c .before .before .before .before .before .before .before .args .table .now) (λ i. c .before .before .before .before .before .before .slice-known .given i .fits) (c .before .before .before .before .before .before .before .pre .0) (c .before .before .before .find .result)
+    (record { originator = c .before .before .before .before .before .before .before .args .originator; actions = c .before .before .before .before .before .before .before .args .actions; value = c .before .before .before .before .before .before .before .args .value .now }) (c .if2 .table)
+ready c = ⊎-elim (λ w. inl (w .0 .taken, w .5 ∙ w .2 .ensures)) (λ w. inr (w .0 .left, w .1)) (c .if2 .came)
+
+kept : (c : tie.Joined2) → length (c .if2 .table) ≡ length (c .before .before .before .before .before .before .before .args .table .now)
+kept c = ⊎-elim (λ w. ap length (w .5) ∙ w .2 .kept .0) (λ w. ap length (w .1)) (c .if2 .came)
 
 find-requires : tie.Need-find-requires
 find-requires c κs = search needs
@@ -33,7 +43,8 @@ add-size : tie.Need-add-size
 add-size c = search needs
 
 add-if1 : tie.Need-add-if1
-add-if1 c = record { fits = sum-fits _ (λ i. c .before .before .before .before .slice-known .given i .fits) (c .before .before .before .before .before .pre .0) _ _ _ (c .before .before .before .before .before .pre .1 .1) (c .before .before .before .before .before .pre .1 .0) }
+add-if1 c = let s = sum-fits _ (λ i. c .before .before .before .before .slice-known .given i .fits) (c .before .before .before .before .before .pre .0) _ _ (c .before .before .before .before .before .pre .1 .1) (c .before .before .before .before .before .pre .1 .0) in
+    record { fits = omega (arith, s) }
 
 same-length : tie.Need-same-length
 same-length c = search needs
@@ -43,23 +54,20 @@ returns c = let k = c .before in
     no-room _ (λ i. k .before .before .before .before .slice-known .given i .fits) (k .before .before .before .before .before .pre .0) (record { originator = k .before .before .before .before .before .args .originator; actions = k .before .before .before .before .before .args .actions; value = k .before .before .before .before .before .args .value .now }) _
     (k .before .find .ensures) _ (k .before .before .before .before .before .pre .1 .1) (c .if1 .taken)
 
-cut-out-requires : tie.Need-cut-out-requires
-cut-out-requires c κs = omega (arith, there (c .before .before))
-
 open-gap-requires : tie.Need-open-gap-requires
-open-gap-requires c κs = let k = c .before .before .before .before .before .before in omega (arith, there k, c .before .before .before .cut-out .kept, c .before .before .before .before .before .if1 .left, k .before .before .before .before .before .pre)
+open-gap-requires c κs = let k = c .before .before .before in omega (arith, there k, c .before .before .if1 .left, k .before .before .before .before .before .pre)
 
 write-record-requires : tie.Need-write-record-requires
-write-record-requires c κs = let k = c .before .before .before .before .before .before .before .before .before .before in
-    omega (arith, there k, c .before .before .before .before .before .before .before .cut-out .kept, c .before .before .before .open-gap .kept, c .before .before .before .before .before .before .before .before .before .if1 .left, k .before .before .before .before .before .pre)
+write-record-requires c κs = let k = c .before .before .before in omega (arith, there k, kept (c .before), c .before .before .if1 .left, k .before .before .before .before .before .pre)
 
 same-length-2 : tie.Need-same-length-2
-same-length-2 c = search needs
+same-length-2 c = c .before .before .write-record .kept .0 ∙ kept (c .before .before .before .before)
 
 returns-2 : tie.Need-returns-2
-returns-2 c = let k = c .before .before .before .before .before .before .before .before .before .before .before .before .before in
+returns-2 c = let j = c .before .before .before .before in
+    let k = j .before .before in
     has-room _ (λ i. k .before .before .before .before .slice-known .given i .fits) (k .before .before .before .before .before .pre .0) (record { originator = k .before .before .before .before .before .args .originator; actions = k .before .before .before .before .before .args .actions; value = k .before .before .before .before .before .args .value .now }) _
-    (k .before .find .ensures) _ (k .before .before .before .before .before .pre .1 .1) _ _ _ (c .before .before .before .before .before .before .before .before .before .before .before .before .if1 .left) (c .before .before .before .before .before .before .before .before .before .before .cut-out .ensures) (c .before .before .before .before .before .before .open-gap .ensures) (c .before .before .write-record .ensures)
+    (k .before .find .ensures) _ (k .before .before .before .before .before .pre .1 .1) _ _ (λ i. k .before .before .before .shared-slice-known .given i .fits) (k .before .before .before .before .before .pre .1 .0) (j .before .if1 .left) (ready j) (c .before .before .write-record .ensures)
 
 pub insert-rule-spec : {M : Type 1} → statement M
 insert-rule-spec =
@@ -72,7 +80,6 @@ insert-rule-spec =
     add-if1
     same-length
     returns
-    cut-out-requires
     open-gap-requires
     write-record-requires
     same-length-2
