@@ -26,8 +26,6 @@ use Rattle.rule.specs.Family.{ipv4}
 use Rattle.rule.specs.Plain.{plain}
 use Rattle.rule.specs.Reading.{oneRule}
 use Rattle.rule.proofs.ReadingLaws.{one-read}
-use Rattle.rule.proofs.ClearedLaws.{plain-again}
-use Rattle.rule.proofs.SpellingLaws.{check-plain}
 use Rattle.route.specs.Route.{soundRoutes}
 use Rattle.action.specs.declared.Reading.{Reading as ActionsReading}
 use Rattle.action.specs.declared.Reading.the-variants.{Read, Unsound}
@@ -36,13 +34,14 @@ use Rattle.action.proofs.PossibleLaws.{read-possible}
 use Rattle.order.specs.Key.{keysOf, keyOrder}
 use Rattle.order.proofs.KeyLaws.{key-order}
 use Rattle.entry.specs.Entry.{Entry, entryKey, possible}
-use Rattle.entry.proofs.ValueLaws.{holds as value-holds, make-possible}
+use Rattle.entry.proofs.ValueLaws.{make-possible}
 use Rattle.table.specs.Walk.{entries}
 use Rattle.table.specs.Sound.{cost, tableOf, joined, every, Encodes, mostOctets}
 use Rattle.table.specs.Change.{holds, removed, hasRoom, inserted, announced, withdrawn}
 use Rattle.table.proofs.SpliceLaws.{length-table}
 use Rattle.table.proofs.EntryLaws.{every-both, octets-between}
 use Rattle.table.proofs.SoundLaws.{encodes-sound, encodes-entries}
+use Rattle.table.proofs.CallLaws.{plain-held}
 use Rattle.flowspec.specs.declared.Change.{Change}
 use Rattle.flowspec.specs.declared.Request.{Request}
 use Rattle.flowspec.specs.declared.Request.the-variants.{Announce, Refused as NotAsked}
@@ -160,7 +159,7 @@ asked-could relaxed routes rule originator communities o small =
         let octets = octets-value rule start size o in
         make-possible ipv4 (record { originator = originator; actions = actions; value = plain (valueOf rule start size) }) small
         (read-possible communities actions f)
-        (value-holds ipv4 (plain (valueOf rule start size)) (check-plain ipv4 (valueOf rule start size) octets ∙ one-read ipv4 rule start size e .accepted) (plain-again (valueOf rule start size) octets))
+        (plain-held (valueOf rule start size) octets (one-read ipv4 rule start size e .accepted))
 
 -- one call
 module _ (relaxed : Bool) (routes : List ℕ) (t : List ℕ) (es : List Entry) (c : Encodes ipv4 t es) where

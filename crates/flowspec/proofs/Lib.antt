@@ -8,4 +8,5 @@ pub mod Refusals
 pub mod Examples
 pub mod HistoryLaws
 pub mod AgreeLaws
+pub mod RoomLaws
 pub mod OperatorTheorems

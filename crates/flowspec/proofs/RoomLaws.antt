@@ -1,0 +1,58 @@
+-- **A held rule never meets 11.** 01: "No room means exactly that the costs after the call would pass the buffer's length." A rule that
+-- the table holds takes after the call what it took before, so that whatever an announcement of it is answered, it is not 11. Of what
+-- the call is given only what its types say is assumed: octets are below 256.
+use mathlib.Core.Path.{_≡_, sym, _∙_}
+use mathlib.Core.Bool.{Bool, true}
+use mathlib.Core.List.{List}
+use Prim.Native.Nat.{ℕ}
+use Rattle.octets.proofs.Cases.{by-test, apart}
+use Rattle.octets.proofs.Facts.{Octets}
+use Rattle.rule.specs.declared.Reading.the-variants.{Rule}
+use Rattle.rule.specs.Family.{ipv4}
+use Rattle.rule.specs.Plain.{plain}
+use Rattle.rule.specs.Reading.{oneRule}
+use Rattle.rule.proofs.ReadingLaws.{one-read}
+use Rattle.rule.proofs.ClearedLaws.{octets-plain}
+use Rattle.order.specs.Key.{keysOf}
+use Rattle.route.specs.Route.{soundRoutes}
+use Rattle.action.specs.declared.Reading.{Reading as ActionsReading}
+use Rattle.action.specs.declared.Reading.the-variants.{Read, Unsound}
+use Rattle.action.specs.Actions.{actionsOf}
+use Rattle.table.specs.Sound.{soundTable}
+use Rattle.table.specs.Change.{holds}
+use Rattle.table.proofs.ChangeLaws.{held-is-done}
+use Rattle.table.proofs.CallLaws.{plain-held}
+use Rattle.flowspec.specs.declared.Change.{Change}
+use Rattle.flowspec.specs.declared.Change.the-variants.{Refused}
+use Rattle.flowspec.specs.Announce.{changeOf, valueOf, askedBy, asked, announcedBy, announcing}
+use Rattle.flowspec.specs.Feasibility.{isFeasible}
+use Rattle.flowspec.specs.Promise.{Announces}
+use Rattle.flowspec.proofs.HistoryLaws.{octets-value}
+
+-- an answer is not 11
+abbrev Not11 : Change → Type 0
+Not11 answer = (place : ℕ) → answer ≡ Refused 11 place → ⊥
+
+module _ (relaxed : Bool) (routes rule : List ℕ) (originator : ℕ) (communities t : List ℕ) (o : Octets t) (octets : Octets rule)
+    (start size : ℕ) (read : oneRule ipv4 rule ≡ Rule start size) (held : holds ipv4 t (keysOf ipv4 (plain (valueOf rule start size))) ≡ true) where
+  pub held-not-11 : Not11 (announcing relaxed routes rule originator communities t .answer)
+  unfolding announcing asked changeOf
+  held-not-11 =
+      by-test (soundTable ipv4 t)
+      (λ sound. rw sound (by-test (soundRoutes 32 routes) (λ r. rw (r, read) (go sound (actionsOf communities))) (λ r. rw r (λ place e. apart (cc)))))
+      (λ sound. rw sound (λ place e. apart (cc)))
+    where
+      go : soundTable ipv4 t ≡ true → (a : ActionsReading) → Not11 (announcedBy t rule originator (askedBy relaxed routes rule originator (Rule start size) a) .answer)
+      go sound Unsound = λ place e. apart (cc)
+      go sound (Read actions) =
+          let v = octets-value rule start size octets in
+          let done = held-is-done t o sound (record { originator = originator; actions = actions; value = plain (valueOf rule start size) })
+          (octets-plain (valueOf rule start size) v) (plain-held (valueOf rule start size) v (one-read ipv4 rule start size read .accepted)) held in
+          by-test (isFeasible relaxed routes (valueOf rule start size) originator)
+          (λ f. rw (f, done) (λ place e. apart (cc)))
+          (λ f. rw f (λ place e. apart (cc)))
+
+  -- the same of the call, by its promise
+  pub held-announcement : (answer : Change) (exit : List ℕ) (kept : List (List ℕ)) → Announces relaxed routes rule originator communities t answer exit kept
+      → Not11 answer
+  held-announcement answer exit kept promise place e = held-not-11 place (sym (promise .is) ∙ e)
