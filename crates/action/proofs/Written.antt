@@ -11,9 +11,10 @@ use lib.Dec.{eqb, lit<, lit≤}
 use lib.ListN.{length, length-append}
 use lib.Pow.{high}
 use lib.Seq.{getD-at, getD-append-add}
-use Rattle.octets.specs.Number.{numberAt}
+use Rattle.octets.specs.Number.{numberAt, octetsOf}
 use Rattle.octets.proofs.Cases.{by-test}
-use Rattle.octets.proofs.Facts.{Octets}
+use Rattle.octets.proofs.Facts.{Octets, octets-append}
+use Rattle.octets.proofs.NumberLaws.{length-octetsOf, octets-octetsOf, number-octets}
 use Rattle.action.specs.declared.Actions.{Actions}
 use Rattle.action.specs.declared.Given.{Given}
 use Rattle.action.specs.declared.Kind.{Kind}
@@ -26,45 +27,6 @@ use Rattle.action.specs.Possible.{couldBe}
 use Rattle.action.proofs.GivenLaws.{Fine, by-fine}
 use Rattle.action.proofs.RatesGiven.{sound}
 use Rattle.action.proofs.PossibleLaws.{Could, could, sixBits, redirectType}
-
--- The octets of a number of k octets, the highest first.
-octetsOf : ℕ → ℕ → List ℕ
-octetsOf zero n = []
-octetsOf (suc k) n = octetsOf k (n / 256) ++ (n % 256 ∷ [])
-
-length-octets : (k n : ℕ) → length (octetsOf k n) ≡ k
-unfolding octetsOf
-length-octets zero n = refl
-length-octets (suc k) n = rw (length-append, length-octets k (n / 256)) (omega arith)
-
-are-octets-append : (s t : List ℕ) → Octets s → Octets t → Octets (s ++ t)
-are-octets-append [] t p q i = q i
-are-octets-append (x ∷ s) t p q zero = p zero
-are-octets-append (x ∷ s) t p q (suc i) = are-octets-append s t (λ j. p (suc j)) q i
-
-one-octet : (n : ℕ) → Octets (n % 256 ∷ [])
-one-octet n zero = omega arith
-one-octet n (suc i) = lit< tt
-
-are-octets : (k n : ℕ) → Octets (octetsOf k n)
-unfolding octetsOf
-are-octets zero n = λ i. lit< tt
-are-octets (suc k) n = are-octets-append (octetsOf k (n / 256)) (n % 256 ∷ []) (are-octets k (n / 256)) (one-octet n)
-
--- What is written is read back.
-number-octets : (k n : ℕ) (t : List ℕ) → n < 256 ^ k → numberAt k (octetsOf k n ++ t) 0 ≡ n
-unfolding numberAt octetsOf
-number-octets zero n t h = omega arith
-number-octets (suc k) n t h =
-    let p = rw (pow-suc 256 k) at h in
-    let bound : n / 256 < 256 ^ k = omega arith in
-    rw (
-      append-assoc (octetsOf k (n / 256)) (n % 256 ∷ []) t,
-      number-octets k (n / 256) (n % 256 ∷ t) bound,
-      zero-add,
-      getD-at (octetsOf k (n / 256)) (n % 256) t 0 k (length-octets k (n / 256)),
-    )
-    (omega arith)
 
 number-past : (k : ℕ) (s t : List ℕ) (at : ℕ) → numberAt k (s ++ t) (length s + at) ≡ numberAt k t at
 unfolding numberAt
@@ -89,19 +51,19 @@ Fit (c ∷ cs) = (c < 2 ^ 64) × Fit cs
 length-written : (cs : List ℕ) → length (written cs) ≡ 8 * length cs
 unfolding written
 length-written [] = refl
-length-written (c ∷ cs) = rw (length-append, length-octets 8 c, length-written cs) (omega arith)
+length-written (c ∷ cs) = rw (length-append, length-octetsOf 8 c, length-written cs) (omega arith)
 
 written-octets : (cs : List ℕ) → Octets (written cs)
 unfolding written
 written-octets [] = λ i. lit< tt
-written-octets (c ∷ cs) = are-octets-append (octetsOf 8 c) (written cs) (are-octets 8 c) (written-octets cs)
+written-octets (c ∷ cs) = octets-append (octetsOf 8 c) (written cs) (octets-octetsOf 8 c) (written-octets cs)
 
 communities-written : (cs : List ℕ) → Fit cs → communitiesAt (length cs) (written cs) 0 ≡ cs
 unfolding written communitiesAt
 communities-written [] h = refl
 communities-written (c ∷ cs) h =
-    let rest = rw (length-octets 8 c) at (communities-past (length cs) (octetsOf 8 c) (written cs) 0) in
-    rw (number-octets 8 c (written cs) (h .0), rest, communities-written cs (h .1))
+    let rest = rw (length-octetsOf 8 c) at (communities-past (length cs) (octetsOf 8 c) (written cs) 0) in
+    rw (number-octets [] 8 c (written cs) (h .0), rest, communities-written cs (h .1))
 
 -- At most n communities that lead from some actions to others.
 record Says (n : ℕ) (from to : Actions) : Type 0 where

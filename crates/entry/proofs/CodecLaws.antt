@@ -10,9 +10,8 @@ use lib.ListN.{length, getD, take, drop, length-append, length-drop, take-append
 use lib.Seq.{drop-at, take-all}
 use borrow.Author.Tests.{ltb-true, lt-ltb, le-ltb, leb-true, eqb-true, ne-eqb, not-true, not-false}
 use Rattle.octets.specs.Number.{numberAt}
-use Rattle.octets.proofs.Cases.{by-test, apart}
-use Rattle.octets.proofs.Facts.{Octets, below, octets-append}
-use Rattle.prefix.proofs.Bools.{both}
+use Rattle.octets.proofs.Cases.{by-test, apart, both}
+use Rattle.octets.proofs.Facts.{Octets, below}
 use Rattle.rule.specs.declared.Family.{Family}
 use Rattle.action.specs.declared.Actions.{Actions}
 use Rattle.action.specs.declared.Given.{Given}
@@ -24,7 +23,7 @@ use Rattle.action.specs.Possible.{couldBe}
 use Rattle.entry.specs.Entry.{Entry, plainValue, possible}
 use Rattle.entry.specs.Record.{headWidths, headCost, writtenFields, readFields, fieldsOf, recordOf, actionsIn, entryOf, goodRecord}
 use Rattle.entry.proofs.ValueLaws.{Possible, is-possible}
-use Rattle.entry.proofs.RecordLaws.{Fit, length-written, octets-written, one-octet, number-small, fields-back, back-fields}
+use Rattle.entry.proofs.RecordLaws.{Fit, length-written, one-octet, number-small, fields-back, back-fields}
 
 -- the six flags
 
@@ -144,10 +143,6 @@ pub length-record : (e : Entry) → length (recordOf e) ≡ headCost + length (e
 unfolding recordOf fieldsOf
 length-record e = simp length-append (omega (arith, length-written headWidths (fieldsOf e) refl))
 
-pub octets-record : (e : Entry) → Octets (e .value) → Octets (recordOf e)
-unfolding recordOf
-octets-record e o = octets-append (writtenFields headWidths (fieldsOf e)) (e .value) (octets-written headWidths (fieldsOf e)) o
-
 pub value-record : (e : Entry) → drop headCost (recordOf e) ≡ e .value
 unfolding recordOf fieldsOf
 value-record e = drop-at (writtenFields headWidths (fieldsOf e)) (e .value) headCost (length-written headWidths (fieldsOf e) refl)
@@ -167,9 +162,6 @@ module _ (family : Family) (e : Entry) (ok : possible family e ≡ true) where
   pub size-back : (rest : List ℕ) → numberAt 2 (recordOf e ++ rest) 0 ≡ length (e .value)
   unfolding readFields fieldsOf
   size-back rest = ap (λ (l : List ℕ). getD l 0 0) (head-back rest)
-
-  pub size-alone : numberAt 2 (recordOf e) 0 ≡ length (e .value)
-  size-alone = rw append-nil at (size-back [])
 
   -- an entry that is written is read again
   pub read-written : entryOf (recordOf e) ≡ e

@@ -11,9 +11,9 @@ use lib.ListN.{length, getD, take, drop, length-append, length-take, length-drop
 use lib.Seq.{take-at, take-add, drop-cons, drop-drop, drop-append-add, length-take-le}
 use Rattle.octets.specs.Number.{numberAt, octetsOf}
 use Rattle.octets.specs.Store.{stored}
-use Rattle.octets.proofs.Facts.{Octets, octets-append}
-use Rattle.octets.proofs.NumberLaws.{grows, length-octetsOf, octets-octetsOf, number-octets, octets-number}
-use Rattle.octets.proofs.StoreLaws.{stored-none}
+use Rattle.octets.proofs.Facts.{Octets}
+use Rattle.octets.proofs.NumberLaws.{grows, length-octetsOf, number-octets, octets-number}
+use Rattle.octets.proofs.StoreLaws.{stored-none, stored-then, length-stored}
 use Rattle.action.specs.Actions.{flagsOf}
 use Rattle.entry.specs.Entry.{Entry}
 use Rattle.entry.specs.Record.{headWidths, headCost, writtenFields, readFields, fieldsOf, recordOf}
@@ -39,12 +39,6 @@ unfolding writtenFields
 length-written [] ns h = refl
 length-written (w ∷ ws) [] h = absurd (omega arith)
 length-written (w ∷ ws) (n ∷ ns) h = simp length-append (omega (arith, length-octetsOf w n, length-written ws ns (omega arith)))
-
-pub octets-written : (ws ns : List ℕ) → Octets (writtenFields ws ns)
-unfolding writtenFields
-octets-written [] ns = λ i. omega arith
-octets-written (w ∷ ws) [] = λ i. omega arith
-octets-written (w ∷ ws) (n ∷ ns) = octets-append (octetsOf w n) (writtenFields ws ns) (octets-octetsOf w n) (octets-written ws ns)
 
 -- a number of n octets is below 256 ^ n
 pub number-small : (n : ℕ) (s : List ℕ) (at : ℕ) → Octets s → numberAt n s at < 256 ^ n
@@ -79,22 +73,6 @@ back-fields [] s at o h = refl
 back-fields (w ∷ ws) s at o h =
     rw (octets-number w s at o (omega arith), back-fields ws s (at + w) o (omega arith), ← drop-drop w at s)
     (sym (take-add w (widthOf ws) (drop at s)))
-
--- two stores in a row, the second right behind the first
-pub stored-then : (b : List ℕ) (at : ℕ) (s t : List ℕ) → at + length s ≤ length b → stored (stored b at s) (at + length s) t ≡ stored b at (s ++ t)
-unfolding stored
-stored-then b at s t h =
-    let front : List ℕ = take at b ++ s in
-    let l : length front ≡ at + length s = simp length-append (omega (arith, length-take-le at b (omega arith))) in
-    let behind : drop (at + length s + length t) (front ++ drop (at + length s) b) ≡ drop (at + length s + length t) b
-    = ap (λ n. drop (n + length t) (front ++ drop (at + length s) b)) (sym l)
-    ∙ drop-append-add front (drop (at + length s) b) (length t) ∙ drop-drop (length t) (at + length s) b in
-    let end : at + length s + length t ≡ at + (length s + length t) = omega arith in
-    rw (take-at front (drop (at + length s) b) (at + length s) l, behind) (simp (length-append, append-assoc) (rw end))
-
-pub length-stored : (b : List ℕ) (at : ℕ) (s : List ℕ) → at + length s ≤ length b → length (stored b at s) ≡ length b
-unfolding stored
-length-stored b at s h = simp (length-append, length-take, length-drop) (omega arith)
 
 -- the first i fields are written, and what is left to write gives the same
 pub record WritingFields (ws ns start b : List ℕ) (at i place : ℕ) : Type 0 where

@@ -8,9 +8,8 @@ use mathlib.Core.Option.{Option, none, some}
 use Prim.Native.Nat.{ℕ, _-_, _≤_, Ordering, Ordering·lt, Ordering·eq, Ordering·gt}
 use lib.Dec.{leb, eqb, isEq}
 use lib.ListN.{length}
-use Rattle.octets.proofs.Cases.{by-test, apart}
+use Rattle.octets.proofs.Cases.{by-test, apart, both}
 use Rattle.octets.proofs.Facts.{Octets}
-use Rattle.prefix.proofs.Bools.{both}
 use Rattle.sorted.specs.Table.{insert}
 use Rattle.sorted.specs.History.{announce, costs, counts, inForce, isAbout, apply}
 use Rattle.rule.specs.declared.Reading.{Reading}

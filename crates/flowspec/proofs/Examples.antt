@@ -2,6 +2,7 @@
 use mathlib.Core.Path.{_≡_, refl}
 use mathlib.Core.List.{List, [], _∷_, map}
 use Prim.Native.Nat.{ℕ}
+use Rattle.octets.specs.Test.{every}
 use Rattle.octets.specs.Number.{numberAt}
 use Rattle.octets.specs.Walk.{walk}
 use Rattle.prefix.specs.Prefix.{bits, sameBits, contains, prefixOrder, prefixOf}
@@ -19,7 +20,7 @@ use Rattle.packet.specs.Header.{isUnusable, fragmentData}
 use Rattle.packet.specs.Transport.{transportOctets, transportFields}
 use Rattle.packet.specs.Packet.{fieldsOf, packetOf}
 use Rattle.packet.specs.Operator.{numericHolds}
-use Rattle.packet.specs.PairList.{eachHolds, oneHolds, groupsFrom, groups, listHolds}
+use Rattle.packet.specs.PairList.{oneHolds, groupsFrom, groups, listHolds}
 use Rattle.packet.specs.Match.{dataFor, holdsFor, bodyHolds, fieldMatches, fieldFor, eitherPort, componentMatches, matches}
 use Rattle.flowspec.specs.Examples.{Example, answerTo, examples}
 
@@ -28,7 +29,7 @@ unfolding
     answerTo numberAt walk bits sameBits contains prefixOrder prefixOf endsList sizeOf isPrefix isBitmask sizeAllowed pairAt pairsFrom prefixEnd bodyEnd componentAt
     componentsFrom components checkValue bodyOf operandAfter after plainOperator plainOperand plainAddress cleared plainFrom plain fieldSize fieldLength lengthField
     bodyOrder partOrder partsOrder precedence scaled wholePart wholeOf rateOfParts rateOf isUnusable fragmentData transportOctets transportFields fieldsOf packetOf
-    numericHolds eachHolds oneHolds groupsFrom groups listHolds dataFor holdsFor bodyHolds fieldMatches fieldFor eitherPort componentMatches matches
+    numericHolds every oneHolds groupsFrom groups listHolds dataFor holdsFor bodyHolds fieldMatches fieldFor eitherPort componentMatches matches
 marked = refl
 
 -- **A rule that is accepted**: the announcement of 01's program, a rule of eleven octets behind a length field of one.

@@ -12,6 +12,7 @@ use native.Mathlib.Omega.{arith}
 use lib.Dec.{leb}
 use lib.ListN.{length, length-replicate}
 use borrow.Author.Tests.{leb-true}
+use Rattle.octets.specs.Test.{every}
 use Rattle.octets.proofs.Cases.{by-test}
 use Rattle.octets.proofs.Facts.{Octets}
 use Rattle.sorted.specs.Table.{lookup, insert, remove, Sorted}
@@ -36,7 +37,7 @@ use Rattle.order.proofs.KeyLaws.{key-order}
 use Rattle.entry.specs.Entry.{Entry, entryKey, possible}
 use Rattle.entry.proofs.ValueLaws.{make-possible}
 use Rattle.table.specs.Walk.{entries}
-use Rattle.table.specs.Sound.{cost, tableOf, joined, every, Encodes, mostOctets}
+use Rattle.table.specs.Sound.{cost, tableOf, joined, Encodes, mostOctets}
 use Rattle.table.specs.Change.{holds, removed, hasRoom, inserted, announced, withdrawn}
 use Rattle.table.proofs.SpliceLaws.{length-table}
 use Rattle.table.proofs.EntryLaws.{every-both, octets-between}

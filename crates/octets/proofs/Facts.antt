@@ -9,40 +9,33 @@ use native.Mathlib.Decide.{decLt}
 use lib.Dec.{eqb}
 use borrow.Author.Tests.{eqb-true}
 pub use Rattle.octets.specs.Number.{Octets}
+use Rattle.octets.proofs.Cases.{both}
 
 -- the test passes at every number below n
 abbrev pub allBelow : ℕ → (ℕ → Bool) → Bool
 allBelow zero f = true
 allBelow (suc n) f = f n && allBelow n f
 
-left : (a b : Bool) → a && b ≡ true → a ≡ true
-left true b e = refl
-left false b e = e
-
-right : (a b : Bool) → a && b ≡ true → b ≡ true
-right true b e = e
-right false b e = let z : _≡_ {A = ℕ} 0 1 = cc in absurd (omega arith)
-
 last-or-below : (x n : ℕ) → x < suc n → (x ≡ n) ⊎ (x < n)
 last-or-below x n h = elim (decLt x n) [ yes l ↦ inr l | no g ↦ inl (omega arith) ]
 
 pub below : (n : ℕ) (f : ℕ → Bool) → allBelow n f ≡ true → (x : ℕ) → x < n → f x ≡ true
 below zero f t x h = absurd (omega arith)
-below (suc n) f t x h = ⊎-elim (λ e. rw e (left (f n) (allBelow n f) t)) (λ l. below n f (right (f n) (allBelow n f) t) x l) (last-or-below x n h)
+below (suc n) f t x h = let ts = both (f n) (allBelow n f) t in ⊎-elim (λ e. rw e (ts .0)) (λ l. below n f (ts .1) x l) (last-or-below x n h)
 
 -- two functions that agree at every octet, by computation
 pub octet : (f g : ℕ → ℕ) → allBelow 256 (λ x. eqb (f x) (g x)) ≡ true → (x : ℕ) → x < 256 → f x ≡ g x
 octet f g t x h = eqb-true (f x) (g x) (below 256 (λ x. eqb (f x) (g x)) t x h)
 
-same-test : (a b : Bool) → Bool·beq a b ≡ true → a ≡ b
-same-test true true e = refl
-same-test true false e = sym e
-same-test false true e = e
-same-test false false e = refl
+beq-same : (a b : Bool) → Bool·beq a b ≡ true → a ≡ b
+beq-same true true e = refl
+beq-same true false e = sym e
+beq-same false true e = e
+beq-same false false e = refl
 
 -- two tests that agree at every octet, by computation
 pub octet-test : (f g : ℕ → Bool) → allBelow 256 (λ x. Bool·beq (f x) (g x)) ≡ true → (x : ℕ) → x < 256 → f x ≡ g x
-octet-test f g t x h = same-test (f x) (g x) (below 256 (λ x. Bool·beq (f x) (g x)) t x h)
+octet-test f g t x h = beq-same (f x) (g x) (below 256 (λ x. Bool·beq (f x) (g x)) t x h)
 
 -- octets after octets
 pub octets-append : (a b : List ℕ) → Octets a → Octets b → Octets (a ++ b)

@@ -8,7 +8,7 @@ use native.Mathlib.Nat.{add-zero}
 use native.Mathlib.Numerals.{add-one}
 use lib.Dec.{eqb}
 use lib.ListN.{length, getD, set, take, drop, replicate, length-set, length-append, length-take, length-drop, take-append-drop, drop-of-length-le}
-use lib.Seq.{paste, paste-suc, take-length, take-all, take-at, drop-at, take-suc, take-append-le, length-take-le, take-take, drop-cons, take-suc-set, take-set-le, drop-set-lt, drop-set-add, getD-set-same, getD-drop, lt-length-set, append-snoc, drop-length}
+use lib.Seq.{paste, paste-suc, take-length, take-all, take-at, drop-at, take-suc, take-append-le, length-take-le, take-take, drop-cons, take-suc-set, take-set-le, drop-set-lt, drop-set-add, getD-set-same, getD-drop, lt-length-set, append-snoc, drop-length, drop-append-add, drop-drop}
 use borrow.Author.Tests.{eq-eqb, ne-eqb, eqb-true}
 use Rattle.octets.specs.Store.{stored, cleared, movedDown, cutOut, gapOpened, allZero}
 use Rattle.octets.proofs.Cases.{by-test, apart}
@@ -33,6 +33,22 @@ unfolding stored
 stored-last b at s v h =
     let e : at + length (s ++ (v ∷ [])) ≡ suc (at + length s) = simp length-append (omega arith) in
     rw (e, drop-set-here b (at + length s) v h, take-set-le at b (at + length s) v (omega arith)) (simp append-assoc)
+
+-- two stores in a row, the second right behind the first
+pub stored-then : (b : List ℕ) (at : ℕ) (s t : List ℕ) → at + length s ≤ length b → stored (stored b at s) (at + length s) t ≡ stored b at (s ++ t)
+unfolding stored
+stored-then b at s t h =
+    let front : List ℕ = take at b ++ s in
+    let l : length front ≡ at + length s = simp length-append (omega (arith, length-take-le at b (omega arith))) in
+    let behind : drop (at + length s + length t) (front ++ drop (at + length s) b) ≡ drop (at + length s + length t) b
+    = ap (λ n. drop (n + length t) (front ++ drop (at + length s) b)) (sym l)
+    ∙ drop-append-add front (drop (at + length s) b) (length t) ∙ drop-drop (length t) (at + length s) b in
+    let end : at + length s + length t ≡ at + (length s + length t) = omega arith in
+    rw (take-at front (drop (at + length s) b) (at + length s) l, behind) (simp (length-append, append-assoc) (rw end))
+
+pub length-stored : (b : List ℕ) (at : ℕ) (s : List ℕ) → at + length s ≤ length b → length (stored b at s) ≡ length b
+unfolding stored
+length-stored b at s h = simp (length-append, length-take, length-drop) (omega arith)
 
 pub stored-none : (b : List ℕ) (at : ℕ) → stored b at [] ≡ b
 unfolding stored

@@ -6,6 +6,7 @@ use Prim.Native.Nat.{ℕ, _+_, _-_, _<_}
 use native.Mathlib.Omega.{arith}
 use lib.ListN.{length, take, drop}
 use borrow.Author.Tests.{ne-eqb, not-true, not-false}
+use Rattle.octets.specs.Test.{every}
 use Rattle.octets.specs.Walk.{Walk}
 use Rattle.prefix.specs.Prefix.{contains, prefixOf}
 use Rattle.prefix.specs.declared.Prefix.{Prefix}
@@ -20,7 +21,6 @@ use Rattle.packet.specs.declared.Field.{Field}
 use Rattle.packet.specs.declared.Field.the-variants.{Shown, Hidden}
 use Rattle.packet.specs.declared.Transport.{Transport}
 use Rattle.packet.specs.declared.Packet.{Packet}
-use Rattle.packet.specs.PairList.{eachHolds}
 use Rattle.packet.specs.Match.{bodyHolds, fieldMatches, fieldFor, covers, eitherPort, part, componentMatches, matches}
 
 -- how `field_matches` comes to each of its answers
@@ -70,7 +70,7 @@ on-field kind body packet r field a b c e f = rw (ne-eqb kind 1 a, ne-eqb kind 2
 -- how `matches_rule` goes on and comes to each of its answers
 abbrev pub matchesFrom : Family → List ℕ → Packet → ℕ → ℕ → Bool
 matchesFrom family v packet at previous =
-    eachHolds (componentMatches packet) (componentsFrom family v (record { at = at; previous = previous }) .items)
+    every (componentMatches packet) (componentsFrom family v (record { at = at; previous = previous }) .items)
 
 pub from-start : (family : Family) (v : List ℕ) (packet : Packet) → matches family v packet ≡ matchesFrom family v packet 0 0
 unfolding matches components
@@ -79,12 +79,12 @@ from-start family v packet = refl
 module _ (family : Family) (v : List ℕ) (packet : Packet) (at previous : ℕ) (next : Next) (is : next ≡ componentAt family v at previous)
     (so-far : matches family v packet ≡ matchesFrom family v packet at previous) where
   abbrev rest : Walk Part Checked → Bool
-  rest w = eachHolds (componentMatches packet) (w .items)
+  rest w = every (componentMatches packet) (w .items)
 
   module _ (kind behind : ℕ) (r : Bool) (found : next ≡ Component kind behind)
       (says : r ≡ componentMatches packet (part kind (take (behind - (at + 1)) (drop (at + 1) v)))) where
     one-more : matches family v packet ≡ r && matchesFrom family v packet behind kind
-    unfolding eachHolds
+    unfolding every
     one-more = so-far ∙ ap rest (components-more family v at previous kind behind (sym is ∙ found)) ∙ rw says
 
     pub rule-on : not r ≡ false → matches family v packet ≡ matchesFrom family v packet behind kind
@@ -97,9 +97,9 @@ module _ (family : Family) (v : List ℕ) (packet : Packet) (at previous : ℕ) 
     rule-nearer = let w = was-found family v at previous kind behind (sym is ∙ found) .within in omega arith
 
   pub rule-end : next ≡ Nothing → true ≡ matches family v packet
-  unfolding eachHolds
+  unfolding every
   rule-end e = sym (so-far ∙ ap rest (components-none family v at previous (sym is ∙ e)))
 
   pub rule-cut : (number place : ℕ) → next ≡ Refused number place → true ≡ matches family v packet
-  unfolding eachHolds
+  unfolding every
   rule-cut number place e = sym (so-far ∙ ap rest (components-refused family v at previous number place (sym is ∙ e)))

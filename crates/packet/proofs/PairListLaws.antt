@@ -6,35 +6,36 @@ use Prim.Native.Nat.{ℕ, _<_}
 use native.Mathlib.Omega.{arith}
 use lib.Dec.{eqb}
 use borrow.Author.Tests.{ne-eqb}
+use Rattle.octets.specs.Test.{every}
 use Rattle.rule.specs.Component.{Pair}
 use Rattle.octets.proofs.Cases.{by-test}
 use Rattle.packet.specs.declared.Judged.{Judged}
-use Rattle.packet.specs.PairList.{eachHolds, oneHolds, joins, groupsFrom, groups, listHolds}
+use Rattle.packet.specs.PairList.{oneHolds, joins, groupsFrom, groups, listHolds}
 use Rattle.packet.specs.Judging.{withPair}
 
 module _ (test : Pair → Bool) where
   -- one pair more in a group
-  all-more : (group : List Pair) (p : Pair) → eachHolds test (group ++ p ∷ []) ≡ eachHolds test group && test p
-  unfolding eachHolds
+  all-more : (group : List Pair) (p : Pair) → every test (group ++ p ∷ []) ≡ every test group && test p
+  unfolding every
   all-more [] p = and-true (test p)
-  all-more (q ∷ group) p = rw (all-more group p) (sym (and-assoc (test q) (eachHolds test group) (test p)))
+  all-more (q ∷ group) p = rw (all-more group p) (sym (and-assoc (test q) (every test group) (test p)))
 
   -- a list judged pair by pair behind a group of which it is known whether all its pairs hold
   abbrev pub goesOn : Bool → List Pair → Bool
   goesOn group [] = group
   goesOn group (p ∷ ps) = cond (joins p) (goesOn (group && test p) ps) (group || goesOn (test p) ps)
 
-  goes-on : (group : List Pair) (ps : List Pair) → oneHolds (eachHolds test) (groupsFrom group ps) ≡ goesOn (eachHolds test group) ps
-  unfolding oneHolds groupsFrom eachHolds
-  goes-on group [] = or-false (eachHolds test group)
+  goes-on : (group : List Pair) (ps : List Pair) → oneHolds (every test) (groupsFrom group ps) ≡ goesOn (every test group) ps
+  unfolding oneHolds groupsFrom every
+  goes-on group [] = or-false (every test group)
   goes-on group (p ∷ ps) =
       by-test (joins p)
       (λ t. rw (t, groupsFrom) (goes-on (group ++ p ∷ []) ps ∙ ap (λ (b : Bool). goesOn b ps) (all-more group p)))
-      (λ t. rw (t, groupsFrom) (ap (λ (b : Bool). eachHolds test group || b) (goes-on (p ∷ []) ps ∙ ap (λ (b : Bool). goesOn b ps) (and-true (test p)))))
+      (λ t. rw (t, groupsFrom) (ap (λ (b : Bool). every test group || b) (goes-on (p ∷ []) ps ∙ ap (λ (b : Bool). goesOn b ps) (and-true (test p)))))
 
   -- a list is judged from its first pair on, whatever that pair's AND
   pub from-first : (p : Pair) (ps : List Pair) → listHolds test (p ∷ ps) ≡ goesOn (test p) ps
-  unfolding listHolds groups eachHolds
+  unfolding listHolds groups every
   from-first p ps = goes-on (p ∷ []) ps ∙ ap (λ (b : Bool). goesOn b ps) (and-true (test p))
 
 -- a pair that begins a group, and one that AND joins; `rest` is what the pairs behind it give

@@ -11,6 +11,7 @@ use lib.Dec.{leb, eqb}
 use lib.ListN.{getD}
 use lib.Pow.{pow-pos, pow-add, high, shl-shr, shr-shr}
 use borrow.Author.Tests.{leb-true, leb-false, eqb-true, eqb-false}
+use Rattle.octets.specs.Test.{every}
 use Rattle.octets.specs.Number.{numberAt}
 use Rattle.octets.proofs.Cases.{by-test}
 use Rattle.octets.proofs.Facts.{Octets, octet}
@@ -32,7 +33,7 @@ use Rattle.packet.specs.declared.Field.{Field}
 use Rattle.packet.specs.declared.Field.the-variants.{Shown, Hidden}
 use Rattle.packet.specs.declared.Packet.{Packet}
 use Rattle.packet.specs.Operator.{numericHolds, bitmaskHolds}
-use Rattle.packet.specs.PairList.{eachHolds, listHolds}
+use Rattle.packet.specs.PairList.{listHolds}
 use Rattle.packet.specs.Match.{dataFor, holdsFor, pairHolds, bodyHolds, fieldMatches, fieldFor, covers, eitherPort, componentMatches, matches}
 use Rattle.packet.proofs.OperatorLaws.{says, tells}
 use Rattle.packet.proofs.PairListLaws.{goesOn, from-first}
@@ -202,8 +203,8 @@ module _ (packet : Packet) where
       ))
       (λ w. rw (t, u, w) (field-plain kind body o (fieldFor kind packet)))))
 
-  all-plain : (ps : List Part) → Each (λ p. Octets (p .body)) ps → eachHolds (componentMatches packet) (map plainPart ps) ≡ eachHolds (componentMatches packet) ps
-  unfolding eachHolds
+  all-plain : (ps : List Part) → Each (λ p. Octets (p .body)) ps → every (componentMatches packet) (map plainPart ps) ≡ every (componentMatches packet) ps
+  unfolding every
   all-plain [] o = refl
   all-plain (p ∷ ps) o = rw (component-plain p (o .0), all-plain ps (o .1))
 

@@ -10,10 +10,10 @@ use lib.Bits.{bitAnd, and-mask}
 use lib.Dec.{leb, eqb}
 use lib.ListN.{getD}
 use borrow.Author.Tests.{eqb-true, eqb-false, eq-eqb, leb-true}
+use Rattle.octets.specs.Test.{every}
 use Rattle.octets.specs.Number.{numberAt}
-use Rattle.octets.proofs.Cases.{by-test, apart}
+use Rattle.octets.proofs.Cases.{by-test, apart, both}
 use Rattle.octets.proofs.Facts.{Octets}
-use Rattle.prefix.proofs.Bools.{both}
 use Rattle.rule.specs.declared.Family.{Family}
 use Rattle.rule.specs.Operator.{sizeOf, isBitmask}
 use Rattle.rule.specs.Component.{Pair}
@@ -26,7 +26,7 @@ use Rattle.packet.specs.declared.Sight.the-variants.{Usable, Unusable}
 use Rattle.packet.specs.Header.{headerWords, fragmentOffset, isUnusable, protocol}
 use Rattle.packet.specs.Transport.{transportOctets, transportFields}
 use Rattle.packet.specs.Packet.{fieldsOf, packetOf, refusal}
-use Rattle.packet.specs.PairList.{eachHolds, oneHolds, joins, listHolds}
+use Rattle.packet.specs.PairList.{oneHolds, joins, listHolds}
 use Rattle.packet.specs.Match.{dataFor, holdsFor, pairHolds, fieldMatches, fieldFor, eitherPort, componentMatches, matches}
 use Rattle.packet.proofs.OperatorLaws.{numeric-row}
 use Rattle.packet.proofs.TransportLaws.{later-not-found}
@@ -68,8 +68,8 @@ module _ (packet : Packet) (shows : packet .transport ≡ hidden) where
       let nine : kind ≡ 9 = omega arith in
       rw (nine, shows))))))
 
-  one-fails : (components : List Part) → oneHolds asksTransport components ≡ true → eachHolds (componentMatches packet) components ≡ false
-  unfolding eachHolds oneHolds
+  one-fails : (components : List Part) → oneHolds asksTransport components ≡ true → every (componentMatches packet) components ≡ false
+  unfolding every oneHolds
   one-fails [] h = apart (cc)
   one-fails (c ∷ cs) h =
       by-test (asksTransport c) (λ t. rw (never-matches c t))

@@ -5,6 +5,7 @@ use mathlib.Core.Bool.{Bool, false, cond, _||_}
 use mathlib.Core.List.{List}
 use lib.Bits.{bitAnd}
 use lib.Dec.{eqb}
+use Rattle.octets.specs.Test.{every}
 use Rattle.prefix.specs.Prefix.{contains, prefixOf}
 use Rattle.rule.specs.declared.Family.{Family}
 use Rattle.rule.specs.Operator.{sizeOf, isBitmask}
@@ -16,7 +17,7 @@ use Rattle.packet.specs.declared.Field.the-variants.{Shown, Hidden}
 use Rattle.packet.specs.declared.Packet.{Packet}
 use Rattle.packet.specs.declared.Transport.{Transport}
 use Rattle.packet.specs.Operator.{numericHolds, bitmaskHolds}
-use Rattle.packet.specs.PairList.{eachHolds, listHolds}
+use Rattle.packet.specs.PairList.{listHolds}
 
 -- Section 4.2.2.9: TCP flags are in their two-octet form, of which a value of one octet is judged on the low octet.
 unfoldable pub dataFor : ℕ → ℕ → ℕ → ℕ
@@ -78,4 +79,4 @@ componentMatches packet component =
 
 -- Section 4.2: a packet matches a rule where it matches all components of the rule's value.
 unfoldable pub matches : Family → List ℕ → Packet → Bool
-matches family value packet = eachHolds (componentMatches packet) (components family value)
+matches family value packet = every (componentMatches packet) (components family value)

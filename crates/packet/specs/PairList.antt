@@ -2,13 +2,9 @@
 -- higher priority than OR". So a list is groups of pairs; it holds where one of its groups does, and a group where all its pairs do.
 use mathlib.Core.Bool.{Bool, true, false, cond, _&&_, _||_}
 use mathlib.Core.List.{List, [], _∷_, _++_}
+use Rattle.octets.specs.Test.{every}
 use Rattle.rule.specs.Component.{Pair}
 use Rattle.packet.specs.Bit.{has}
-
--- Whether a test holds of each element of a list.
-unfoldable pub eachHolds : {A : Type 0} → (A → Bool) → List A → Bool
-eachHolds test [] = true
-eachHolds test (a ∷ l) = test a && eachHolds test l
 
 -- Whether a test holds of some element of a list.
 unfoldable pub oneHolds : {A : Type 0} → (A → Bool) → List A → Bool
@@ -31,4 +27,4 @@ groups (p ∷ ps) = groupsFrom (p ∷ []) ps
 
 -- An OR of ANDs: some group all of whose pairs hold.
 unfoldable pub listHolds : (Pair → Bool) → List Pair → Bool
-listHolds test pairs = oneHolds (eachHolds test) (groups pairs)
+listHolds test pairs = oneHolds (every test) (groups pairs)

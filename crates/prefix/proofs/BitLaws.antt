@@ -13,8 +13,7 @@ use lib.ListN.{length}
 use lib.Seq.{take-all}
 use lib.Pow.{pow-pos, high, low, mod-pow-add, shr-shr, shr-mod}
 use borrow.Author.Tests.{eq-eqb, ne-eqb, eqb-true}
-use Rattle.octets.proofs.Cases.{by-test, apart}
-use Rattle.prefix.proofs.Bools.{both, same-test}
+use Rattle.octets.proofs.Cases.{by-test, apart, both, same-test}
 use Rattle.prefix.specs.Prefix.{bits, firstBits, sameBits}
 
 -- there are w bits

@@ -11,7 +11,7 @@ use lib.ListN.{length, take}
 use lib.Seq.{take-take, length-take-le}
 use lib.Pow.{pow-pos, split, high}
 use borrow.Author.Tests.{le-leb, lt-leb, lt-ltb, leb-true, ltb-true, eq-eqb, eqb-true}
-use Rattle.prefix.proofs.Bools.{both, same-test}
+use Rattle.octets.proofs.Cases.{both, same-test}
 use Rattle.prefix.proofs.BitLaws.{length-bits, same-refl, same-only, same-shifted}
 use Rattle.prefix.specs.Prefix.{bits, firstBits, sameBits, contains, WellFormed}
 use Rattle.prefix.specs.declared.Prefix.{Prefix}

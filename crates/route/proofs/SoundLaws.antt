@@ -8,10 +8,9 @@ use native.Mathlib.Omega.{arith}
 use lib.Dec.{leb, ltb, eqb}
 use lib.ListN.{length, getD}
 use borrow.Author.Tests.{lt-ltb, le-ltb, ltb-true, leb-true, eq-eqb, eqb-true}
-use Rattle.octets.proofs.Cases.{by-test}
+use Rattle.octets.proofs.Cases.{by-test, both}
 use Rattle.prefix.specs.declared.Prefix.{Prefix}
 use Rattle.prefix.specs.Prefix.{WellFormed}
-use Rattle.prefix.proofs.Bools.{both}
 use Rattle.route.specs.declared.Route.{Route}
 use Rattle.route.specs.Route.{routeAt, routesOf, plainPrefix, rises, risesToNext, rising, soundRoutes}
 

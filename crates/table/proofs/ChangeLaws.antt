@@ -11,6 +11,7 @@ use native.Mathlib.Nat.{add-zero, zero-add, add-sub-cancel-left}
 use lib.ListN.{length, take, drop, take-append-drop}
 use lib.Seq.{getD-drop}
 use borrow.Author.Tests.{le-leb, lt-leb}
+use Rattle.octets.specs.Test.{every}
 use Rattle.octets.specs.Store.{stored, cutOut, gapOpened}
 use Rattle.octets.proofs.Cases.{apart}
 use Rattle.octets.proofs.Facts.{Octets}
@@ -31,7 +32,7 @@ use Rattle.entry.specs.Record.{headCost, recordOf}
 use Rattle.entry.proofs.CodecLaws.{value-record}
 use Rattle.table.specs.declared.Place.{Place}
 use Rattle.table.specs.Walk.{entries}
-use Rattle.table.specs.Sound.{cost, tableOf, every, Encodes, soundTable}
+use Rattle.table.specs.Sound.{cost, tableOf, Encodes, soundTable}
 use Rattle.table.specs.Place.{placeIn}
 use Rattle.table.specs.Change.{holds, removed, hasRoom, inserted, announced}
 use Rattle.table.proofs.SpliceLaws.{table-record, table-cut, table-over, table-put}

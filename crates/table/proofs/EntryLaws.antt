@@ -10,9 +10,10 @@ use native.Mathlib.Nat.{sub-zero}
 use lib.Dec.{ltb}
 use lib.ListN.{length, getD, take, drop, length-take, length-drop, List·getD-eq-default}
 use lib.Seq.{drop-drop, getD-drop, getD-take, take-nil}
+use Rattle.octets.proofs.Cases.{both}
+use Rattle.octets.specs.Test.{every}
 use Rattle.octets.proofs.Facts.{Octets}
 use Rattle.octets.specs.Walk.{Walk, before}
-use Rattle.prefix.proofs.Bools.{both}
 use Rattle.rule.specs.declared.Family.{Family}
 use Rattle.rule.specs.Family.{ipv4}
 use Rattle.rule.specs.Value.{between, components}
@@ -25,7 +26,8 @@ use Rattle.action.specs.Possible.{couldBe}
 use Rattle.entry.specs.Entry.{Entry, entryKey, plainValue, possible}
 use Rattle.entry.specs.Record.{headCost, entryOf, goodRecord}
 use Rattle.table.specs.Walk.{recordAt, recordsFrom, records, entries}
-use Rattle.table.specs.Sound.{cost, every}
+use Rattle.table.specs.Sound.{cost}
+use Rattle.entry.proofs.CodecLaws.{good-possible}
 use Rattle.entry.proofs.ValueLaws.{Held, held, Possible, is-possible}
 use Rattle.table.proofs.WalkLaws.{Found, was-found, records-more}
 
@@ -84,11 +86,7 @@ plain-order v w o p h k =
     let b = held ipv4 w k in
     ap₂ (λ x y. partsOrder ipv4 (components ipv4 x) (components ipv4 y)) (sym (a .spelled)) (sym (b .spelled)) ∙ one-order ipv4 4 refl v w o p
 
--- what a record that could be says of its entry
-pub good-possible : (family : Family) (r : List ℕ) → goodRecord family r ≡ true → possible family (entryOf r) ≡ true
-unfolding goodRecord
-good-possible family r e = both (ltb (getD r 6 0) 64) (possible family (entryOf r)) e .1
-
+-- what a record that could be says of its entry's value
 pub good-value : (family : Family) (r : List ℕ) → goodRecord family r ≡ true → plainValue family (entryOf r .value) ≡ true
 unfolding possible
 good-value family r e =

@@ -9,13 +9,13 @@ use native.Mathlib.Omega.{arith}
 use native.Mathlib.Nat.{add-zero}
 use lib.Dec.{leb}
 use lib.ListN.{length}
+use Rattle.octets.specs.Test.{every}
 use Rattle.octets.specs.Order.{ordered}
 use Rattle.octets.specs.Walk.{Walk}
 use Rattle.octets.specs.declared.Order.{Order}
 use Rattle.octets.specs.declared.Order.the-variants.{First, Second, Same}
-use Rattle.octets.proofs.Cases.{apart}
+use Rattle.octets.proofs.Cases.{apart, both}
 use Rattle.octets.proofs.Facts.{Octets}
-use Rattle.prefix.proofs.Bools.{both}
 use Rattle.sorted.specs.Table.{byOrder, lookup, sorted}
 use Rattle.sorted.specs.Split.{front}
 use Rattle.sorted.specs.History.{costs}
@@ -30,7 +30,7 @@ use Rattle.table.specs.declared.Place.{Place}
 use Rattle.entry.specs.Entry.{Entry, entryKey, plainValue}
 use Rattle.entry.specs.Record.{headCost, entryOf, goodRecord}
 use Rattle.table.specs.Walk.{recordAt, recordsFrom, records, entries}
-use Rattle.table.specs.Sound.{mostOctets, cost, every, soundTable}
+use Rattle.table.specs.Sound.{mostOctets, cost, soundTable}
 use Rattle.table.specs.Place.{placeIn}
 use Rattle.table.proofs.WalkLaws.{Found, was-found, records-more, records-end, records-unsound}
 use Rattle.table.proofs.EntryLaws.{entriesFrom, every-both, octets-between, value-there, cost-there, plain-order, good-value}

@@ -10,13 +10,13 @@ use lib.Dec.{leb}
 use lib.ListN.{length, getD, take, drop, replicate, length-append, length-drop, length-take, take-append-drop}
 use lib.Seq.{drop-drop, drop-at, take-at, getD-append-add, getD-take, getD-drop}
 use borrow.Author.Tests.{leb-true, le-leb}
+use Rattle.octets.specs.Test.{every}
 use Rattle.octets.specs.Number.{numberAt}
 use Rattle.octets.specs.Store.{allZero}
 use Rattle.octets.specs.Walk.{Walk, before}
-use Rattle.octets.proofs.Cases.{apart}
+use Rattle.octets.proofs.Cases.{apart, both}
 use Rattle.octets.proofs.Facts.{Octets}
 use Rattle.octets.proofs.StoreLaws.{all-zero, zeros-zero}
-use Rattle.prefix.proofs.Bools.{both}
 use Rattle.sorted.specs.Table.{Sorted, sorted}
 use Rattle.sorted.specs.History.{costs}
 use Rattle.sorted.proofs.TableLaws.{sorted-test, test-sorted}
@@ -29,7 +29,7 @@ use Rattle.entry.proofs.ValueLaws.{Possible, is-possible}
 use Rattle.entry.proofs.CodecLaws.{length-record, size-back, read-written, good-written, written-read, good-possible}
 use Rattle.table.specs.declared.NextRecord.the-variants.{Nothing, Record, Unsound}
 use Rattle.table.specs.Walk.{recordAt, recordsFrom, records, entries}
-use Rattle.table.specs.Sound.{mostOctets, cost, joined, tableOf, every, Encodes, soundTable}
+use Rattle.table.specs.Sound.{mostOctets, cost, joined, tableOf, Encodes, soundTable}
 use Rattle.table.proofs.WalkLaws.{Found, was-found, rest-zero, records-more, records-end, records-ind, at-end, at-record}
 use Rattle.table.proofs.EntryLaws.{every-both, octets-between, length-there, cost-there}
 

@@ -8,6 +8,7 @@ use native.Mathlib.Nat.{zero-add, add-zero}
 use lib.Dec.{leb, eqb}
 use lib.ListN.{length}
 use borrow.Author.Tests.{eq-eqb, ne-eqb, le-leb, lt-leb, eqb-true, eqb-false, not-true, not-false}
+use Rattle.octets.specs.Test.{every}
 use Rattle.octets.specs.Order.{ordered}
 use Rattle.octets.specs.declared.Order.{Order}
 use Rattle.octets.specs.declared.Order.the-variants.{First, Second, Same}
@@ -28,7 +29,7 @@ use Rattle.table.specs.declared.Soundness.the-variants.{Sound, Unsound a
 use Rattle.entry.specs.Entry.{Entry, entryKey}
 use Rattle.entry.specs.Record.{headCost, entryOf, goodRecord}
 use Rattle.table.specs.Walk.{recordAt, recordsFrom, records, entries}
-use Rattle.table.specs.Sound.{mostOctets, cost, every, soundTable, soundness}
+use Rattle.table.specs.Sound.{mostOctets, cost, soundTable, soundness}
 use Rattle.table.specs.Follow.{Adjacent, followsAt}
 use Rattle.table.proofs.WalkLaws.{Found, was-found, records-more, records-end, records-unsound}
 use Rattle.table.proofs.EntryLaws.{entriesFrom, octets-between, value-there, cost-there, plain-order, good-value}

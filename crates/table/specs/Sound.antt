@@ -6,6 +6,7 @@ use mathlib.Core.Bool.{Bool, true, cond, _&&_}
 use mathlib.Core.List.{List, [], _∷_, _++_}
 use lib.Dec.{leb}
 use lib.ListN.{length, replicate}
+use Rattle.octets.specs.Test.{every}
 use Rattle.sorted.specs.Table.{Sorted, sorted}
 use Rattle.sorted.specs.History.{costs}
 use Rattle.rule.specs.declared.Family.{Family}
@@ -32,11 +33,6 @@ joined (e ∷ es) = recordOf e ++ joined es
 -- A buffer of n octets that holds entries: their records from octet 0, and zero after.
 unfoldable pub tableOf : ℕ → List Entry → List ℕ
 tableOf n es = joined es ++ replicate (n - costs cost es) 0
-
--- Every element passes a test.
-unfoldable pub every : {A : Type 0} → (A → Bool) → List A → Bool
-every test [] = true
-every test (x ∷ xs) = test x && every test xs
 
 -- A buffer is the encoding of a list of entries: it is no longer than it may be, there is room, and the entries could be and stand in
 -- precedence order, each rule once.
