@@ -3,14 +3,14 @@
 use Prim.Native.Nat.{ℕ, zero, suc, _+_, _*_, _/_, _%_, _^_, _<_, _≤_}
 use mathlib.Core.Path.{_≡_, refl, _∙_}
 use mathlib.Core.Bool.{Bool, true, false}
-use mathlib.Core.List.{List, [], _∷_, _++_, append-assoc}
-use native.Mathlib.Nat.{pow-suc, zero-add, add-assoc}
+use mathlib.Core.List.{List, [], _∷_, _++_}
+use native.Mathlib.Nat.{add-assoc}
 use native.Mathlib.Omega.{arith}
 use borrow.Author.Tests.{eqb-true, eq-eqb, ltb-true, le-ltb}
 use lib.Dec.{eqb, lit<, lit≤}
 use lib.ListN.{length, length-append}
 use lib.Pow.{high}
-use lib.Seq.{getD-at, getD-append-add}
+use lib.Seq.{getD-append-add}
 use Rattle.octets.specs.Number.{numberAt, octetsOf}
 use Rattle.octets.proofs.Cases.{by-test}
 use Rattle.octets.proofs.Facts.{Octets, octets-append}

@@ -7,8 +7,8 @@ use native.Mathlib.Omega.{arith}
 use native.Mathlib.Nat.{add-zero}
 use native.Mathlib.Numerals.{add-one}
 use lib.Dec.{lit<}
-use lib.ListN.{length, getD, take, drop, length-append, length-take, length-drop, drop-of-length-le}
-use lib.Seq.{take-at, take-add, drop-cons, drop-drop, drop-append-add, length-take-le}
+use lib.ListN.{length, getD, take, drop, length-append, drop-of-length-le}
+use lib.Seq.{take-add, drop-cons, drop-drop}
 use Rattle.octets.specs.Number.{numberAt, octetsOf}
 use Rattle.octets.specs.Store.{stored}
 use Rattle.octets.proofs.Facts.{Octets}

@@ -1,6 +1,6 @@
 -- What an announcement asks: one law for each way in which the code comes to it. Assumes nothing.
-use mathlib.Core.Path.{_≡_, refl, sym, ap, subst, _∙_}
-use mathlib.Core.Bool.{Bool, true, false, not, cond}
+use mathlib.Core.Path.{_≡_, refl, sym, subst, _∙_}
+use mathlib.Core.Bool.{Bool, true, false, not}
 use mathlib.Core.List.{List}
 use Prim.Native.Nat.{ℕ, _+_, _-_}
 use native.Mathlib.Nat.{add-sub-cancel-left}
@@ -23,7 +23,6 @@ use Rattle.action.specs.declared.Reading.the-variants.{Read, Unsound}
 use Rattle.action.specs.Actions.{actionsOf}
 use Rattle.flowspec.specs.declared.Request.{Request}
 use Rattle.flowspec.specs.declared.Request.the-variants.{Announce, Refused}
-use Rattle.flowspec.specs.declared.Change.{Change}
 use Rattle.flowspec.specs.declared.Change.the-variants.{Done, Refused as NotChanged}
 use Rattle.flowspec.specs.Feasibility.{isFeasible}
 use Rattle.flowspec.specs.Announce.{changeOf, askedBy, asked}

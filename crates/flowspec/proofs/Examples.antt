@@ -1,7 +1,6 @@
 -- **The one claim about 01's marked examples**: the definitions give every question of the list the numbers it expects. Assumes nothing.
 use mathlib.Core.Path.{_≡_, refl}
-use mathlib.Core.List.{List, [], _∷_, map}
-use Prim.Native.Nat.{ℕ}
+use mathlib.Core.List.{[], _∷_, map}
 use Rattle.octets.specs.Test.{every}
 use Rattle.octets.specs.Number.{numberAt}
 use Rattle.octets.specs.Walk.{walk}

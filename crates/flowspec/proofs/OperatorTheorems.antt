@@ -5,13 +5,12 @@ use mathlib.Core.Path.{_≡_, refl, sym, ap, ap₂, _∙_}
 use mathlib.Core.Bool.{Bool, true, false}
 use mathlib.Core.List.{List}
 use mathlib.Core.Option.{Option, none, some}
-use Prim.Native.Nat.{ℕ, _^_, _<_, Ordering, Ordering·eq}
-use lib.Dec.{leb}
+use Prim.Native.Nat.{ℕ, _^_, _<_, Ordering·eq}
 use lib.ListN.{length}
 use borrow.Author.Tests.{leb-true}
 use Rattle.octets.proofs.Cases.{by-test, apart}
 use Rattle.octets.proofs.Facts.{Octets}
-use Rattle.sorted.specs.Table.{lookup, insert, remove}
+use Rattle.sorted.specs.Table.{lookup, insert}
 use Rattle.sorted.specs.History.{costs, isHeld}
 use Rattle.sorted.proofs.TableLaws.{insert-sorted, insert-again, remove-insert, remove-absent, lookup-insert, insert-swap}
 use Rattle.rule.specs.declared.Reading.{Reading}
@@ -30,19 +29,18 @@ use Rattle.action.specs.Actions.{actionsOf}
 use Rattle.entry.specs.Entry.{Entry, entryKey, possible}
 use Rattle.table.specs.Walk.{entries}
 use Rattle.table.specs.Sound.{cost, tableOf, soundTable, Encodes}
-use Rattle.table.specs.Change.{holds, removed, hasRoom, inserted, announced, withdrawn}
+use Rattle.table.specs.Change.{holds, removed, hasRoom, inserted, withdrawn}
 use Rattle.table.proofs.SpliceLaws.{length-table}
 use Rattle.table.proofs.SoundLaws.{sound-encodes, encodes-sound, encodes-entries}
 use Rattle.flowspec.specs.declared.Change.{Change}
 use Rattle.flowspec.specs.declared.Change.the-variants.{Done, Refused}
-use Rattle.flowspec.specs.declared.Comparison.{Comparison}
 use Rattle.flowspec.specs.declared.Comparison.the-variants.{Same}
 use Rattle.flowspec.specs.declared.Request.{Request}
 use Rattle.flowspec.specs.declared.Request.the-variants.{Announce, Refused as NotAsked}
-use Rattle.flowspec.specs.Announce.{Outcome, changeOf, outcome, valueOf, askedBy, asked, announcedBy, announcing, withdrawnBy, withdrawing}
-use Rattle.flowspec.specs.Compare.{compared, compareRules}
+use Rattle.flowspec.specs.Announce.{Outcome, changeOf, valueOf, askedBy, asked, announcedBy, announcing, withdrawing}
+use Rattle.flowspec.specs.Compare.{compareRules}
 use Rattle.flowspec.specs.Promise.{Announces, Withdraws}
-use Rattle.flowspec.proofs.HistoryLaws.{every-insert, encoding, octets-value, Could, asked-could}
+use Rattle.flowspec.proofs.HistoryLaws.{every-insert, encoding, octets-value, asked-could}
 
 module _ (t : List ℕ) (c : Encodes ipv4 t (entries t)) where
   -- the table with an entry encodes its entries with that one, in a buffer of the same length

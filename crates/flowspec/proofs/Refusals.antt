@@ -1,10 +1,9 @@
 -- **No refusal but 8 changes an octet** of a table: an announcement or a withdrawal that answers another number than 0 and 8 leaves
 -- the table as it was. Assumes nothing.
-use mathlib.Core.Path.{_≡_, refl, sym, ap, _∙_}
-use mathlib.Core.Bool.{Bool, true, false, cond}
+use mathlib.Core.Path.{_≡_, refl, sym, _∙_}
+use mathlib.Core.Bool.{Bool, true, false}
 use mathlib.Core.List.{List}
 use Prim.Native.Nat.{ℕ}
-use native.Mathlib.Omega.{arith}
 use Rattle.octets.proofs.Cases.{by-test, apart}
 use Rattle.rule.specs.declared.Reading.{Reading}
 use Rattle.rule.specs.declared.Reading.the-variants.{Rule, Refused as NotRead}
@@ -14,12 +13,12 @@ use Rattle.rule.specs.Reading.{oneRule}
 use Rattle.order.specs.Key.{keysOf}
 use Rattle.entry.specs.Entry.{Entry}
 use Rattle.table.specs.Sound.{soundTable}
-use Rattle.table.specs.Change.{holds, hasRoom, Changed, announced, withdrawn}
+use Rattle.table.specs.Change.{holds, hasRoom, announced, withdrawn}
 use Rattle.flowspec.specs.declared.Request.{Request}
 use Rattle.flowspec.specs.declared.Request.the-variants.{Announce, Refused as NotAsked}
 use Rattle.flowspec.specs.declared.Change.{Change}
 use Rattle.flowspec.specs.declared.Change.the-variants.{Done, Refused}
-use Rattle.flowspec.specs.Announce.{Outcome, changeOf, outcome, refusal, valueOf, asked, announcedBy, announcing, withdrawnBy, withdrawing}
+use Rattle.flowspec.specs.Announce.{Outcome, changeOf, outcome, valueOf, asked, announcedBy, announcing, withdrawnBy, withdrawing}
 use Rattle.flowspec.specs.Promise.{Announces, Withdraws}
 
 -- an outcome leaves the table as it was, unless it is done or 8

@@ -1,7 +1,7 @@
 -- Announcing to and withdrawing from a table: what a call asks, once its input is read and judged, and what it leaves. A call on an
 -- unsound table is 10, and changes nothing.
 use Prim.Native.Nat.{ℕ}
-use mathlib.Core.Bool.{Bool, true, false, cond}
+use mathlib.Core.Bool.{Bool, cond}
 use mathlib.Core.List.{List}
 use lib.Dec.{eqb}
 use lib.ListN.{take, drop}
@@ -15,7 +15,6 @@ use Rattle.route.specs.Route.{soundRoutes}
 use Rattle.action.specs.declared.Reading.{Reading as ActionsReading}
 use Rattle.action.specs.declared.Reading.the-variants.{Read, Unsound}
 use Rattle.action.specs.Actions.{actionsOf}
-use Rattle.entry.specs.Entry.{Entry}
 use Rattle.table.specs.Sound.{soundTable}
 use Rattle.table.specs.Change.{Changed, announced, withdrawn}
 use Rattle.flowspec.specs.declared.Change.{Change}

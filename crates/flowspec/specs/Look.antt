@@ -1,13 +1,12 @@
 -- Looking a packet up in a table, and the first match's record. 01: "lookup 10, 12"; "a companion call gives back the first match's record
 -- as a part of the lent table (empty if none, or if the lookup is refused)".
 use Prim.Native.Nat.{ℕ}
-use mathlib.Core.Bool.{Bool, cond}
+use mathlib.Core.Bool.{cond}
 use mathlib.Core.List.{List}
 use Rattle.rule.specs.Family.{ipv4}
 use Rattle.packet.specs.declared.Sight.{Sight}
 use Rattle.packet.specs.declared.Sight.the-variants.{Usable, Unusable}
 use Rattle.packet.specs.Packet.{packetOf}
-use Rattle.table.specs.declared.Verdict.{Verdict}
 use Rattle.table.specs.declared.Place.{Place}
 use Rattle.table.specs.Walk.{entries}
 use Rattle.table.specs.Sound.{soundTable}

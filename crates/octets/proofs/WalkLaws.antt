@@ -1,7 +1,7 @@
 -- The laws of the walk: how it goes on, how it ends, that enough steps are enough, and induction along it. `μ` is a number that
 -- falls with every step on, and is less than the number of steps allowed. Assumes nothing.
 use mathlib.Core.Path.{_≡_, refl, ap, sym, _∙_}
-use mathlib.Core.List.{List, [], _∷_}
+use mathlib.Core.List.{[], _∷_}
 use Prim.Native.Nat.{ℕ, zero, suc, _<_}
 use native.Mathlib.Omega.{arith}
 use Rattle.octets.specs.Walk.{Step, more, last, stop, Walk, before, walk}

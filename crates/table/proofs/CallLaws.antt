@@ -1,12 +1,11 @@
 -- Announcing and withdrawing a value: its plain spelling stands at the front of the working array, and the changes are those of the
 -- table's entries. Assumes nothing.
-use mathlib.Core.Path.{_≡_, refl, sym, ap, _∙_}
+use mathlib.Core.Path.{_≡_, refl, sym, _∙_}
 use mathlib.Core.Bool.{Bool, true, false, not, cond}
 use mathlib.Core.List.{List, _++_}
-use Prim.Native.Nat.{ℕ, _≤_}
+use Prim.Native.Nat.{ℕ}
 use lib.ListN.{length, take, drop}
 use borrow.Author.Tests.{not-true, not-false}
-use Rattle.octets.proofs.Cases.{by-test}
 use Rattle.octets.proofs.Facts.{Octets}
 use Rattle.rule.specs.declared.Checked.the-variants.{Accepted}
 use Rattle.rule.specs.Family.{ipv4}
@@ -17,11 +16,11 @@ use Rattle.rule.proofs.SpellingLaws.{check-plain}
 use Rattle.rule.proofs.WritingLaws.{front-plain}
 use Rattle.order.specs.Key.{keysOf}
 use Rattle.action.specs.declared.Actions.{Actions}
-use Rattle.entry.specs.Entry.{Entry, plainValue}
+use Rattle.entry.specs.Entry.{plainValue}
 use Rattle.entry.proofs.ValueLaws.{holds as value-holds}
 use Rattle.table.specs.Sound.{soundTable}
 use Rattle.table.proofs.ChangeLaws.{removed-none}
-use Rattle.table.specs.Change.{holds, removed, hasRoom, inserted, Changed, announced, withdrawn}
+use Rattle.table.specs.Change.{holds, removed, hasRoom, inserted, announced, withdrawn}
 
 -- the table may hold the plain spelling of an accepted value
 pub plain-held : (v : List ℕ) → Octets v → checkValue ipv4 v ≡ Accepted → plainValue ipv4 (plain v) ≡ true

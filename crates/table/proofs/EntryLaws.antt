@@ -1,35 +1,33 @@
 -- The entries of a table as its octets have them: where a record's value stands, what a record costs, and that entries are ordered as
 -- their plain values are. Assumes nothing.
-use mathlib.Core.Path.{_≡_, refl, sym, ap, ap₂, _∙_}
-use mathlib.Core.Bool.{Bool, true, false, _&&_}
+use mathlib.Core.Path.{_≡_, refl, sym, ap₂, _∙_}
+use mathlib.Core.Bool.{Bool, true}
 use mathlib.Core.List.{List, [], _∷_, map}
-use Prim.Native.Nat.{ℕ, zero, suc, _+_, _-_, _^_, _<_, _≤_, Ordering}
+use Prim.Native.Nat.{ℕ, zero, suc, _+_, _-_, _^_, _≤_}
 use native.Mathlib.Omega.{arith}
 use native.Mathlib.Decide.{decLt}
 use native.Mathlib.Nat.{sub-zero}
 use lib.Dec.{ltb}
-use lib.ListN.{length, getD, take, drop, length-take, length-drop, List·getD-eq-default}
+use lib.ListN.{length, take, drop, length-take, length-drop, List·getD-eq-default}
 use lib.Seq.{drop-drop, getD-drop, getD-take, take-nil}
 use Rattle.octets.proofs.Cases.{both}
 use Rattle.octets.specs.Test.{every}
 use Rattle.octets.proofs.Facts.{Octets}
-use Rattle.octets.specs.Walk.{Walk, before}
 use Rattle.rule.specs.declared.Family.{Family}
 use Rattle.rule.specs.Family.{ipv4}
 use Rattle.rule.specs.Value.{between, components}
 use Rattle.order.specs.Precedence.{partsOrder, precedence}
 use Rattle.order.specs.Key.{keysOf, keyOrder}
 use Rattle.order.proofs.KeyLaws.{one-order}
-use Rattle.table.specs.declared.NextRecord.{NextRecord}
-use Rattle.table.specs.declared.NextRecord.the-variants.{Nothing, Record, Unsound}
+use Rattle.table.specs.declared.NextRecord.the-variants.{Record}
 use Rattle.action.specs.Possible.{couldBe}
-use Rattle.entry.specs.Entry.{Entry, entryKey, plainValue, possible}
+use Rattle.entry.specs.Entry.{Entry, plainValue, possible}
 use Rattle.entry.specs.Record.{headCost, entryOf, goodRecord}
-use Rattle.table.specs.Walk.{recordAt, recordsFrom, records, entries}
+use Rattle.table.specs.Walk.{recordAt, recordsFrom}
 use Rattle.table.specs.Sound.{cost}
 use Rattle.entry.proofs.CodecLaws.{good-possible}
-use Rattle.entry.proofs.ValueLaws.{Held, held, Possible, is-possible}
-use Rattle.table.proofs.WalkLaws.{Found, was-found, records-more}
+use Rattle.entry.proofs.ValueLaws.{held}
+use Rattle.table.proofs.WalkLaws.{was-found}
 
 -- the entries from a place on
 abbrev pub entriesFrom : List ℕ → ℕ → List Entry

@@ -1,10 +1,10 @@
 -- Finding a rule's place: what is left of the table decides as the whole table does; and the place found is where the sorted table has
 -- the rule. Assumes nothing.
-use mathlib.Core.Path.{_≡_, refl, sym, ap, ap₂, _∙_}
-use mathlib.Core.Bool.{Bool, true, false, _&&_}
+use mathlib.Core.Path.{_≡_, refl, sym, ap, _∙_}
+use mathlib.Core.Bool.{Bool, true}
 use mathlib.Core.List.{List, [], _∷_, map}
-use mathlib.Core.Option.{Option, none, some}
-use Prim.Native.Nat.{ℕ, _+_, _-_, _<_, _≤_, Ordering, Ordering·lt, Ordering·eq, Ordering·gt}
+use mathlib.Core.Option.{none, some}
+use Prim.Native.Nat.{ℕ, _+_, _-_, _≤_, Ordering, Ordering·lt, Ordering·eq, Ordering·gt}
 use native.Mathlib.Omega.{arith}
 use native.Mathlib.Nat.{add-zero}
 use lib.Dec.{leb}
@@ -16,7 +16,7 @@ use Rattle.octets.specs.declared.Order.{Order}
 use Rattle.octets.specs.declared.Order.the-variants.{First, Second, Same}
 use Rattle.octets.proofs.Cases.{apart, both}
 use Rattle.octets.proofs.Facts.{Octets}
-use Rattle.sorted.specs.Table.{byOrder, lookup, sorted}
+use Rattle.sorted.specs.Table.{byOrder, lookup}
 use Rattle.sorted.specs.Split.{front}
 use Rattle.sorted.specs.History.{costs}
 use Rattle.sorted.proofs.Cases.{by-order}
@@ -26,13 +26,12 @@ use Rattle.order.specs.Precedence.{partsOrder}
 use Rattle.order.specs.Key.{keysOf, keyOrder}
 use Rattle.table.specs.declared.NextRecord.{NextRecord}
 use Rattle.table.specs.declared.NextRecord.the-variants.{Nothing, Record, Unsound}
-use Rattle.table.specs.declared.Place.{Place}
 use Rattle.entry.specs.Entry.{Entry, entryKey, plainValue}
 use Rattle.entry.specs.Record.{headCost, entryOf, goodRecord}
 use Rattle.table.specs.Walk.{recordAt, recordsFrom, records, entries}
 use Rattle.table.specs.Sound.{mostOctets, cost, soundTable}
 use Rattle.table.specs.Place.{placeIn}
-use Rattle.table.proofs.WalkLaws.{Found, was-found, records-more, records-end, records-unsound}
+use Rattle.table.proofs.WalkLaws.{was-found, records-more, records-end, records-unsound}
 use Rattle.table.proofs.EntryLaws.{entriesFrom, every-both, octets-between, value-there, cost-there, plain-order, good-value}
 
 items : Walk (List ℕ) Bool → List (List ℕ)

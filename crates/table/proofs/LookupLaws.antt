@@ -1,11 +1,10 @@
 -- Going down a table with a packet: what is left of the table and what was collected give the verdict. Assumes nothing.
-use mathlib.Core.Path.{_≡_, refl, sym, ap, ap₂, subst, _∙_}
+use mathlib.Core.Path.{_≡_, refl, sym, ap, ap₂, _∙_}
 use mathlib.Core.Bool.{Bool, true, false, not, cond}
-use mathlib.Core.List.{List, [], _∷_, map}
-use Prim.Native.Nat.{ℕ, suc, _+_, _-_, _<_, _≤_}
+use mathlib.Core.List.{List, [], _∷_}
+use Prim.Native.Nat.{ℕ, suc, _+_, _-_, _≤_}
 use native.Mathlib.Omega.{arith}
 use native.Mathlib.Nat.{add-zero}
-use lib.Dec.{eqb}
 use lib.ListN.{length, take, drop, length-drop}
 use lib.Seq.{take-all}
 use borrow.Author.Tests.{eq-eqb, ne-eqb, not-true, not-false}
@@ -24,13 +23,11 @@ use Rattle.table.specs.declared.Hit.{Hit}
 use Rattle.table.specs.declared.Hit.the-variants.{Missed, GoesOn, Stops}
 use Rattle.table.specs.declared.Verdict.{Verdict}
 use Rattle.table.specs.declared.Verdict.the-variants.{Unmatched, Matched}
-use Rattle.table.specs.declared.Place.{Place}
 use Rattle.entry.specs.Entry.{Entry}
 use Rattle.entry.specs.Record.{headCost, entryOf}
 use Rattle.table.specs.Walk.{recordAt, records, entries}
-use Rattle.table.specs.Sound.{cost}
 use Rattle.table.specs.Lookup.{hit, collected, mergedOnto, verdictOf, verdictFor, hitOf, firstPlace}
-use Rattle.table.proofs.WalkLaws.{Found, was-found}
+use Rattle.table.proofs.WalkLaws.{was-found}
 use Rattle.table.proofs.EntryLaws.{entriesFrom, value-there, cost-there}
 use Rattle.table.proofs.FindLaws.{left-more, left-end, left-unsound}
 

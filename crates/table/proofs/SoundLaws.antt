@@ -1,13 +1,13 @@
 -- A sound table is the encoding of a list of entries, and the encoding of a list of entries is sound: encode and decode are inverse both
 -- ways. Assumes nothing.
-use mathlib.Core.Path.{_≡_, refl, sym, ap, ap₂, subst, _∙_}
-use mathlib.Core.Bool.{Bool, true, false, _&&_}
+use mathlib.Core.Path.{_≡_, refl, sym, ap, ap₂, _∙_}
+use mathlib.Core.Bool.{Bool, true}
 use mathlib.Core.List.{List, [], _∷_, _++_, map, append-assoc}
-use Prim.Native.Nat.{ℕ, zero, suc, _+_, _-_, _*_, _<_, _≤_}
+use Prim.Native.Nat.{ℕ, zero, suc, _+_, _-_, _*_, _≤_}
 use native.Mathlib.Omega.{arith}
 use native.Mathlib.Nat.{sub-zero, add-zero, zero-add}
 use lib.Dec.{leb}
-use lib.ListN.{length, getD, take, drop, replicate, length-append, length-drop, length-take, take-append-drop}
+use lib.ListN.{length, getD, take, drop, replicate, length-append, length-drop, take-append-drop}
 use lib.Seq.{drop-drop, drop-at, take-at, getD-append-add, getD-take, getD-drop}
 use borrow.Author.Tests.{leb-true, le-leb}
 use Rattle.octets.specs.Test.{every}
@@ -17,20 +17,19 @@ use Rattle.octets.specs.Walk.{Walk, before}
 use Rattle.octets.proofs.Cases.{apart, both}
 use Rattle.octets.proofs.Facts.{Octets}
 use Rattle.octets.proofs.StoreLaws.{all-zero, zeros-zero}
-use Rattle.sorted.specs.Table.{Sorted, sorted}
 use Rattle.sorted.specs.History.{costs}
 use Rattle.sorted.proofs.TableLaws.{sorted-test, test-sorted}
 use Rattle.rule.specs.declared.Family.{Family}
 use Rattle.rule.specs.Value.{between}
 use Rattle.order.specs.Key.{keyOrder}
 use Rattle.entry.specs.Entry.{Entry, entryKey, possible}
-use Rattle.entry.specs.Record.{headCost, recordOf, entryOf, goodRecord}
-use Rattle.entry.proofs.ValueLaws.{Possible, is-possible}
+use Rattle.entry.specs.Record.{recordOf, entryOf, goodRecord}
+use Rattle.entry.proofs.ValueLaws.{is-possible}
 use Rattle.entry.proofs.CodecLaws.{length-record, size-back, read-written, good-written, written-read, good-possible}
-use Rattle.table.specs.declared.NextRecord.the-variants.{Nothing, Record, Unsound}
+use Rattle.table.specs.declared.NextRecord.the-variants.{Nothing, Record}
 use Rattle.table.specs.Walk.{recordAt, recordsFrom, records, entries}
 use Rattle.table.specs.Sound.{mostOctets, cost, joined, tableOf, Encodes, soundTable}
-use Rattle.table.proofs.WalkLaws.{Found, was-found, rest-zero, records-more, records-end, records-ind, at-end, at-record}
+use Rattle.table.proofs.WalkLaws.{was-found, rest-zero, records-more, records-end, records-ind, at-end, at-record}
 use Rattle.table.proofs.EntryLaws.{every-both, octets-between, length-there, cost-there}
 
 -- a number behind other octets, and in a part

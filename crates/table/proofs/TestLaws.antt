@@ -1,18 +1,17 @@
 -- Testing a table record by record: what is left to test decides, with the record before it. Assumes nothing.
 use mathlib.Core.Path.{_≡_, refl, sym, ap, ap₂, _∙_}
 use mathlib.Core.Bool.{Bool, true, false, not, cond, _&&_}
-use mathlib.Core.List.{List, [], _∷_, map}
+use mathlib.Core.List.{List}
 use Prim.Native.Nat.{ℕ, _+_, _-_, _<_, _≤_, Ordering, Ordering·lt, Ordering·eq, Ordering·gt}
 use native.Mathlib.Omega.{arith}
 use native.Mathlib.Nat.{zero-add, add-zero}
-use lib.Dec.{leb, eqb}
+use lib.Dec.{eqb}
 use lib.ListN.{length}
-use borrow.Author.Tests.{eq-eqb, ne-eqb, le-leb, lt-leb, eqb-true, eqb-false, not-true, not-false}
+use borrow.Author.Tests.{eq-eqb, ne-eqb, le-leb, lt-leb, eqb-false, not-true, not-false}
 use Rattle.octets.specs.Test.{every}
 use Rattle.octets.specs.Order.{ordered}
 use Rattle.octets.specs.declared.Order.{Order}
-use Rattle.octets.specs.declared.Order.the-variants.{First, Second, Same}
-use Rattle.octets.specs.Walk.{Walk}
+use Rattle.octets.specs.declared.Order.the-variants.{First}
 use Rattle.octets.proofs.Cases.{by-test, apart}
 use Rattle.octets.proofs.Facts.{Octets}
 use Rattle.sorted.specs.Table.{byOrder, below, sorted}
@@ -21,7 +20,7 @@ use Rattle.sorted.proofs.Cases.{by-order}
 use Rattle.rule.specs.Family.{ipv4}
 use Rattle.rule.specs.Value.{between, components}
 use Rattle.order.specs.Precedence.{partsOrder}
-use Rattle.order.specs.Key.{keysOf, keyOrder}
+use Rattle.order.specs.Key.{keyOrder}
 use Rattle.table.specs.declared.NextRecord.{NextRecord}
 use Rattle.table.specs.declared.NextRecord.the-variants.{Nothing, Record, Unsound}
 use Rattle.table.specs.declared.Soundness.{Soundness}
@@ -31,9 +30,8 @@ use Rattle.entry.specs.Record.{headCost, entryOf, goodRecord}
 use Rattle.table.specs.Walk.{recordAt, recordsFrom, records, entries}
 use Rattle.table.specs.Sound.{mostOctets, cost, soundTable, soundness}
 use Rattle.table.specs.Follow.{Adjacent, followsAt}
-use Rattle.table.proofs.WalkLaws.{Found, was-found, records-more, records-end, records-unsound}
+use Rattle.table.proofs.WalkLaws.{was-found, records-more, records-end, records-unsound}
 use Rattle.table.proofs.EntryLaws.{entriesFrom, octets-between, value-there, cost-there, plain-order, good-value}
-use Rattle.table.proofs.FindLaws.{left-more, left-end}
 
 -- how `follows` comes to its answers
 module _ (t : List ℕ) (previous at next : ℕ) where

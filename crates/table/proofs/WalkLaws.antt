@@ -1,17 +1,16 @@
 -- Going through a table: one record more and the rest, the end, or what is no table; and that records joined with zeros behind them are
 -- read back. Assumes nothing.
-use mathlib.Core.Path.{_≡_, refl, sym, ap, subst, _∙_}
-use mathlib.Core.Bool.{Bool, true, false, cond}
-use mathlib.Core.List.{List, [], _∷_, _++_, map}
-use Prim.Native.Nat.{ℕ, zero, suc, _+_, _-_, _<_, _≤_}
+use mathlib.Core.Path.{_≡_, refl, ap, subst}
+use mathlib.Core.Bool.{Bool, true, false}
+use mathlib.Core.List.{List, [], _∷_}
+use Prim.Native.Nat.{ℕ, _+_, _-_, _<_, _≤_}
 use native.Mathlib.Omega.{arith}
-use lib.Dec.{leb, ltb, eqb}
-use lib.ListN.{length, getD, take, drop, replicate, length-take, length-drop, take-append-drop}
-use lib.Seq.{drop-drop}
-use borrow.Author.Tests.{eq-eqb, ne-eqb, lt-ltb, le-ltb, ltb-false, eqb-true, eqb-false}
+use lib.Dec.{ltb, eqb}
+use lib.ListN.{length, drop}
+use borrow.Author.Tests.{eq-eqb, ne-eqb, lt-ltb, le-ltb, ltb-false, eqb-false}
 use Rattle.octets.specs.Number.{numberAt}
 use Rattle.octets.specs.Store.{allZero}
-use Rattle.octets.specs.Walk.{Step, more, last, stop, Walk, before, walk}
+use Rattle.octets.specs.Walk.{more, last, stop, Walk, before}
 use Rattle.octets.proofs.Cases.{by-test, apart}
 use Rattle.octets.proofs.WalkLaws.{walk-stop, walk-more, walk-ind}
 use Rattle.rule.specs.Value.{between}

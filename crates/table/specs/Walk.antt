@@ -7,7 +7,7 @@ use lib.Dec.{ltb, eqb}
 use lib.ListN.{length, drop}
 use Rattle.octets.specs.Number.{numberAt}
 use Rattle.octets.specs.Store.{allZero}
-use Rattle.octets.specs.Walk.{Step, more, last, stop, Walk, walk}
+use Rattle.octets.specs.Walk.{Step, more, stop, Walk, walk}
 use Rattle.rule.specs.Value.{between}
 use Rattle.table.specs.declared.NextRecord.{NextRecord}
 use Rattle.table.specs.declared.NextRecord.the-variants.{Nothing, Record, Unsound}

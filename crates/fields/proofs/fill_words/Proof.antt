@@ -1,6 +1,5 @@
 -- Each turn reads four octets and stores one word: both stand within their slices, since the count is at most a fourth of the octets.
 use borrow.Author.Needs.{needs}
-use native.Mathlib.Omega.{arith}
 use Prim.Native.Nat.{_≤_, _-_, _*_}
 use mathlib.Core.Path.{_≡_}
 use lib.ListN.{length}

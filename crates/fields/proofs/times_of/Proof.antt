@@ -1,7 +1,6 @@
 -- A count is read digit by digit, and stays below ten times the most that a field holds.
 use borrow.Author.Needs.{needs}
 use Prim.Native.Nat.{_≤_, _-_}
-use mathlib.Core.Path.{_≡_}
 use lib.ListN.{length}
 use Rattle.fields.proofs.times_of.Statement.{statement}
 use Rattle.fields.proofs.times_of.Tie as tie

@@ -1,5 +1,4 @@
 use Rattle.flowspec.proofs.WriteLaws.{writes}
-use mathlib.Core.Path.{ap, _∙_}
 use borrow.Author.Needs.{needs}
 use Rattle.flowspec.proofs.write_rule.Statement.{statement}
 use Rattle.flowspec.proofs.write_rule.Tie as tie

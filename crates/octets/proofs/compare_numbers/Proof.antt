@@ -1,5 +1,4 @@
 -- The lower of two numbers comes first: each return is one outcome of the comparison.
-use borrow.Author.Needs.{needs}
 use Rattle.octets.proofs.OrderLaws.{lt-cmp, gt-cmp, eq-cmp}
 use native.Mathlib.Omega.{arith}
 use Rattle.octets.proofs.compare_numbers.Statement.{statement}

@@ -6,7 +6,7 @@ use native.Mathlib.Omega.{arith}
 use lib.ListN.{length}
 use Rattle.table.specs.declared.NextRecord.the-variants.{Record}
 use Rattle.table.specs.Walk.{recordAt}
-use Rattle.table.proofs.WalkLaws.{Found, was-found}
+use Rattle.table.proofs.WalkLaws.{was-found}
 use Rattle.table.proofs.FindLaws.{Searching, search-starts, search-end, search-unsound, search-first, search-same, search-on}
 use Rattle.table.proofs.find.Statement.{statement}
 use Rattle.table.proofs.find.Tie as tie

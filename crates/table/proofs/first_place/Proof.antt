@@ -6,7 +6,7 @@ use native.Mathlib.Omega.{arith}
 use lib.ListN.{length}
 use Rattle.table.specs.declared.NextRecord.the-variants.{Record}
 use Rattle.table.specs.Walk.{recordAt}
-use Rattle.table.proofs.WalkLaws.{Found, was-found}
+use Rattle.table.proofs.WalkLaws.{was-found}
 use Rattle.table.proofs.LookupLaws.{Missing, miss-starts, first-end, first-unsound, first-met, first-missed}
 use Rattle.table.proofs.first_place.Statement.{statement}
 use Rattle.table.proofs.first_place.Tie as tie

@@ -3,7 +3,6 @@ use mathlib.Core.Path.{_≡_, sym, _∙_}
 use native.Mathlib.Omega.{arith}
 use Rattle.octets.proofs.Cases.{apart}
 use Rattle.octets.specs.declared.Order.the-variants.{First, Second, Same}
-use Rattle.table.specs.Follow.{Adjacent}
 use Rattle.table.proofs.TestLaws.{follows-none, follows-yes, follows-not}
 use borrow.Author.Needs.{needs}
 use Rattle.table.proofs.follows.Statement.{statement}

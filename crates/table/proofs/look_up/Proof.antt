@@ -6,7 +6,7 @@ use native.Mathlib.Omega.{arith}
 use lib.ListN.{length}
 use Rattle.table.specs.declared.NextRecord.the-variants.{Record}
 use Rattle.table.specs.Walk.{recordAt}
-use Rattle.table.proofs.WalkLaws.{Found, was-found}
+use Rattle.table.proofs.WalkLaws.{was-found}
 use Rattle.table.proofs.EntryLaws.{length-there}
 use Rattle.table.proofs.LookupLaws.{Looking, look-starts, look-end, look-unsound, look-missed, look-goes-on, look-stops}
 use Rattle.table.proofs.look_up.Statement.{statement}

@@ -1,5 +1,4 @@
 -- One law for each return.
-use native.Mathlib.Omega.{arith}
 use Rattle.table.proofs.WalkLaws.{at-end, at-rubbish, at-short, at-record}
 use borrow.Author.Needs.{needs}
 use Rattle.table.proofs.record_at.Statement.{statement}

@@ -7,7 +7,7 @@ use lib.ListN.{length}
 use borrow.Author.Tests.{not-false}
 use Rattle.table.specs.declared.NextRecord.the-variants.{Record}
 use Rattle.table.specs.Walk.{recordAt}
-use Rattle.table.proofs.WalkLaws.{Found, was-found}
+use Rattle.table.proofs.WalkLaws.{was-found}
 use Rattle.table.proofs.TestLaws.{Testing, test-starts, test-long, test-end, test-unsound, adjacent, test-bad, test-disorder, test-on}
 use Rattle.table.proofs.sound_table.Statement.{statement}
 use Rattle.table.proofs.sound_table.Tie as tie
