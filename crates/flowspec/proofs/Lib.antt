@@ -10,3 +10,4 @@ pub mod HistoryLaws
 pub mod AgreeLaws
 pub mod RoomLaws
 pub mod OperatorTheorems
+pub mod PlainLaws

@@ -160,7 +160,7 @@ address-same (suc n) left (x ∷ r) o some h =
     ))
 
 -- the first bits are kept
-first-kept : (n : ℕ) (body : List ℕ) → Octets body → getD body 0 0 ≤ 8 * n
+pub first-kept : (n : ℕ) (body : List ℕ) → Octets body → getD body 0 0 ≤ 8 * n
     → firstBits (8 * n) (getD body 0 0) (numberAt n (plainFrom Length body) 1) ≡ firstBits (8 * n) (getD body 0 0) (numberAt n body 1)
 unfolding plainFrom after cleared
 first-kept n [] o h = refl
