@@ -152,16 +152,15 @@ pub fn open_gap(buffer: &mut [u8], at: usize, size: usize)
     }
 }
 
-// Whether every octet from a place on is 0.
+// Whether every octet from a place on is 0: whether no bit is set in any, so that no octet has to wait for the one before it.
 pub fn is_zero(s: &[u8], from: usize) -> bool
     ensures { λ r. ⌜ r ≡ allZero (drop from (now (s .entry))) ⌝ }
 {
+    let mut seen = 0;
     let mut i = from;
     while i < s.len() {
-        if s[i] != 0 {
-            return false;
-        }
+        seen = seen | s[i];
         i += 1;
     }
-    true
+    seen == 0
 }

@@ -80,30 +80,6 @@ pub same-shifted : (w n a b : ℕ) → n ≤ w → a < 2 ^ w → b < 2 ^ w
 same-shifted w n a b h l m =
     rw (first-of w n a h, first-of w n b h, same-number, shifted-fits w n a h l, shifted-fits w n b h m)
 
--- one bit of two addresses after another: the next bit of both, at the place below
-module _ (lowest place a b : ℕ) (h : lowest < place) where
-  next : (a : ℕ) → firstBits place (place - lowest) a ≡ a / 2 ^ (place - 1) % 2 ∷ firstBits (place - 1) (place - 1 - lowest) a
-  unfolding bits
-  next a =
-      let e : place ≡ suc (place - 1) = omega arith in
-      let f : place - lowest ≡ suc (place - 1 - lowest) = omega arith in
-      λ i. firstBits (e i) (f i) a
-
-  same-next : sameBits (firstBits place (place - lowest) a) (firstBits place (place - lowest) b)
-      ≡ eqb (bitAnd (a / 2 ^ (place - 1)) 1) (bitAnd (b / 2 ^ (place - 1)) 1)
-      && sameBits (firstBits (place - 1) (place - 1 - lowest) a) (firstBits (place - 1) (place - 1 - lowest) b)
-  unfolding sameBits
-  same-next = rw (next a, next b, and-mask (a / 2 ^ (place - 1)) 1, and-mask (b / 2 ^ (place - 1)) 1)
-
-  pub bit-same : bitAnd (a / 2 ^ (place - 1)) 1 ≡ bitAnd (b / 2 ^ (place - 1)) 1
-      → sameBits (firstBits (place - 1) (place - 1 - lowest) a) (firstBits (place - 1) (place - 1 - lowest) b)
-      ≡ sameBits (firstBits place (place - lowest) a) (firstBits place (place - lowest) b)
-  bit-same e = rw (same-next, eq-eqb _ _ e)
-
-  pub bit-differs : (bitAnd (a / 2 ^ (place - 1)) 1 ≡ bitAnd (b / 2 ^ (place - 1)) 1 → ⊥)
-      → false ≡ sameBits (firstBits place (place - lowest) a) (firstBits place (place - lowest) b)
-  bit-differs e = rw (same-next, ne-eqb _ _ e)
-
 -- the bits down to where the first n reach are the first n, or all of them
 reached : (w n a : ℕ) → firstBits w (w - (w - n)) a ≡ firstBits w n a
 reached w n a =
@@ -115,11 +91,14 @@ reached w n a =
           rw (e, take-all w (bits w a) (omega arith), take-all n (bits w a) (omega arith))
     ]
 
-pub same-reached : (w n lowest a b : ℕ) → lowest ≡ w - n
-    → sameBits (firstBits w (w - lowest) a) (firstBits w (w - lowest) b) ≡ sameBits (firstBits w n a) (firstBits w n b)
-same-reached w n lowest a b e = rw (e, reached w n a, reached w n b)
-
--- no bits left are the same bits
-pub none-left : (lowest place a b : ℕ) → place ≤ lowest → true ≡ sameBits (firstBits place (place - lowest) a) (firstBits place (place - lowest) b)
+-- no bits are the same bits
+pub no-bits : (w n a b : ℕ) → n ≡ 0 → true ≡ sameBits (firstBits w n a) (firstBits w n b)
 unfolding sameBits
-none-left lowest place a b h = let e : place - lowest ≡ 0 = omega arith in rw e
+no-bits w n a b e = rw e
+
+-- the first n bits of two addresses, or all of them, are the same where what is left when the others are shifted out is equal
+pub same-first : (w n lowest a b : ℕ) → lowest ≡ w - n → a < 2 ^ w → b < 2 ^ w
+    → eqb (a / 2 ^ lowest) (b / 2 ^ lowest) ≡ sameBits (firstBits w n a) (firstBits w n b)
+same-first w n lowest a b is l m =
+    let e : w - (w - (w - n)) ≡ lowest = omega arith in
+    rw (← reached w n a, ← reached w n b) (sym (same-shifted w (w - (w - n)) a b (omega arith) l m ∙ rw e))

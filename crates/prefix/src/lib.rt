@@ -18,21 +18,17 @@ fn lowest_place(n: u32) -> u32
     if n < 32 { 32 - n } else { 0 }
 }
 
-// Whether the first n bits of two addresses, or all 32, are the same: bit by bit, the highest first.
+// Whether the first n bits of two addresses, or all 32, are the same: no bits are, and else what is left when the others are shifted out.
 pub fn same_bits(n: u32, a: u32, b: u32) -> bool
     ensures { λ r. ⌜ r ≡ sameBits (firstBits 32 n a) (firstBits 32 n b) ⌝ }
 {
-    let lowest = lowest_place(n);
-    let mut place: u32 = 32;
-    while lowest < place {
-        place -= 1;
-        let x = (a >> place) & 1;
-        let y = (b >> place) & 1;
-        if x != y {
-            return false;
-        }
+    if n == 0 {
+        return true;
     }
-    true
+    let lowest = lowest_place(n);
+    let x = a >> lowest;
+    let y = b >> lowest;
+    x == y
 }
 
 // Whether the outer prefix contains the inner one; every prefix contains itself.
