@@ -145,9 +145,9 @@ module _ (t octets : List ℕ) where
     unfolding lookingUp
     look-unsound e = look-kept _ (rw (was-unsound t s is e))
 
-    pub locate-unsound : s ≡ Unsound → LocatesFirst t octets (record { number = 10; start = 0; end = 0 }) (t ∷ octets ∷ [])
+    pub locate-unsound : s ≡ Unsound → (answer : MatchPlace) → answer ≡ record { number = 10; start = 0; end = 0 } → LocatesFirst t octets answer (t ∷ octets ∷ [])
     unfolding matchPlace lookingUp firstMatch
-    locate-unsound e = record { is = rw (was-unsound t s is e); ordered = omega arith; inside = omega arith; keeps = refl }
+    locate-unsound e answer a = rw a (record { is = rw (was-unsound t s is e); ordered = omega arith; inside = omega arith; keeps = refl })
 
     module _ (used : ℕ) (e : s ≡ Sound used) (sight : Sight) (seen : sight ≡ packetOf octets) where
       pub look-sound : soundTable ipv4 t ≡ true
@@ -161,9 +161,9 @@ module _ (t octets : List ℕ) where
       unfolding lookingUp
       look-judged packet verdict f v = look-kept _ (rw (look-sound, ← seen, f, v))
 
-      pub locate-unusable : sight ≡ Unusable → LocatesFirst t octets (record { number = 12; start = 0; end = 0 }) (t ∷ octets ∷ [])
+      pub locate-unusable : sight ≡ Unusable → (answer : MatchPlace) → answer ≡ record { number = 12; start = 0; end = 0 } → LocatesFirst t octets answer (t ∷ octets ∷ [])
       unfolding matchPlace lookingUp firstMatch
-      locate-unusable f = record { is = rw (look-sound, ← seen, f); ordered = omega arith; inside = omega arith; keeps = refl }
+      locate-unusable f answer a = rw a (record { is = rw (look-sound, ← seen, f); ordered = omega arith; inside = omega arith; keeps = refl })
 
       -- a lookup that judges a packet is not refused
       judged-done : (verdict : Verdict) → 0 ≡ verdictTold verdict .number

@@ -268,22 +268,25 @@ pub fn lookup(table: &[u8], packet: &[u8]) -> Looked
     }
 }
 
+// No place, with a refusal's number.
+fn nowhere(number: u8) -> MatchPlace
+    ensures { λ r. ⌜ r ≡ record { number = number; start = 0; end = 0 } ⌝ }
+{
+    MatchPlace {
+        number,
+        start: 0,
+        end: 0,
+    }
+}
+
 // Where the first match's record stands in a table, with the lookup's number; 0 and 0 where nothing matches or the lookup is refused.
 pub fn first_match_place(table: &[u8], packet: &[u8]) -> MatchPlace
     ensures { λ r. ⌜ LocatesFirst (now (table .entry)) (now (packet .entry)) r (now (table .exit) ∷ now (packet .exit) ∷ []) ⌝ }
 {
     match table::sound_table(table) {
-        Soundness::Unsound => MatchPlace {
-            number: 10,
-            start: 0,
-            end: 0,
-        },
+        Soundness::Unsound => nowhere(10),
         Soundness::Sound(_) => match packet::packet_of(packet) {
-            Sight::Unusable => MatchPlace {
-                number: 12,
-                start: 0,
-                end: 0,
-            },
+            Sight::Unusable => nowhere(12),
             Sight::Usable(seen) => {
                 let place = table::first_place(table, seen);
                 MatchPlace {
