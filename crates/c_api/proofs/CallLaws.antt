@@ -1,0 +1,98 @@
+-- How a call comes to its word and to what it leaves in `out`: done, or refused. Assumes nothing.
+use mathlib.Core.Path.{_≡_, refl, sym, ap, subst, _∙_}
+use mathlib.Core.Bool.{cond}
+use mathlib.Core.List.{List, [], _∷_}
+use Prim.Native.Nat.{ℕ, _-_, _≤_}
+use native.Mathlib.Omega.{arith}
+use lib.Dec.{eqb}
+use lib.ListN.{getD}
+use borrow.Author.Tests.{eq-eqb, ne-eqb}
+use Rattle.octets.proofs.Cases.{by-test}
+use Rattle.rule.specs.Family.{ipv4}
+use Rattle.rule.proofs.Refusal.{Refusal, placeless}
+use Rattle.action.specs.declared.Actions.{Actions}
+use Rattle.action.specs.declared.Reading.the-variants.{Read, Unsound}
+use Rattle.action.specs.Actions.{told}
+use Rattle.packet.specs.declared.Sight.{Sight}
+use Rattle.packet.specs.declared.Sight.the-variants.{Usable, Unusable}
+use Rattle.packet.specs.Packet.{packetOf}
+use Rattle.table.specs.declared.Verdict.{Verdict}
+use Rattle.table.specs.declared.Verdict.the-variants.{Unmatched, Matched}
+use Rattle.table.specs.Walk.{entries}
+use Rattle.table.specs.Sound.{soundTable}
+use Rattle.table.specs.Lookup.{verdictFor}
+use Rattle.flowspec.specs.declared.Looked.the-variants.{Judged}
+use Rattle.flowspec.specs.declared.MatchPlace.{MatchPlace}
+use Rattle.flowspec.specs.Told.{verdictTold, lookupTold}
+use Rattle.flowspec.specs.Look.{lookedUp, lookingUp, firstMatch, matchPlace}
+use Rattle.flowspec.specs.Promise.{LocatesFirst}
+use Rattle.c_api.specs.Word.{Answer, word, wordOf, outAfter}
+use Rattle.c_api.specs.Answer.{actionsAnswer, lookupAnswer, valuesOf, verdictWords}
+use Rattle.c_api.specs.Promise.{Returns, FirstMatchCall}
+
+-- refused: `out` stays as it was
+pub refused : (number place : ℕ) (values entry : List ℕ) → Refusal number place → (result : ℕ) → result ≡ word number place
+    → Returns (record { number = number; place = place; values = values }) entry result entry
+refused number place values entry h result e =
+    let n : number ≡ 0 → ⊥ = λ z. omega arith in
+    record { is = e; out = rw (ne-eqb number 0 n) }
+
+-- done: `out` has the values
+pub done : (values entry : List ℕ) → Returns (record { number = 0; place = 0; values = values }) entry 0 values
+done values entry = record { is = refl; out = refl }
+
+-- the door's answer x is what its definition d says, and it was found to be y
+module _ {X : Type 0} (answerOf : X → Answer) (d x : X) (is : x ≡ d) (y : X) (e : x ≡ y) where
+  pub answered : (entry : List ℕ) (result : ℕ) (exit : List ℕ) → Returns (answerOf y) entry result exit → Returns (answerOf d) entry result exit
+  answered entry result exit h = subst (λ z. Returns (answerOf z) entry result exit) (sym e ∙ is) h
+
+  pub word-is : (result : ℕ) → result ≡ wordOf (answerOf y) → result ≡ wordOf (answerOf d)
+  word-is result h = subst (λ z. result ≡ wordOf (answerOf z)) (sym e ∙ is) h
+
+-- reading actions: unsound ones, and those that are read
+pub actions-refused : (entry : List ℕ) (result : ℕ) → result ≡ word 13 0 → Returns (actionsAnswer Unsound) entry result entry
+unfolding told
+actions-refused entry result h = refused 13 0 _ entry (placeless 13 (omega arith) (omega arith)) result h
+
+pub actions-done : (actions : Actions) (values entry : List ℕ) → values ≡ valuesOf actions → Returns (actionsAnswer (Read actions)) entry 0 values
+unfolding told
+actions-done actions values entry h = rw h (done (valuesOf actions) entry)
+
+-- looking up: a packet that is judged
+pub lookup-done : (verdict : Verdict) (values entry : List ℕ) → values ≡ verdictWords verdict → Returns (lookupAnswer (Judged verdict)) entry 0 values
+lookup-done Unmatched values entry h = rw h (done (verdictWords Unmatched) entry)
+lookup-done (Matched actions count) values entry h = rw h (done (verdictWords (Matched actions count)) entry)
+
+-- the words of a verdict
+pub unmatched-words : (v : Verdict) → v ≡ Unmatched → 0 ∷ 0 ∷ 0 ∷ 0 ∷ 0 ∷ 0 ∷ [] ≡ verdictWords v
+unmatched-words v e = rw e
+
+pub matched-words : (v : Verdict) (actions : Actions) (count : ℕ) (values : List ℕ) → v ≡ Matched actions count → values ≡ valuesOf actions
+    → count ∷ getD values 0 0 ∷ getD values 1 0 ∷ getD values 2 0 ∷ getD values 3 0 ∷ getD values 4 0 ∷ [] ≡ verdictWords v
+matched-words v actions count values e h = rw (e, h)
+
+-- a lookup that is refused carries place 0
+no-place : (t octets : List ℕ) → lookupTold (lookingUp t octets) .place ≡ 0
+unfolding lookingUp
+no-place t octets = by-test (soundTable ipv4 t) (λ s. rw s (go (packetOf octets))) (λ s. rw s)
+  where
+    judged : (v : Verdict) → verdictTold v .place ≡ 0
+    judged Unmatched = refl
+    judged (Matched actions count) = refl
+
+    go : (s : Sight) → lookupTold (lookedUp t s) .place ≡ 0
+    go Unusable = refl
+    go (Usable packet) = judged (verdictFor ipv4 packet (entries t))
+
+-- the first match, by its place with the lookup's number
+module _ (t octets entry : List ℕ) (place : MatchPlace) (kept : LocatesFirst t octets place) where
+  number-is : lookupTold (lookingUp t octets) .number ≡ place .number
+  unfolding matchPlace
+  number-is = rw (kept .is)
+
+  pub first-refused : (place .number ≡ 0 → ⊥) → (result : ℕ) → result ≡ word (place .number) 0 → FirstMatchCall t octets entry result entry
+  first-refused n result h = record { is = rw (number-is, no-place t octets) h; out = rw (number-is, ne-eqb (place .number) 0 n) }
+
+  pub first-done : place .number ≡ 0 → FirstMatchCall t octets entry 0 (place .start ∷ (place .end - place .start) ∷ [])
+  unfolding matchPlace
+  first-done z = record { is = rw (number-is, no-place t octets, z); out = rw (number-is, eq-eqb (place .number) 0 z, kept .is) }

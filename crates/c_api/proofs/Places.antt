@@ -1,0 +1,161 @@
+-- Every refusal of a call is a number of 01's table at a place that is at most 4,095. Assumes nothing.
+use mathlib.Core.Path.{_≡_, subst}
+use mathlib.Core.Bool.{Bool, true, false}
+use mathlib.Core.List.{List}
+use Prim.Native.Nat.{ℕ, _≤_, Ordering, Ordering·lt, Ordering·eq, Ordering·gt}
+use native.Mathlib.Omega.{arith}
+use lib.Dec.{eqb}
+use borrow.Author.Tests.{eqb-false}
+use Rattle.octets.proofs.Cases.{by-test}
+use Rattle.rule.specs.declared.Reading.{Reading}
+use Rattle.rule.specs.declared.Reading.the-variants.{Rule, Refused as NotRead}
+use Rattle.rule.specs.Family.{ipv4}
+use Rattle.rule.specs.Plain.{plain}
+use Rattle.rule.specs.Reading.{oneRule}
+use Rattle.rule.proofs.Refusal.{Refusal, placeless}
+use Rattle.rule.proofs.ReadingLaws.{SaysRule, one-says}
+use Rattle.order.specs.Key.{keysOf}
+use Rattle.order.specs.Precedence.{precedence}
+use Rattle.route.specs.Route.{soundRoutes}
+use Rattle.action.specs.declared.Reading.{Reading as ActionsReading}
+use Rattle.action.specs.declared.Reading.the-variants.{Read, Unsound}
+use Rattle.action.specs.Actions.{actionsOf}
+use Rattle.packet.specs.declared.Sight.{Sight}
+use Rattle.packet.specs.declared.Sight.the-variants.{Usable, Unusable}
+use Rattle.packet.specs.Packet.{packetOf}
+use Rattle.entry.specs.Entry.{Entry}
+use Rattle.table.specs.Sound.{soundTable}
+use Rattle.table.specs.Change.{holds, hasRoom, announced, withdrawn}
+use Rattle.flowspec.specs.declared.Comparison.{Comparison}
+use Rattle.flowspec.specs.declared.Comparison.the-variants.{First, Second, Same, Refused as NotCompared}
+use Rattle.flowspec.specs.declared.Feasibility.{Feasibility}
+use Rattle.flowspec.specs.declared.Feasibility.the-variants.{Feasible, Refused as NotFeasible}
+use Rattle.flowspec.specs.declared.Request.{Request}
+use Rattle.flowspec.specs.declared.Request.the-variants.{Announce, Refused as NotAsked}
+use Rattle.flowspec.specs.declared.Change.{Change}
+use Rattle.flowspec.specs.declared.Change.the-variants.{Done, Refused as NotChanged}
+use Rattle.flowspec.specs.declared.Looked.{Looked}
+use Rattle.flowspec.specs.declared.Looked.the-variants.{Judged, Refused as NotLookedUp}
+use Rattle.flowspec.specs.Compare.{compared, compareRead, compareRules}
+use Rattle.flowspec.specs.Feasibility.{isFeasible, judged, judgeRead, judgement}
+use Rattle.flowspec.specs.Announce.{changeOf, outcome, valueOf, askedBy, asked, announcedBy, announcing, withdrawnBy, withdrawing}
+use Rattle.flowspec.specs.Look.{lookedUp, lookingUp}
+
+-- ---- comparing ----
+
+abbrev Compares : Comparison → Type 0
+Compares (NotCompared number place) = Refusal number place
+Compares First = Unit {0}
+Compares Second = Unit {0}
+Compares Same = Unit {0}
+
+pub not-compared : (a b : List ℕ) (number place : ℕ) → compareRules a b ≡ NotCompared number place → Refusal number place
+unfolding compareRules
+not-compared a b number place e = subst Compares e (go (oneRule ipv4 a) (oneRule ipv4 b) (one-says ipv4 a) (one-says ipv4 b))
+  where
+    order : (o : Ordering) → Compares (compared o)
+    order Ordering·lt = tt
+    order Ordering·eq = tt
+    order Ordering·gt = tt
+
+    go : (r q : Reading) → SaysRule ipv4 a r → SaysRule ipv4 b q → Compares (compareRead a r b q)
+    go (NotRead number place) q h k = h
+    go (Rule start size) (NotRead number place) h k = k
+    go (Rule start size) (Rule begin length) h k = order (precedence ipv4 (valueOf a start size) (valueOf b begin length))
+
+-- ---- judging ----
+
+abbrev Judges : Feasibility → Type 0
+Judges (NotFeasible number place) = Refusal number place
+Judges Feasible = Unit {0}
+
+pub not-feasible : (relaxed : Bool) (words rule : List ℕ) (originator number place : ℕ) → judgement relaxed words rule originator ≡ NotFeasible number place
+    → Refusal number place
+unfolding judgement
+not-feasible relaxed words rule originator number place e =
+    subst Judges e
+    (by-test (soundRoutes 32 words) (λ t. rw t (go (oneRule ipv4 rule) (one-says ipv4 rule))) (λ t. rw t (placeless 9 (omega arith) (omega arith))))
+  where
+    verdict : (b : Bool) → Judges (judged b)
+    verdict true = tt
+    verdict false = placeless 8 (omega arith) (omega arith)
+
+    go : (r : Reading) → SaysRule ipv4 rule r → Judges (judgeRead relaxed words rule originator r)
+    go (NotRead number place) h = h
+    go (Rule start size) h = verdict (isFeasible relaxed words (valueOf rule start size) originator)
+
+-- ---- announcing and withdrawing ----
+
+abbrev Changes : Change → Type 0
+Changes (NotChanged number place) = Refusal number place
+Changes Done = Unit {0}
+
+changes : (number : ℕ) → number ≤ 16 → Changes (changeOf number)
+unfolding changeOf
+changes number h =
+    by-test (eqb number 0) (λ t. rw t tt) (λ t. let n = eqb-false number 0 t in rw t (placeless number (omega arith) h))
+
+abbrev Asks : Request → Type 0
+Asks (NotAsked number place) = Refusal number place
+Asks (Announce start size actions feasible) = Unit {0}
+
+module _ (relaxed : Bool) (words rule : List ℕ) (originator : ℕ) (communities : List ℕ) where
+  asks : Asks (asked relaxed words rule originator communities)
+  unfolding asked
+  asks =
+      by-test (soundRoutes 32 words) (λ t. rw t (go (oneRule ipv4 rule) (one-says ipv4 rule) (actionsOf communities)))
+      (λ t. rw t (placeless 9 (omega arith) (omega arith)))
+    where
+      go : (r : Reading) → SaysRule ipv4 rule r → (a : ActionsReading) → Asks (askedBy relaxed words rule originator r a)
+      go (NotRead number place) h a = h
+      go (Rule start size) h Unsound = placeless 13 (omega arith) (omega arith)
+      go (Rule start size) h (Read actions) = tt
+
+  pub not-announced : (t : List ℕ) (number place : ℕ) → announcing relaxed words rule originator communities t .answer ≡ NotChanged number place
+      → Refusal number place
+  unfolding announcing
+  not-announced t number place e =
+      subst Changes e
+      (by-test (soundTable ipv4 t) (λ s. rw s (go (asked relaxed words rule originator communities) asks))
+      (λ s. rw s (placeless 10 (omega arith) (omega arith))))
+    where
+      told : (n : Entry) (feasible : Bool) → announced ipv4 t n feasible .number ≤ 16
+      told n true = by-test (hasRoom ipv4 t n) (λ h. rw h (omega arith)) (λ h. rw h (omega arith))
+      told n false = omega arith
+
+      go : (r : Request) → Asks r → Changes (announcedBy t rule originator r .answer)
+      go (NotAsked number place) h = h
+      go (Announce start size actions feasible) h =
+          let n : Entry = record { originator = originator; actions = actions; value = plain (valueOf rule start size) } in
+          changes (announced ipv4 t n feasible .number) (told n feasible)
+
+pub not-withdrawn : (rule t : List ℕ) (number place : ℕ) → withdrawing rule t .answer ≡ NotChanged number place → Refusal number place
+unfolding withdrawing withdrawn
+not-withdrawn rule t number place e =
+    subst Changes e
+    (by-test (soundTable ipv4 t) (λ s. rw s (go (oneRule ipv4 rule) (one-says ipv4 rule))) (λ s. rw s (placeless 10 (omega arith) (omega arith))))
+  where
+    told : (k : List (List ℕ)) → withdrawn ipv4 t k .number ≤ 16
+    told k = by-test (holds ipv4 t k) (λ h. rw h (omega arith)) (λ h. rw h (omega arith))
+
+    go : (r : Reading) → SaysRule ipv4 rule r → Changes (withdrawnBy t rule r .answer)
+    go (NotRead number place) h = h
+    go (Rule start size) h =
+        let k = keysOf ipv4 (plain (valueOf rule start size)) in
+        changes (withdrawn ipv4 t k .number) (told k)
+
+-- ---- looking up ----
+
+abbrev Looks : Looked → Type 0
+Looks (NotLookedUp number place) = Refusal number place
+Looks (Judged verdict) = Unit {0}
+
+pub not-looked-up : (t octets : List ℕ) (number place : ℕ) → lookingUp t octets ≡ NotLookedUp number place → Refusal number place
+unfolding lookingUp
+not-looked-up t octets number place e =
+    subst Looks e
+    (by-test (soundTable ipv4 t) (λ s. rw s (go (packetOf octets))) (λ s. rw s (placeless 10 (omega arith) (omega arith))))
+  where
+    go : (s : Sight) → Looks (lookedUp t s)
+    go Unusable = placeless 12 (omega arith) (omega arith)
+    go (Usable packet) = tt

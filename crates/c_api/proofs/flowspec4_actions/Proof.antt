@@ -1,0 +1,44 @@
+-- The actions that the communities tell; unsound ones are 13.
+use Rattle.c_api.specs.Answer.{actionsAnswer}
+use Rattle.c_api.proofs.CallLaws.{answered, actions-refused, actions-done}
+use borrow.Author.Needs.{needs}
+use Rattle.c_api.proofs.flowspec4_actions.Statement.{statement}
+use Rattle.c_api.proofs.flowspec4_actions.Tie as tie
+use Rattle.c_api.proofs.flowspec4_actions.Reads as reads
+use Rattle.c_api.proofs.flowspec4_actions.Lts as lts
+use Rattle.c_api.proofs.values_of.Reads as values-of-reads
+use Rattle.c_api.proofs.word_of.Reads as word-of-reads
+use Rattle.flowspec.proofs.read_actions.Reads as read-actions-reads
+
+read-actions-requires : tie.Need-read-actions-requires
+read-actions-requires c κs = search needs
+
+enum-told : tie.Need-enum-told
+enum-told c = search needs
+
+word-of-requires : tie.Need-word-of-requires
+word-of-requires c κs = search needs
+
+enum-known-actions : tie.Need-enum-known-actions
+enum-known-actions c = search needs
+
+values-of-requires : tie.Need-values-of-requires
+values-of-requires c κs = search needs
+
+returns : tie.Need-returns
+returns c = answered actionsAnswer _ _ (c .before .before .before .read-actions .ensures .is) _ (c .before .enum-told .given .1) _ _ _ (actions-refused _ _ (c .word-of .ensures))
+
+returns-2 : tie.Need-returns-2
+returns-2 c = answered actionsAnswer _ _ (c .before .before .before .before .read-actions .ensures .is) _ (c .before .before .actions .given .1) _ _ _ (actions-done _ _ _ (c .values-of .ensures))
+
+pub flowspec4-actions-spec : {M : Type 1} → statement M
+flowspec4-actions-spec =
+    tie.close
+    (tie.spec
+    read-actions-requires
+    enum-told
+    word-of-requires
+    enum-known-actions
+    values-of-requires
+    returns
+    returns-2)

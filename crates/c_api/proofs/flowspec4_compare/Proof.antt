@@ -1,0 +1,61 @@
+-- The door's answer as a word and in `out`; a refusal is one of 01's table.
+use mathlib.Core.Path.{sym, _∙_}
+use Rattle.rule.proofs.Refusal.{Refusal}
+use Rattle.c_api.specs.Answer.{compareAnswer}
+use Rattle.c_api.proofs.Places.{not-compared}
+use Rattle.c_api.proofs.CallLaws.{refused, done, answered}
+use borrow.Author.Needs.{needs}
+use Rattle.c_api.proofs.flowspec4_compare.Statement.{statement}
+use Rattle.c_api.proofs.flowspec4_compare.Tie as tie
+use Rattle.c_api.proofs.flowspec4_compare.Reads as reads
+use Rattle.c_api.proofs.flowspec4_compare.Lts as lts
+use Rattle.c_api.proofs.word_of.Reads as word-of-reads
+use Rattle.flowspec.proofs.compare_rules.Reads as compare-rules-reads
+
+refusal : (c : tie.After-known-told) → Refusal (c .before .number .given .0 .0) (c .before .number .given .0 .1 .0)
+refusal c = not-compared _ _ _ _ (sym (c .before .before .before .compare-rules .ensures .is) ∙ c .before .number .given .1)
+
+compare-rules-requires : tie.Need-compare-rules-requires
+compare-rules-requires c κs = search needs
+
+enum-known-number : tie.Need-enum-known-number
+enum-known-number c = search needs
+
+word-of-requires : tie.Need-word-of-requires
+word-of-requires c κs = refusal c .near
+
+enum-told : tie.Need-enum-told
+enum-told c = search needs
+
+enum-told-2 : tie.Need-enum-told-2
+enum-told-2 c = search needs
+
+enum-told-3 : tie.Need-enum-told-3
+enum-told-3 c = search needs
+
+returns : tie.Need-returns
+returns c = answered compareAnswer _ _ (c .before .before .before .before .compare-rules .ensures .is) _ (c .before .before .number .given .1) _ _ _ (refused _ _ _ _ (refusal (c .before)) _ (c .word-of .ensures))
+
+returns-2 : tie.Need-returns-2
+returns-2 c = answered compareAnswer _ _ (c .before .before .before .compare-rules .ensures .is) _ (c .before .enum-told .given .1) _ _ _ (done _ _)
+
+returns-3 : tie.Need-returns-3
+returns-3 c = answered compareAnswer _ _ (c .before .before .before .compare-rules .ensures .is) _ (c .before .enum-told2 .given .1) _ _ _ (done _ _)
+
+returns-4 : tie.Need-returns-4
+returns-4 c = answered compareAnswer _ _ (c .before .before .before .compare-rules .ensures .is) _ (c .before .enum-told3 .given .1) _ _ _ (done _ _)
+
+pub flowspec4-compare-spec : {M : Type 1} → statement M
+flowspec4-compare-spec =
+    tie.close
+    (tie.spec
+    compare-rules-requires
+    enum-known-number
+    word-of-requires
+    enum-told
+    enum-told-2
+    enum-told-3
+    returns
+    returns-2
+    returns-3
+    returns-4)

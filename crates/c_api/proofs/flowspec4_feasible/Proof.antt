@@ -1,0 +1,39 @@
+-- The door's answer as a word; a refusal is one of 01's table.
+use mathlib.Core.Path.{refl, sym, _∙_}
+use Rattle.rule.proofs.Refusal.{Refusal}
+use Rattle.c_api.specs.Answer.{feasibleAnswer}
+use Rattle.c_api.proofs.Places.{not-feasible}
+use Rattle.c_api.proofs.CallLaws.{word-is}
+use borrow.Author.Needs.{needs}
+use Rattle.c_api.proofs.flowspec4_feasible.Statement.{statement}
+use Rattle.c_api.proofs.flowspec4_feasible.Tie as tie
+use Rattle.c_api.proofs.flowspec4_feasible.Reads as reads
+use Rattle.c_api.proofs.flowspec4_feasible.Lts as lts
+use Rattle.c_api.proofs.word_of.Reads as word-of-reads
+use Rattle.flowspec.proofs.judge_rule.Reads as judge-rule-reads
+
+refusal : (c : tie.After-known-told) → Refusal (c .before .number .given .0 .0) (c .before .number .given .0 .1 .0)
+refusal c = not-feasible _ _ _ _ _ _ (sym (c .before .before .before .judge-rule .ensures .is) ∙ c .before .number .given .1)
+
+judge-rule-requires : tie.Need-judge-rule-requires
+judge-rule-requires c κs = search needs
+
+enum-known-number : tie.Need-enum-known-number
+enum-known-number c = search needs
+
+word-of-requires : tie.Need-word-of-requires
+word-of-requires c κs = refusal c .near
+
+enum-told : tie.Need-enum-told
+enum-told c = search needs
+
+returns : tie.Need-returns
+returns c = record { is = word-is feasibleAnswer _ _ (c .before .before .before .before .judge-rule .ensures .is) _ (c .before .before .number .given .1) _ (c .word-of .ensures) }
+
+returns-2 : tie.Need-returns-2
+returns-2 c = record { is = word-is feasibleAnswer _ _ (c .before .before .judge-rule .ensures .is) _ (c .enum-told .given .1) _ refl }
+
+pub flowspec4-feasible-spec : {M : Type 1} → statement M
+flowspec4-feasible-spec =
+    tie.close
+    (tie.spec judge-rule-requires enum-known-number word-of-requires enum-told returns returns-2)

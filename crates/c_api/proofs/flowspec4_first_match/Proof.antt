@@ -1,0 +1,28 @@
+-- The place of the first match, with the lookup's number.
+use Rattle.c_api.proofs.CallLaws.{first-refused, first-done}
+use borrow.Author.Needs.{needs}
+use Rattle.c_api.proofs.flowspec4_first_match.Statement.{statement}
+use Rattle.c_api.proofs.flowspec4_first_match.Tie as tie
+use Rattle.c_api.proofs.flowspec4_first_match.Reads as reads
+use Rattle.c_api.proofs.flowspec4_first_match.Lts as lts
+use Rattle.c_api.proofs.word_of.Reads as word-of-reads
+use Rattle.flowspec.proofs.first_match_place.Reads as first-match-place-reads
+
+first-match-place-requires : tie.Need-first-match-place-requires
+first-match-place-requires c κs = search needs
+
+word-of-requires : tie.Need-word-of-requires
+word-of-requires c κs = search needs
+
+returns : tie.Need-returns
+returns c = first-refused _ _ _ _ (c .before .before .before .first-match-place .ensures) (c .before .if1 .taken) _ (c .word-of .ensures)
+
+sub-length : tie.Need-sub-length
+sub-length c = search needs
+
+returns-2 : tie.Need-returns-2
+returns-2 c = first-done _ _ _ _ (c .before .before .before .before .first-match-place .ensures) (c .before .before .if1 .left)
+
+pub flowspec4-first-match-spec : {M : Type 1} → statement M
+flowspec4-first-match-spec =
+    tie.close (tie.spec first-match-place-requires word-of-requires returns sub-length returns-2)

@@ -1,0 +1,50 @@
+-- The door's answer as a word and in `out`; a refusal is one of 01's table.
+use mathlib.Core.Path.{sym, _∙_}
+use Rattle.rule.proofs.Refusal.{Refusal}
+use Rattle.c_api.specs.Answer.{lookupAnswer}
+use Rattle.c_api.proofs.Places.{not-looked-up}
+use Rattle.c_api.proofs.CallLaws.{refused, answered, lookup-done}
+use borrow.Author.Needs.{needs}
+use Rattle.c_api.proofs.flowspec4_lookup.Statement.{statement}
+use Rattle.c_api.proofs.flowspec4_lookup.Tie as tie
+use Rattle.c_api.proofs.flowspec4_lookup.Reads as reads
+use Rattle.c_api.proofs.flowspec4_lookup.Lts as lts
+use Rattle.c_api.proofs.word_of.Reads as word-of-reads
+use Rattle.c_api.proofs.words_of.Reads as words-of-reads
+use Rattle.flowspec.proofs.lookup.Reads as lookup-reads
+
+refusal : (c : tie.After-known-told) → Refusal (c .before .number .given .0 .0) (c .before .number .given .0 .1 .0)
+refusal c = not-looked-up _ _ _ _ (sym (c .before .before .before .lookup .ensures .is) ∙ c .before .number .given .1)
+
+lookup-requires : tie.Need-lookup-requires
+lookup-requires c κs = search needs
+
+enum-known-number : tie.Need-enum-known-number
+enum-known-number c = search needs
+
+word-of-requires : tie.Need-word-of-requires
+word-of-requires c κs = refusal c .near
+
+enum-known-verdict : tie.Need-enum-known-verdict
+enum-known-verdict c = search needs
+
+words-of-requires : tie.Need-words-of-requires
+words-of-requires c κs = search needs
+
+returns : tie.Need-returns
+returns c = answered lookupAnswer _ _ (c .before .before .before .before .lookup .ensures .is) _ (c .before .before .number .given .1) _ _ _ (refused _ _ _ _ (refusal (c .before)) _ (c .word-of .ensures))
+
+returns-2 : tie.Need-returns-2
+returns-2 c = answered lookupAnswer _ _ (c .before .before .before .before .lookup .ensures .is) _ (c .before .before .verdict .given .1) _ _ _ (lookup-done (c .before .before .verdict .given .0 .0) _ _ (c .words-of .ensures))
+
+pub flowspec4-lookup-spec : {M : Type 1} → statement M
+flowspec4-lookup-spec =
+    tie.close
+    (tie.spec
+    lookup-requires
+    enum-known-number
+    word-of-requires
+    enum-known-verdict
+    words-of-requires
+    returns
+    returns-2)

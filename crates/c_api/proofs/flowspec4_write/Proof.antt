@@ -1,0 +1,54 @@
+-- The door's answer as a word and in `out`; a refusal is one of 01's table.
+use mathlib.Core.Path.{sym, _∙_}
+use Rattle.rule.specs.Family.{ipv4}
+use Rattle.rule.proofs.Refusal.{Refusal}
+use Rattle.rule.proofs.WritingLaws.{not-written}
+use Rattle.c_api.specs.Answer.{writeAnswer}
+use Rattle.c_api.proofs.CallLaws.{refused, done, answered}
+use borrow.Author.Needs.{needs}
+use Rattle.c_api.proofs.flowspec4_write.Statement.{statement}
+use Rattle.c_api.proofs.flowspec4_write.Tie as tie
+use Rattle.c_api.proofs.flowspec4_write.Reads as reads
+use Rattle.c_api.proofs.flowspec4_write.Lts as lts
+use Rattle.c_api.proofs.word_of.Reads as word-of-reads
+use Rattle.flowspec.proofs.write_rule.Reads as write-rule-reads
+
+refusal : (c : tie.After-known-told) → Refusal (c .before .number .given .0 .0) (c .before .number .given .0 .1 .0)
+refusal c = not-written ipv4 _ _ _ _ (sym (c .before .before .before .before .before .write-rule .ensures .is) ∙ c .before .number .given .1)
+
+write-rule-requires : tie.Need-write-rule-requires
+write-rule-requires c κs = search needs
+
+enum-known-number : tie.Need-enum-known-number
+enum-known-number c = search needs
+
+word-of-requires : tie.Need-word-of-requires
+word-of-requires c κs = refusal c .near
+
+enum-known-octets : tie.Need-enum-known-octets
+enum-known-octets c = search needs
+
+same-length : tie.Need-same-length
+same-length c = search needs
+
+returns : tie.Need-returns
+returns c = record { returns = answered writeAnswer _ _ (c .before .before .before .before .before .before .write-rule .ensures .is) _ (c .before .before .number .given .1) _ _ _ (refused _ _ _ _ (refusal (c .before)) _ (c .word-of .ensures)); leaves = c .before .before .before .before .before .before .write-rule .ensures .leaves }
+
+same-length-2 : tie.Need-same-length-2
+same-length-2 c = search needs
+
+returns-2 : tie.Need-returns-2
+returns-2 c = record { returns = answered writeAnswer _ _ (c .before .before .before .before .before .before .write-rule .ensures .is) _ (c .before .before .octets .given .1) _ _ _ (done _ _); leaves = c .before .before .before .before .before .before .write-rule .ensures .leaves }
+
+pub flowspec4-write-spec : {M : Type 1} → statement M
+flowspec4-write-spec =
+    tie.close
+    (tie.spec
+    write-rule-requires
+    enum-known-number
+    word-of-requires
+    enum-known-octets
+    same-length
+    returns
+    same-length-2
+    returns-2)

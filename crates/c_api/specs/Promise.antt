@@ -1,0 +1,63 @@
+-- What each call promises, whatever octets it is lent: the word that it returns, and what each buffer lent to be changed and `out` hold
+-- at exit; what is lent to be read alone cannot be changed. No call has a `requires`. That no second result satisfies a promise is shown in
+-- proofs/Unique.antt. The answers are the door's, by its own definitions.
+use Prim.Native.Nat.{ℕ}
+use mathlib.Core.Path.{_≡_}
+use mathlib.Core.List.{List}
+use lib.ListN.{length}
+use Rattle.rule.specs.Family.{ipv4}
+use Rattle.rule.specs.Reading.{oneRule}
+use Rattle.rule.specs.Writing.{writing, afterWriting}
+use Rattle.action.specs.Actions.{actionsOf}
+use Rattle.flowspec.specs.Compare.{compareRules}
+use Rattle.flowspec.specs.Feasibility.{judgement}
+use Rattle.flowspec.specs.Announce.{announcing, withdrawing}
+use Rattle.flowspec.specs.Look.{lookingUp}
+use Rattle.c_api.specs.Word.{Answer, wordOf, outAfter}
+use Rattle.c_api.specs.Answer.{isOn, readAnswer, writeAnswer, compareAnswer, feasibleAnswer, changeAnswer, actionsAnswer, lookupAnswer, firstMatchAnswer}
+
+-- What a call returns, and what `out` holds when the call begins and when it ends.
+pub record Returns (answer : Answer) (entry : List ℕ) (result : ℕ) (exit : List ℕ) : Type 0 where
+  pub is : result ≡ wordOf answer
+  pub out : exit ≡ outAfter answer entry
+
+-- flowspec4_read: refusals 1 to 7, then 15.
+abbrev pub ReadCall : List ℕ → List ℕ → ℕ → List ℕ → Type 0
+ReadCall rule entry result exit = Returns (readAnswer (oneRule ipv4 rule)) entry result exit
+
+-- flowspec4_write: refusals 1 to 7, then 16; on success the front of the buffer is filled and the rest kept, and a refusal changes no
+-- octet.
+pub record WriteCall (value buffer entry : List ℕ) (result : ℕ) (left exit : List ℕ) : Type 0 where
+  pub returns : Returns (writeAnswer (writing ipv4 value (length buffer))) entry result exit
+  pub leaves : left ≡ afterWriting ipv4 value buffer
+
+-- flowspec4_compare: refusals 1 to 7 and 15 of the first rule, then of the second.
+abbrev pub CompareCall : List ℕ → List ℕ → List ℕ → ℕ → List ℕ → Type 0
+CompareCall first second entry result exit = Returns (compareAnswer (compareRules first second)) entry result exit
+
+-- flowspec4_feasible: refusals 9, 1 to 7, 15, 8.
+pub record FeasibleCall (routes : List ℕ) (setting : ℕ) (rule : List ℕ) (originator result : ℕ) : Type 0 where
+  pub is : result ≡ wordOf (feasibleAnswer (judgement (isOn setting) routes rule originator))
+
+-- flowspec4_actions: refusal 13.
+abbrev pub ActionsCall : List ℕ → List ℕ → ℕ → List ℕ → Type 0
+ActionsCall communities entry result exit = Returns (actionsAnswer (actionsOf communities)) entry result exit
+
+-- flowspec4_announce: refusals 10, 9, 1 to 7, 15, 13, 8, 11; of these 8 alone changes the table, where the rule was held.
+pub record AnnounceCall (table routes : List ℕ) (setting : ℕ) (rule : List ℕ) (originator : ℕ) (communities : List ℕ) (result : ℕ) (left : List ℕ)
+    : Type 0 where
+  pub is : result ≡ wordOf (changeAnswer (announcing (isOn setting) routes rule originator communities table .answer))
+  pub leaves : left ≡ announcing (isOn setting) routes rule originator communities table .table
+
+-- flowspec4_withdraw: refusals 10, 1 to 7, 15, 14, none of which changes an octet.
+pub record WithdrawCall (table rule : List ℕ) (result : ℕ) (left : List ℕ) : Type 0 where
+  pub is : result ≡ wordOf (changeAnswer (withdrawing rule table .answer))
+  pub leaves : left ≡ withdrawing rule table .table
+
+-- flowspec4_lookup: refusals 10, 12.
+abbrev pub LookupCall : List ℕ → List ℕ → List ℕ → ℕ → List ℕ → Type 0
+LookupCall table packet entry result exit = Returns (lookupAnswer (lookingUp table packet)) entry result exit
+
+-- flowspec4_first_match: refusals 10, 12.
+abbrev pub FirstMatchCall : List ℕ → List ℕ → List ℕ → ℕ → List ℕ → Type 0
+FirstMatchCall table packet entry result exit = Returns (firstMatchAnswer table packet) entry result exit

@@ -1,0 +1,196 @@
+// The public calls for C and Rust: numbers and slices only. A slice is a pointer and a length, and `&mut [u64; 2]` is a `uint64_t out[2]`.
+// Each call returns one word (specs/Word.antt), has no `requires`, and promises in specs/Promise.antt what the door's call does.
+ghost use mathlib.Core.Path.{_≡_};
+ghost use Prim.Native.Nat.{_≤_};
+ghost use Rattle.c_api.specs.Word.{word};
+ghost use Rattle.c_api.specs.Answer.{valuesOf, verdictWords};
+ghost use Rattle.c_api.specs.Promise.{ReadCall, WriteCall, CompareCall, FeasibleCall, ActionsCall, AnnounceCall, WithdrawCall, LookupCall, FirstMatchCall};
+use action::Actions;
+use flowspec::Change;
+use flowspec::Comparison;
+use flowspec::Feasibility;
+use flowspec::Looked;
+use rule::Reading;
+use rule::Writing;
+use table::Verdict;
+
+// The word of a refusal: its number in the low 32 bits, its place in the high 32.
+fn word_of(number: u8, place: usize) -> u64
+    requires { ⌜ place ≤ 4095 ⌝ }
+    ensures { λ r. ⌜ r ≡ word number place ⌝ }
+{
+    number as u64 + place as u64 * 0x1_0000_0000
+}
+
+// The values of actions, as in a record: flags, DSCP, byte rate, packet rate, redirect.
+fn values_of(actions: Actions) -> [u64; 5]
+    ensures { λ r. ⌜ r ≡ valuesOf actions ⌝ }
+{
+    let flags = entry::flags_of(actions);
+    [
+        flags as u64,
+        actions.marking.number,
+        actions.bytes.number,
+        actions.packets.number,
+        actions.redirect.number,
+    ]
+}
+
+// The words of a verdict: the count and the merged actions' values, all 0 where no rule matches.
+fn words_of(verdict: Verdict) -> [u64; 6]
+    ensures { λ r. ⌜ r ≡ verdictWords verdict ⌝ }
+{
+    match verdict {
+        Verdict::Unmatched => [0; 6],
+        Verdict::Matched { actions, count } => {
+            let values = values_of(actions);
+            [
+                count as u64,
+                values[0],
+                values[1],
+                values[2],
+                values[3],
+                values[4],
+            ]
+        }
+    }
+}
+
+// Reads one rule. out: where its value starts, and its length.
+#[no_mangle]
+pub extern "C" fn flowspec4_read(rule: &[u8], out: &mut [u64; 2]) -> u64
+    ensures { λ r. ⌜ ReadCall (now (rule .entry)) (now (out .entry)) r (now (out .exit)) ⌝ }
+{
+    match flowspec::read_rule(rule) {
+        Reading::Refused { number, place } => word_of(number, place),
+        Reading::Rule { start, size } => {
+            *out = [start as u64, size as u64];
+            0
+        }
+    }
+}
+
+// Writes one rule from its value to the front of a buffer. out: how many octets were written.
+#[no_mangle]
+pub extern "C" fn flowspec4_write(value: &[u8], buffer: &mut [u8], out: &mut [u64; 1]) -> u64
+    ensures { λ r. ⌜ WriteCall (now (value .entry)) (now (buffer .entry)) (now (out .entry)) r (now (buffer .exit)) (now (out .exit)) ⌝ }
+{
+    match flowspec::write_rule(value, buffer) {
+        Writing::Refused { number, place } => word_of(number, place),
+        Writing::Written(octets) => {
+            *out = [octets as u64];
+            0
+        }
+    }
+}
+
+// Compares two rules by their precedence. out: 1 where the first comes first, 2 where the second does, 3 where they are the same rule.
+#[no_mangle]
+pub extern "C" fn flowspec4_compare(first: &[u8], second: &[u8], out: &mut [u64; 1]) -> u64
+    ensures { λ r. ⌜ CompareCall (now (first .entry)) (now (second .entry)) (now (out .entry)) r (now (out .exit)) ⌝ }
+{
+    match flowspec::compare_rules(first, second) {
+        Comparison::Refused { number, place } => word_of(number, place),
+        Comparison::First => {
+            *out = [1];
+            0
+        }
+        Comparison::Second => {
+            *out = [2];
+            0
+        }
+        Comparison::Same => {
+            *out = [3];
+            0
+        }
+    }
+}
+
+// Judges whether a rule is feasible for an originator by the lent routes; a setting other than 0 allows rules with no destination.
+#[no_mangle]
+pub extern "C" fn flowspec4_feasible(
+    routes: &[u32],
+    setting: u32,
+    rule: &[u8],
+    originator: u32,
+) -> u64
+    ensures { λ r. ⌜ FeasibleCall (now (routes .entry)) setting (now (rule .entry)) originator r ⌝ }
+{
+    let relaxed = setting != 0;
+    match flowspec::judge_rule(relaxed, routes, rule, originator) {
+        Feasibility::Refused { number, place } => word_of(number, place),
+        Feasibility::Feasible => 0,
+    }
+}
+
+// Reads the filtering actions of a rule's communities. out: flags, DSCP, byte rate, packet rate, redirect.
+#[no_mangle]
+pub extern "C" fn flowspec4_actions(communities: &[u8], out: &mut [u64; 5]) -> u64
+    ensures { λ r. ⌜ ActionsCall (now (communities .entry)) (now (out .entry)) r (now (out .exit)) ⌝ }
+{
+    match flowspec::read_actions(communities) {
+        action::Reading::Unsound => word_of(13, 0),
+        action::Reading::Read(actions) => {
+            *out = values_of(actions);
+            0
+        }
+    }
+}
+
+// Announces a rule with its actions to a table; a setting other than 0 allows rules with no destination.
+#[no_mangle]
+pub extern "C" fn flowspec4_announce(
+    table: &mut [u8],
+    routes: &[u32],
+    setting: u32,
+    rule: &[u8],
+    originator: u32,
+    communities: &[u8],
+) -> u64
+    ensures { λ r. ⌜ AnnounceCall (now (table .entry)) (now (routes .entry)) setting (now (rule .entry)) originator (now (communities .entry)) r (now (table .exit)) ⌝ }
+{
+    let relaxed = setting != 0;
+    match flowspec::announce(table, relaxed, routes, rule, originator, communities) {
+        Change::Refused { number, place } => word_of(number, place),
+        Change::Done => 0,
+    }
+}
+
+// Withdraws a rule from a table.
+#[no_mangle]
+pub extern "C" fn flowspec4_withdraw(table: &mut [u8], rule: &[u8]) -> u64
+    ensures { λ r. ⌜ WithdrawCall (now (table .entry)) (now (rule .entry)) r (now (table .exit)) ⌝ }
+{
+    match flowspec::withdraw(table, rule) {
+        Change::Refused { number, place } => word_of(number, place),
+        Change::Done => 0,
+    }
+}
+
+// Looks a packet up in a table. out: the count, 0 where unmatched, and the merged actions' values, 0 where unmatched.
+#[no_mangle]
+pub extern "C" fn flowspec4_lookup(table: &[u8], packet: &[u8], out: &mut [u64; 6]) -> u64
+    ensures { λ r. ⌜ LookupCall (now (table .entry)) (now (packet .entry)) (now (out .entry)) r (now (out .exit)) ⌝ }
+{
+    match flowspec::lookup(table, packet) {
+        Looked::Refused { number, place } => word_of(number, place),
+        Looked::Judged(verdict) => {
+            *out = words_of(verdict);
+            0
+        }
+    }
+}
+
+// Locates the first match's record. out: its start in the table and its length, 0 and 0 where nothing matches.
+#[no_mangle]
+pub extern "C" fn flowspec4_first_match(table: &[u8], packet: &[u8], out: &mut [u64; 2]) -> u64
+    ensures { λ r. ⌜ FirstMatchCall (now (table .entry)) (now (packet .entry)) (now (out .entry)) r (now (out .exit)) ⌝ }
+{
+    let found = flowspec::first_match_place(table, packet);
+    if found.number != 0 {
+        return word_of(found.number, 0);
+    }
+    let length = found.end - found.start;
+    *out = [found.start as u64, length as u64];
+    0
+}
