@@ -1,14 +1,16 @@
 -- How a call comes to its word and to what it leaves in `out`: done, or refused. Assumes nothing.
-use mathlib.Core.Path.{_≡_, refl, sym, ap, subst, _∙_}
-use mathlib.Core.Bool.{cond}
+use mathlib.Core.Path.{_≡_, refl, sym, subst, _∙_}
 use mathlib.Core.List.{List, [], _∷_}
 use Prim.Native.Nat.{ℕ, _-_, _≤_}
 use native.Mathlib.Omega.{arith}
-use lib.Dec.{eqb}
 use lib.ListN.{getD}
 use borrow.Author.Tests.{eq-eqb, ne-eqb}
 use Rattle.octets.proofs.Cases.{by-test}
 use Rattle.rule.specs.Family.{ipv4}
+use Rattle.rule.specs.declared.Reading.{Reading}
+use Rattle.rule.specs.declared.Reading.the-variants.{Rule, Refused as NotRead}
+use Rattle.rule.specs.Reading.{oneRule}
+use Rattle.rule.proofs.ReadingLaws.{one-refused}
 use Rattle.rule.proofs.Refusal.{Refusal, placeless}
 use Rattle.action.specs.declared.Actions.{Actions}
 use Rattle.action.specs.declared.Reading.the-variants.{Read, Unsound}
@@ -24,11 +26,11 @@ use Rattle.table.specs.Lookup.{verdictFor}
 use Rattle.flowspec.specs.declared.Looked.the-variants.{Judged}
 use Rattle.flowspec.specs.declared.MatchPlace.{MatchPlace}
 use Rattle.flowspec.specs.Told.{verdictTold, lookupTold}
-use Rattle.flowspec.specs.Look.{lookedUp, lookingUp, firstMatch, matchPlace}
-use Rattle.flowspec.specs.Promise.{LocatesFirst}
-use Rattle.c_api.specs.Word.{Answer, word, wordOf, outAfter}
-use Rattle.c_api.specs.Answer.{actionsAnswer, lookupAnswer, valuesOf, verdictWords}
-use Rattle.c_api.specs.Promise.{Returns, FirstMatchCall}
+use Rattle.flowspec.specs.Look.{lookedUp, lookingUp, matchPlace}
+use Rattle.flowspec.specs.Promise.{ReadsOne, LocatesFirst}
+use Rattle.c_api.specs.Word.{Answer, word, wordOf}
+use Rattle.c_api.specs.Answer.{readAnswer, actionsAnswer, lookupAnswer, valuesOf, verdictWords}
+use Rattle.c_api.specs.Promise.{Returns, ReadCall, FirstMatchCall}
 
 -- refused: `out` stays as it was
 pub refused : (number place : ℕ) (values entry : List ℕ) → Refusal number place → (result : ℕ) → result ≡ word number place
@@ -48,6 +50,23 @@ module _ {X : Type 0} (answerOf : X → Answer) (d x : X) (is : x ≡ d) (y : X)
 
   pub word-is : (result : ℕ) → result ≡ wordOf (answerOf y) → result ≡ wordOf (answerOf d)
   word-is result h = subst (λ z. result ≡ wordOf (answerOf z)) (sym e ∙ is) h
+
+-- reading one rule
+module _ (rule : List ℕ) (r : Reading) (kept : ReadsOne rule r) where
+  pub read-refusal : (number place : ℕ) → r ≡ NotRead number place → Refusal number place
+  read-refusal number place e = one-refused ipv4 rule number place (sym (kept .is) ∙ e)
+
+  pub read-near : (number place : ℕ) → r ≡ NotRead number place → place ≤ 4095
+  read-near number place e = read-refusal number place e .near
+
+  pub read-refused : (entry : List ℕ) (number place result : ℕ) → r ≡ NotRead number place → result ≡ word number place → ReadCall rule entry result entry
+  read-refused entry number place result e h =
+      answered readAnswer (oneRule ipv4 rule) r (kept .is) (NotRead number place) e entry result entry
+      (refused number place (0 ∷ 0 ∷ []) entry (read-refusal number place e) result h)
+
+  pub read-done : (entry : List ℕ) (start size : ℕ) → r ≡ Rule start size → ReadCall rule entry 0 (start ∷ size ∷ [])
+  read-done entry start size e =
+      answered readAnswer (oneRule ipv4 rule) r (kept .is) (Rule start size) e entry 0 (start ∷ size ∷ []) (done (start ∷ size ∷ []) entry)
 
 -- reading actions: unsound ones, and those that are read
 pub actions-refused : (entry : List ℕ) (result : ℕ) → result ≡ word 13 0 → Returns (actionsAnswer Unsound) entry result entry

@@ -1,3 +1,5 @@
 pub mod Places
+pub mod Halves
 pub mod CallLaws
+pub mod Verdicts
 pub mod Unique

@@ -38,7 +38,7 @@ use Rattle.flowspec.specs.declared.Looked.{Looked}
 use Rattle.flowspec.specs.declared.Looked.the-variants.{Judged, Refused as NotLookedUp}
 use Rattle.flowspec.specs.Compare.{compared, compareRead, compareRules}
 use Rattle.flowspec.specs.Feasibility.{isFeasible, judged, judgeRead, judgement}
-use Rattle.flowspec.specs.Announce.{changeOf, outcome, valueOf, askedBy, asked, announcedBy, announcing, withdrawnBy, withdrawing}
+use Rattle.flowspec.specs.Announce.{changeOf, valueOf, askedBy, asked, announcedBy, announcing, withdrawnBy, withdrawing}
 use Rattle.flowspec.specs.Look.{lookedUp, lookingUp}
 
 -- ---- comparing ----

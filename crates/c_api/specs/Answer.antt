@@ -24,48 +24,43 @@ isOn setting = not (eqb setting 0)
 
 -- Start and length of the value.
 abbrev pub readAnswer : Reading → Answer
-readAnswer r = record { number = readingTold r .number; place = readingTold r .place; values = readingTold r .start ∷ readingTold r .size ∷ [] }
+readAnswer r = let t = readingTold r in record { number = t .number; place = t .place; values = t .start ∷ t .size ∷ [] }
 
 -- How many octets were written.
 abbrev pub writeAnswer : Writing → Answer
-writeAnswer w = record { number = writingTold w .number; place = writingTold w .place; values = writingTold w .octets ∷ [] }
+writeAnswer w = let t = writingTold w in record { number = t .number; place = t .place; values = t .octets ∷ [] }
 
 -- 1 where the first rule comes first, 2 where the second does, 3 where they are the same rule.
 abbrev pub compareAnswer : Comparison → Answer
-compareAnswer c = record { number = comparisonTold c .number; place = comparisonTold c .place; values = comparisonTold c .order ∷ [] }
+compareAnswer c = let t = comparisonTold c in record { number = t .number; place = t .place; values = t .order ∷ [] }
 
--- No values.
+-- No value: the call has no `out`.
 abbrev pub feasibleAnswer : Feasibility → Answer
-feasibleAnswer f = record { number = feasibilityTold f .number; place = feasibilityTold f .place; values = [] }
+feasibleAnswer f = let t = feasibilityTold f in record { number = t .number; place = t .place; values = [] }
 
--- No values.
+-- The same of a change.
 abbrev pub changeAnswer : Change → Answer
-changeAnswer c = record { number = changeTold c .number; place = changeTold c .place; values = [] }
+changeAnswer c = let t = changeTold c in record { number = t .number; place = t .place; values = [] }
 
 -- Flags, DSCP, byte rate, packet rate, redirect; the refusal, 13, carries place 0.
 abbrev pub actionsAnswer : ActionsReading → Answer
 actionsAnswer r =
-    record {
-      number = told r .number;
-      place = 0;
-      values = told r .flags ∷ told r .dscp ∷ told r .byteRate ∷ told r .packetRate ∷ told r .redirect ∷ [];
-    }
+    let t = told r in
+    record { number = t .number; place = 0; values = t .flags ∷ t .dscp ∷ t .byteRate ∷ t .packetRate ∷ t .redirect ∷ [] }
 
--- The count, and then as of actions.
+-- The count, 0 where unmatched, and then as of actions, all 0 where unmatched.
 abbrev pub toldWords : LookupTold → List ℕ
 toldWords t = t .count ∷ t .flags ∷ t .dscp ∷ t .byteRate ∷ t .packetRate ∷ t .redirect ∷ []
 
 abbrev pub lookupAnswer : Looked → Answer
-lookupAnswer l = record { number = lookupTold l .number; place = lookupTold l .place; values = toldWords (lookupTold l) }
+lookupAnswer l = let t = lookupTold l in record { number = t .number; place = t .place; values = toldWords t }
 
--- The lookup's number and place; start and length of the first match's record.
+-- The lookup's number and place; start and length of the first match's record in the table, 0 and 0 where nothing matches.
 abbrev pub firstMatchAnswer : List ℕ → List ℕ → Answer
 firstMatchAnswer table packet =
-    record {
-      number = lookupTold (lookingUp table packet) .number;
-      place = lookupTold (lookingUp table packet) .place;
-      values = firstMatch table packet .start ∷ (firstMatch table packet .end - firstMatch table packet .start) ∷ [];
-    }
+    let t = lookupTold (lookingUp table packet) in
+    let part = firstMatch table packet in
+    record { number = t .number; place = t .place; values = part .start ∷ (part .end - part .start) ∷ [] }
 
 -- What the code's helpers give: the values of actions, and the words of a verdict.
 abbrev pub valuesOf : Actions → List ℕ

@@ -3,7 +3,7 @@
 ghost use mathlib.Core.Path.{_≡_};
 ghost use Prim.Native.Nat.{_≤_};
 ghost use Rattle.c_api.specs.Word.{word};
-ghost use Rattle.c_api.specs.Answer.{valuesOf, verdictWords};
+ghost use Rattle.c_api.specs.Answer.{isOn, valuesOf, verdictWords};
 ghost use Rattle.c_api.specs.Promise.{ReadCall, WriteCall, CompareCall, FeasibleCall, ActionsCall, AnnounceCall, WithdrawCall, LookupCall, FirstMatchCall};
 use action::Actions;
 use flowspec::Change;
@@ -20,6 +20,13 @@ fn word_of(number: u8, place: usize) -> u64
     ensures { λ r. ⌜ r ≡ word number place ⌝ }
 {
     number as u64 + place as u64 * 0x1_0000_0000
+}
+
+// Whether a setting, the header's `allow_no_destination`, is on: 0 is off and any other number on.
+fn is_on(setting: u32) -> bool
+    ensures { λ r. ⌜ r ≡ isOn setting ⌝ }
+{
+    setting != 0
 }
 
 // The values of actions, as in a record: flags, DSCP, byte rate, packet rate, redirect.
@@ -116,7 +123,7 @@ pub extern "C" fn flowspec4_feasible(
 ) -> u64
     ensures { λ r. ⌜ FeasibleCall (now (routes .entry)) setting (now (rule .entry)) originator r ⌝ }
 {
-    let relaxed = setting != 0;
+    let relaxed = is_on(setting);
     match flowspec::judge_rule(relaxed, routes, rule, originator) {
         Feasibility::Refused { number, place } => word_of(number, place),
         Feasibility::Feasible => 0,
@@ -149,7 +156,7 @@ pub extern "C" fn flowspec4_announce(
 ) -> u64
     ensures { λ r. ⌜ AnnounceCall (now (table .entry)) (now (routes .entry)) setting (now (rule .entry)) originator (now (communities .entry)) r (now (table .exit)) ⌝ }
 {
-    let relaxed = setting != 0;
+    let relaxed = is_on(setting);
     match flowspec::announce(table, relaxed, routes, rule, originator, communities) {
         Change::Refused { number, place } => word_of(number, place),
         Change::Done => 0,

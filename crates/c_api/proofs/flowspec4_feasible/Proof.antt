@@ -9,11 +9,15 @@ use Rattle.c_api.proofs.flowspec4_feasible.Statement.{statement}
 use Rattle.c_api.proofs.flowspec4_feasible.Tie as tie
 use Rattle.c_api.proofs.flowspec4_feasible.Reads as reads
 use Rattle.c_api.proofs.flowspec4_feasible.Lts as lts
+use Rattle.c_api.proofs.is_on.Reads as is-on-reads
 use Rattle.c_api.proofs.word_of.Reads as word-of-reads
 use Rattle.flowspec.proofs.judge_rule.Reads as judge-rule-reads
 
 refusal : (c : tie.After-known-told) → Refusal (c .before .number .given .0 .0) (c .before .number .given .0 .1 .0)
 refusal c = not-feasible _ _ _ _ _ _ (sym (c .before .before .before .judge-rule .ensures .is) ∙ c .before .number .given .1)
+
+is-on-requires : tie.Need-is-on-requires
+is-on-requires c κs = search needs
 
 judge-rule-requires : tie.Need-judge-rule-requires
 judge-rule-requires c κs = search needs
@@ -28,12 +32,16 @@ enum-told : tie.Need-enum-told
 enum-told c = search needs
 
 returns : tie.Need-returns
-returns c = record { is = word-is feasibleAnswer _ _ (c .before .before .before .before .judge-rule .ensures .is) _ (c .before .before .number .given .1) _ (c .word-of .ensures) }
+returns c =
+    let kept = rw (c .before .before .before .before .before .is-on .ensures) at (c .before .before .before .before .judge-rule .ensures) in
+    record { is = word-is feasibleAnswer _ _ (kept .is) _ (c .before .before .number .given .1) _ (c .word-of .ensures) }
 
 returns-2 : tie.Need-returns-2
-returns-2 c = record { is = word-is feasibleAnswer _ _ (c .before .before .judge-rule .ensures .is) _ (c .enum-told .given .1) _ refl }
+returns-2 c =
+    let kept = rw (c .before .before .before .is-on .ensures) at (c .before .before .judge-rule .ensures) in
+    record { is = word-is feasibleAnswer _ _ (kept .is) _ (c .enum-told .given .1) _ refl }
 
 pub flowspec4-feasible-spec : {M : Type 1} → statement M
 flowspec4-feasible-spec =
     tie.close
-    (tie.spec judge-rule-requires enum-known-number word-of-requires enum-told returns returns-2)
+    (tie.spec is-on-requires judge-rule-requires enum-known-number word-of-requires enum-told returns returns-2)
