@@ -29,8 +29,8 @@ use Rattle.flowspec.specs.Told.{verdictTold, lookupTold}
 use Rattle.flowspec.specs.Look.{lookedUp, lookingUp, matchPlace}
 use Rattle.flowspec.specs.Promise.{ReadsOne, LocatesFirst}
 use Rattle.c_api.specs.Word.{Answer, word, wordOf}
-use Rattle.c_api.specs.Answer.{readAnswer, actionsAnswer, lookupAnswer, valuesOf, verdictWords}
-use Rattle.c_api.specs.Promise.{Returns, ReadCall, FirstMatchCall}
+use Rattle.c_api.specs.Answer.{readAnswer, actionsAnswer, lookupAnswer, firstMatchAnswer, valuesOf, verdictWords}
+use Rattle.c_api.specs.Promise.{Returns}
 
 -- refused: `out` stays as it was
 pub refused : (number place : ℕ) (values entry : List ℕ) → Refusal number place → (result : ℕ) → result ≡ word number place
@@ -52,19 +52,20 @@ module _ {X : Type 0} (answerOf : X → Answer) (d x : X) (is : x ≡ d) (y : X)
   word-is result h = subst (λ z. result ≡ wordOf (answerOf z)) (sym e ∙ is) h
 
 -- reading one rule
-module _ (rule : List ℕ) (r : Reading) (kept : ReadsOne rule r) where
+module _ (rule : List ℕ) (r : Reading) (lent : List (List ℕ)) (kept : ReadsOne rule r lent) where
   pub read-refusal : (number place : ℕ) → r ≡ NotRead number place → Refusal number place
   read-refusal number place e = one-refused ipv4 rule number place (sym (kept .is) ∙ e)
 
   pub read-near : (number place : ℕ) → r ≡ NotRead number place → place ≤ 4095
   read-near number place e = read-refusal number place e .near
 
-  pub read-refused : (entry : List ℕ) (number place result : ℕ) → r ≡ NotRead number place → result ≡ word number place → ReadCall rule entry result entry
+  pub read-refused : (entry : List ℕ) (number place result : ℕ) → r ≡ NotRead number place → result ≡ word number place
+      → Returns (readAnswer (oneRule ipv4 rule)) entry result entry
   read-refused entry number place result e h =
       answered readAnswer (oneRule ipv4 rule) r (kept .is) (NotRead number place) e entry result entry
       (refused number place (0 ∷ 0 ∷ []) entry (read-refusal number place e) result h)
 
-  pub read-done : (entry : List ℕ) (start size : ℕ) → r ≡ Rule start size → ReadCall rule entry 0 (start ∷ size ∷ [])
+  pub read-done : (entry : List ℕ) (start size : ℕ) → r ≡ Rule start size → Returns (readAnswer (oneRule ipv4 rule)) entry 0 (start ∷ size ∷ [])
   read-done entry start size e =
       answered readAnswer (oneRule ipv4 rule) r (kept .is) (Rule start size) e entry 0 (start ∷ size ∷ []) (done (start ∷ size ∷ []) entry)
 
@@ -104,14 +105,14 @@ no-place t octets = by-test (soundTable ipv4 t) (λ s. rw s (go (packetOf octets
     go (Usable packet) = judged (verdictFor ipv4 packet (entries t))
 
 -- the first match, by its place with the lookup's number
-module _ (t octets entry : List ℕ) (place : MatchPlace) (kept : LocatesFirst t octets place) where
+module _ (t octets entry : List ℕ) (place : MatchPlace) (lent : List (List ℕ)) (kept : LocatesFirst t octets place lent) where
   number-is : lookupTold (lookingUp t octets) .number ≡ place .number
   unfolding matchPlace
   number-is = rw (kept .is)
 
-  pub first-refused : (place .number ≡ 0 → ⊥) → (result : ℕ) → result ≡ word (place .number) 0 → FirstMatchCall t octets entry result entry
+  pub first-refused : (place .number ≡ 0 → ⊥) → (result : ℕ) → result ≡ word (place .number) 0 → Returns (firstMatchAnswer t octets) entry result entry
   first-refused n result h = record { is = rw (number-is, no-place t octets) h; out = rw (number-is, ne-eqb (place .number) 0 n) }
 
-  pub first-done : place .number ≡ 0 → FirstMatchCall t octets entry 0 (place .start ∷ (place .end - place .start) ∷ [])
+  pub first-done : place .number ≡ 0 → Returns (firstMatchAnswer t octets) entry 0 (place .start ∷ (place .end - place .start) ∷ [])
   unfolding matchPlace
   first-done z = record { is = rw (number-is, no-place t octets, z); out = rw (number-is, eq-eqb (place .number) 0 z, kept .is) }

@@ -3,45 +3,52 @@ use mathlib.Core.Path.{_≡_, sym, _∙_}
 use mathlib.Core.List.{List}
 use Prim.Native.Nat.{ℕ}
 use Rattle.c_api.specs.Word.{Answer}
-use Rattle.c_api.specs.Promise.{Returns, ReadCall, WriteCall, CompareCall, FeasibleCall, ActionsCall, AnnounceCall, WithdrawCall, LookupCall, FirstMatchCall}
+use Rattle.c_api.specs.Promise.{Returns, ReturnsKeeping, ReadCall, WriteCall, CompareCall, FeasibleCall, ActionsCall, AnnounceCall, WithdrawCall, LookupCall, FirstMatchCall}
 
--- one word and one `out` for each answer
-one-return : {answer : Answer} {entry : List ℕ} {a b : ℕ} {x y : List ℕ} → Returns answer entry a x → Returns answer entry b y → (a ≡ b) × (x ≡ y)
-one-return p q = (p .is ∙ sym (q .is), p .out ∙ sym (q .out))
+module _ (k l : List (List ℕ)) where
+  -- one word and one `out` for each answer, and what was lent to be read
+  one-return : {answer : Answer} {entry : List ℕ} {a b : ℕ} {x y : List ℕ} → Returns answer entry a x → Returns answer entry b y → (a ≡ b) × (x ≡ y)
+  one-return p q = (p .is ∙ sym (q .is), p .out ∙ sym (q .out))
 
-pub one-read : (rule entry : List ℕ) (a b : ℕ) (x y : List ℕ) → ReadCall rule entry a x → ReadCall rule entry b y → (a ≡ b) × (x ≡ y)
-one-read rule entry a b x y p q = one-return p q
+  one-keeping : {answer : Answer} {lent : List (List ℕ)} {entry : List ℕ} {a b : ℕ} {x y : List ℕ} → ReturnsKeeping answer lent entry a x k
+      → ReturnsKeeping answer lent entry b y l → (a ≡ b) × ((x ≡ y) × (k ≡ l))
+  one-keeping p q = let r = one-return (p .returns) (q .returns) in (r .0, (r .1, p .keeps ∙ sym (q .keeps)))
 
-pub one-write : (value buffer entry : List ℕ) (a b : ℕ) (s t x y : List ℕ) → WriteCall value buffer entry a s x → WriteCall value buffer entry b t y
-    → (a ≡ b) × ((s ≡ t) × (x ≡ y))
-one-write value buffer entry a b s t x y p q =
-    let r = one-return (p .returns) (q .returns) in
-    (r .0, (p .leaves ∙ sym (q .leaves), r .1))
+  pub one-read : (rule entry : List ℕ) (a b : ℕ) (x y : List ℕ) → ReadCall rule entry a x k → ReadCall rule entry b y l → (a ≡ b) × ((x ≡ y) × (k ≡ l))
+  one-read rule entry a b x y p q = one-keeping p q
 
-pub one-compare : (first second entry : List ℕ) (a b : ℕ) (x y : List ℕ) → CompareCall first second entry a x → CompareCall first second entry b y
-    → (a ≡ b) × (x ≡ y)
-one-compare first second entry a b x y p q = one-return p q
+  pub one-write : (value buffer entry : List ℕ) (a b : ℕ) (s t x y : List ℕ) → WriteCall value buffer entry a s x k → WriteCall value buffer entry b t y l
+      → (a ≡ b) × ((s ≡ t) × ((x ≡ y) × (k ≡ l)))
+  one-write value buffer entry a b s t x y p q =
+      let r = one-return (p .returns) (q .returns) in
+      (r .0, (p .leaves ∙ sym (q .leaves), (r .1, p .keeps ∙ sym (q .keeps))))
 
-pub one-feasible : (routes : List ℕ) (setting : ℕ) (rule : List ℕ) (originator a b : ℕ) → FeasibleCall routes setting rule originator a
-    → FeasibleCall routes setting rule originator b → a ≡ b
-one-feasible routes setting rule originator a b p q = p .is ∙ sym (q .is)
+  pub one-compare : (first second entry : List ℕ) (a b : ℕ) (x y : List ℕ) → CompareCall first second entry a x k → CompareCall first second entry b y l
+      → (a ≡ b) × ((x ≡ y) × (k ≡ l))
+  one-compare first second entry a b x y p q = one-keeping p q
 
-pub one-actions : (communities entry : List ℕ) (a b : ℕ) (x y : List ℕ) → ActionsCall communities entry a x → ActionsCall communities entry b y
-    → (a ≡ b) × (x ≡ y)
-one-actions communities entry a b x y p q = one-return p q
+  pub one-feasible : (routes : List ℕ) (setting : ℕ) (rule : List ℕ) (originator a b : ℕ) → FeasibleCall routes setting rule originator a k
+      → FeasibleCall routes setting rule originator b l → (a ≡ b) × (k ≡ l)
+  one-feasible routes setting rule originator a b p q = (p .is ∙ sym (q .is), p .keeps ∙ sym (q .keeps))
 
-pub one-announce : (table routes : List ℕ) (setting : ℕ) (rule : List ℕ) (originator : ℕ) (communities : List ℕ) (a b : ℕ) (s t : List ℕ)
-    → AnnounceCall table routes setting rule originator communities a s → AnnounceCall table routes setting rule originator communities b t
-    → (a ≡ b) × (s ≡ t)
-one-announce table routes setting rule originator communities a b s t p q = (p .is ∙ sym (q .is), p .leaves ∙ sym (q .leaves))
+  pub one-actions : (communities entry : List ℕ) (a b : ℕ) (x y : List ℕ) → ActionsCall communities entry a x k → ActionsCall communities entry b y l
+      → (a ≡ b) × ((x ≡ y) × (k ≡ l))
+  one-actions communities entry a b x y p q = one-keeping p q
 
-pub one-withdraw : (table rule : List ℕ) (a b : ℕ) (s t : List ℕ) → WithdrawCall table rule a s → WithdrawCall table rule b t → (a ≡ b) × (s ≡ t)
-one-withdraw table rule a b s t p q = (p .is ∙ sym (q .is), p .leaves ∙ sym (q .leaves))
+  pub one-announce : (table routes : List ℕ) (setting : ℕ) (rule : List ℕ) (originator : ℕ) (communities : List ℕ) (a b : ℕ) (s t : List ℕ)
+      → AnnounceCall table routes setting rule originator communities a s k → AnnounceCall table routes setting rule originator communities b t l
+      → (a ≡ b) × ((s ≡ t) × (k ≡ l))
+  one-announce table routes setting rule originator communities a b s t p q =
+      (p .is ∙ sym (q .is), (p .leaves ∙ sym (q .leaves), p .keeps ∙ sym (q .keeps)))
 
-pub one-lookup : (table packet entry : List ℕ) (a b : ℕ) (x y : List ℕ) → LookupCall table packet entry a x → LookupCall table packet entry b y
-    → (a ≡ b) × (x ≡ y)
-one-lookup table packet entry a b x y p q = one-return p q
+  pub one-withdraw : (table rule : List ℕ) (a b : ℕ) (s t : List ℕ) → WithdrawCall table rule a s k → WithdrawCall table rule b t l
+      → (a ≡ b) × ((s ≡ t) × (k ≡ l))
+  one-withdraw table rule a b s t p q = (p .is ∙ sym (q .is), (p .leaves ∙ sym (q .leaves), p .keeps ∙ sym (q .keeps)))
 
-pub one-first-match : (table packet entry : List ℕ) (a b : ℕ) (x y : List ℕ) → FirstMatchCall table packet entry a x → FirstMatchCall table packet entry b y
-    → (a ≡ b) × (x ≡ y)
-one-first-match table packet entry a b x y p q = one-return p q
+  pub one-lookup : (table packet entry : List ℕ) (a b : ℕ) (x y : List ℕ) → LookupCall table packet entry a x k → LookupCall table packet entry b y l
+      → (a ≡ b) × ((x ≡ y) × (k ≡ l))
+  one-lookup table packet entry a b x y p q = one-keeping p q
+
+  pub one-first-match : (table packet entry : List ℕ) (a b : ℕ) (x y : List ℕ) → FirstMatchCall table packet entry a x k
+      → FirstMatchCall table packet entry b y l → (a ≡ b) × ((x ≡ y) × (k ≡ l))
+  one-first-match table packet entry a b x y p q = one-keeping p q

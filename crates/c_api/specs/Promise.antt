@@ -1,9 +1,9 @@
--- What each call promises, whatever octets it is lent: the word that it returns, and what each buffer lent to be changed and `out` hold
--- at exit; what is lent to be read alone cannot be changed. No call has a `requires`. That no second result satisfies a promise is shown in
--- proofs/Unique.antt. The answers are the door's, by its own definitions.
+-- What each call promises, whatever octets it is lent: the word that it returns, what each buffer lent to be changed and `out` hold at
+-- exit, and that what is lent to be read alone is as it was (`keeps`; `kept` is what those slices hold at exit). No call has a `requires`.
+-- That no second result satisfies a promise is shown in proofs/Unique.antt. The answers are the door's, by its own definitions.
 use Prim.Native.Nat.{ℕ}
 use mathlib.Core.Path.{_≡_}
-use mathlib.Core.List.{List}
+use mathlib.Core.List.{List, [], _∷_}
 use lib.ListN.{length}
 use Rattle.rule.specs.Family.{ipv4}
 use Rattle.rule.specs.Reading.{oneRule}
@@ -21,43 +21,56 @@ pub record Returns (answer : Answer) (entry : List ℕ) (result : ℕ) (exit : L
   pub is : result ≡ wordOf answer
   pub out : exit ≡ outAfter answer entry
 
+-- The same of a call that is lent slices to be read, and leaves them as they were.
+pub record ReturnsKeeping (answer : Answer) (lent : List (List ℕ)) (entry : List ℕ) (result : ℕ) (exit : List ℕ) (kept : List (List ℕ)) : Type 0 where
+  pub returns : Returns answer entry result exit
+  pub keeps : kept ≡ lent
+
 -- flowspec4_read: refusals 1 to 7, then 15.
-abbrev pub ReadCall : List ℕ → List ℕ → ℕ → List ℕ → Type 0
-ReadCall rule entry result exit = Returns (readAnswer (oneRule ipv4 rule)) entry result exit
+abbrev pub ReadCall : List ℕ → List ℕ → ℕ → List ℕ → List (List ℕ) → Type 0
+ReadCall rule entry result exit kept = ReturnsKeeping (readAnswer (oneRule ipv4 rule)) (rule ∷ []) entry result exit kept
 
 -- flowspec4_write: refusals 1 to 7, then 16; on success the front of the buffer is filled and the rest kept, and a refusal changes no
 -- octet.
-pub record WriteCall (value buffer entry : List ℕ) (result : ℕ) (left exit : List ℕ) : Type 0 where
+pub record WriteCall (value buffer entry : List ℕ) (result : ℕ) (left exit : List ℕ) (kept : List (List ℕ)) : Type 0 where
   pub returns : Returns (writeAnswer (writing ipv4 value (length buffer))) entry result exit
   pub leaves : left ≡ afterWriting ipv4 value buffer
+  pub keeps : kept ≡ value ∷ []
 
 -- flowspec4_compare: refusals 1 to 7 and 15 of the first rule, then of the second.
-abbrev pub CompareCall : List ℕ → List ℕ → List ℕ → ℕ → List ℕ → Type 0
-CompareCall first second entry result exit = Returns (compareAnswer (compareRules first second)) entry result exit
+abbrev pub CompareCall : List ℕ → List ℕ → List ℕ → ℕ → List ℕ → List (List ℕ) → Type 0
+CompareCall first second entry result exit kept =
+    ReturnsKeeping (compareAnswer (compareRules first second)) (first ∷ second ∷ []) entry result exit kept
 
 -- flowspec4_feasible: refusals 9, 1 to 7, 15, 8.
-pub record FeasibleCall (routes : List ℕ) (setting : ℕ) (rule : List ℕ) (originator result : ℕ) : Type 0 where
+pub record FeasibleCall (routes : List ℕ) (setting : ℕ) (rule : List ℕ) (originator result : ℕ) (kept : List (List ℕ)) : Type 0 where
   pub is : result ≡ wordOf (feasibleAnswer (judgement (isOn setting) routes rule originator))
+  pub keeps : kept ≡ routes ∷ rule ∷ []
 
 -- flowspec4_actions: refusal 13.
-abbrev pub ActionsCall : List ℕ → List ℕ → ℕ → List ℕ → Type 0
-ActionsCall communities entry result exit = Returns (actionsAnswer (actionsOf communities)) entry result exit
+abbrev pub ActionsCall : List ℕ → List ℕ → ℕ → List ℕ → List (List ℕ) → Type 0
+ActionsCall communities entry result exit kept =
+    ReturnsKeeping (actionsAnswer (actionsOf communities)) (communities ∷ []) entry result exit kept
 
 -- flowspec4_announce: refusals 10, 9, 1 to 7, 15, 13, 8, 11; of these 8 alone changes the table, where the rule was held.
 pub record AnnounceCall (table routes : List ℕ) (setting : ℕ) (rule : List ℕ) (originator : ℕ) (communities : List ℕ) (result : ℕ) (left : List ℕ)
-    : Type 0 where
+    (kept : List (List ℕ)) : Type 0 where
   pub is : result ≡ wordOf (changeAnswer (announcing (isOn setting) routes rule originator communities table .answer))
   pub leaves : left ≡ announcing (isOn setting) routes rule originator communities table .table
+  pub keeps : kept ≡ routes ∷ rule ∷ communities ∷ []
 
 -- flowspec4_withdraw: refusals 10, 1 to 7, 15, 14, none of which changes an octet.
-pub record WithdrawCall (table rule : List ℕ) (result : ℕ) (left : List ℕ) : Type 0 where
+pub record WithdrawCall (table rule : List ℕ) (result : ℕ) (left : List ℕ) (kept : List (List ℕ)) : Type 0 where
   pub is : result ≡ wordOf (changeAnswer (withdrawing rule table .answer))
   pub leaves : left ≡ withdrawing rule table .table
+  pub keeps : kept ≡ rule ∷ []
 
 -- flowspec4_lookup: refusals 10, 12.
-abbrev pub LookupCall : List ℕ → List ℕ → List ℕ → ℕ → List ℕ → Type 0
-LookupCall table packet entry result exit = Returns (lookupAnswer (lookingUp table packet)) entry result exit
+abbrev pub LookupCall : List ℕ → List ℕ → List ℕ → ℕ → List ℕ → List (List ℕ) → Type 0
+LookupCall table packet entry result exit kept =
+    ReturnsKeeping (lookupAnswer (lookingUp table packet)) (table ∷ packet ∷ []) entry result exit kept
 
 -- flowspec4_first_match: refusals 10, 12.
-abbrev pub FirstMatchCall : List ℕ → List ℕ → List ℕ → ℕ → List ℕ → Type 0
-FirstMatchCall table packet entry result exit = Returns (firstMatchAnswer table packet) entry result exit
+abbrev pub FirstMatchCall : List ℕ → List ℕ → List ℕ → ℕ → List ℕ → List (List ℕ) → Type 0
+FirstMatchCall table packet entry result exit kept =
+    ReturnsKeeping (firstMatchAnswer table packet) (table ∷ packet ∷ []) entry result exit kept

@@ -1,6 +1,7 @@
 // The public calls for C and Rust: numbers and slices only. A slice is a pointer and a length, and `&mut [u64; 2]` is a `uint64_t out[2]`.
 // Each call returns one word (specs/Word.antt), has no `requires`, and promises in specs/Promise.antt what the door's call does.
 ghost use mathlib.Core.Path.{_≡_};
+ghost use mathlib.Core.List.{[], _∷_};
 ghost use Prim.Native.Nat.{_≤_};
 ghost use Rattle.c_api.specs.Word.{word};
 ghost use Rattle.c_api.specs.Answer.{isOn, valuesOf, verdictWords};
@@ -66,7 +67,7 @@ fn words_of(verdict: Verdict) -> [u64; 6]
 // Reads one rule. out: where its value starts, and its length.
 #[no_mangle]
 pub extern "C" fn flowspec4_read(rule: &[u8], out: &mut [u64; 2]) -> u64
-    ensures { λ r. ⌜ ReadCall (now (rule .entry)) (now (out .entry)) r (now (out .exit)) ⌝ }
+    ensures { λ r. ⌜ ReadCall (now (rule .entry)) (now (out .entry)) r (now (out .exit)) (now (rule .exit) ∷ []) ⌝ }
 {
     match flowspec::read_rule(rule) {
         Reading::Refused { number, place } => word_of(number, place),
@@ -80,7 +81,7 @@ pub extern "C" fn flowspec4_read(rule: &[u8], out: &mut [u64; 2]) -> u64
 // Writes one rule from its value to the front of a buffer. out: how many octets were written.
 #[no_mangle]
 pub extern "C" fn flowspec4_write(value: &[u8], buffer: &mut [u8], out: &mut [u64; 1]) -> u64
-    ensures { λ r. ⌜ WriteCall (now (value .entry)) (now (buffer .entry)) (now (out .entry)) r (now (buffer .exit)) (now (out .exit)) ⌝ }
+    ensures { λ r. ⌜ WriteCall (now (value .entry)) (now (buffer .entry)) (now (out .entry)) r (now (buffer .exit)) (now (out .exit)) (now (value .exit) ∷ []) ⌝ }
 {
     match flowspec::write_rule(value, buffer) {
         Writing::Refused { number, place } => word_of(number, place),
@@ -94,7 +95,7 @@ pub extern "C" fn flowspec4_write(value: &[u8], buffer: &mut [u8], out: &mut [u6
 // Compares two rules by their precedence. out: 1 where the first comes first, 2 where the second does, 3 where they are the same rule.
 #[no_mangle]
 pub extern "C" fn flowspec4_compare(first: &[u8], second: &[u8], out: &mut [u64; 1]) -> u64
-    ensures { λ r. ⌜ CompareCall (now (first .entry)) (now (second .entry)) (now (out .entry)) r (now (out .exit)) ⌝ }
+    ensures { λ r. ⌜ CompareCall (now (first .entry)) (now (second .entry)) (now (out .entry)) r (now (out .exit)) (now (first .exit) ∷ now (second .exit) ∷ []) ⌝ }
 {
     match flowspec::compare_rules(first, second) {
         Comparison::Refused { number, place } => word_of(number, place),
@@ -121,7 +122,7 @@ pub extern "C" fn flowspec4_feasible(
     rule: &[u8],
     originator: u32,
 ) -> u64
-    ensures { λ r. ⌜ FeasibleCall (now (routes .entry)) setting (now (rule .entry)) originator r ⌝ }
+    ensures { λ r. ⌜ FeasibleCall (now (routes .entry)) setting (now (rule .entry)) originator r (now (routes .exit) ∷ now (rule .exit) ∷ []) ⌝ }
 {
     let relaxed = is_on(setting);
     match flowspec::judge_rule(relaxed, routes, rule, originator) {
@@ -133,7 +134,7 @@ pub extern "C" fn flowspec4_feasible(
 // Reads the filtering actions of a rule's communities. out: flags, DSCP, byte rate, packet rate, redirect.
 #[no_mangle]
 pub extern "C" fn flowspec4_actions(communities: &[u8], out: &mut [u64; 5]) -> u64
-    ensures { λ r. ⌜ ActionsCall (now (communities .entry)) (now (out .entry)) r (now (out .exit)) ⌝ }
+    ensures { λ r. ⌜ ActionsCall (now (communities .entry)) (now (out .entry)) r (now (out .exit)) (now (communities .exit) ∷ []) ⌝ }
 {
     match flowspec::read_actions(communities) {
         action::Reading::Unsound => word_of(13, 0),
@@ -154,7 +155,7 @@ pub extern "C" fn flowspec4_announce(
     originator: u32,
     communities: &[u8],
 ) -> u64
-    ensures { λ r. ⌜ AnnounceCall (now (table .entry)) (now (routes .entry)) setting (now (rule .entry)) originator (now (communities .entry)) r (now (table .exit)) ⌝ }
+    ensures { λ r. ⌜ AnnounceCall (now (table .entry)) (now (routes .entry)) setting (now (rule .entry)) originator (now (communities .entry)) r (now (table .exit)) (now (routes .exit) ∷ now (rule .exit) ∷ now (communities .exit) ∷ []) ⌝ }
 {
     let relaxed = is_on(setting);
     match flowspec::announce(table, relaxed, routes, rule, originator, communities) {
@@ -166,7 +167,7 @@ pub extern "C" fn flowspec4_announce(
 // Withdraws a rule from a table.
 #[no_mangle]
 pub extern "C" fn flowspec4_withdraw(table: &mut [u8], rule: &[u8]) -> u64
-    ensures { λ r. ⌜ WithdrawCall (now (table .entry)) (now (rule .entry)) r (now (table .exit)) ⌝ }
+    ensures { λ r. ⌜ WithdrawCall (now (table .entry)) (now (rule .entry)) r (now (table .exit)) (now (rule .exit) ∷ []) ⌝ }
 {
     match flowspec::withdraw(table, rule) {
         Change::Refused { number, place } => word_of(number, place),
@@ -177,7 +178,7 @@ pub extern "C" fn flowspec4_withdraw(table: &mut [u8], rule: &[u8]) -> u64
 // Looks a packet up in a table. out: the count, 0 where unmatched, and the merged actions' values, 0 where unmatched.
 #[no_mangle]
 pub extern "C" fn flowspec4_lookup(table: &[u8], packet: &[u8], out: &mut [u64; 6]) -> u64
-    ensures { λ r. ⌜ LookupCall (now (table .entry)) (now (packet .entry)) (now (out .entry)) r (now (out .exit)) ⌝ }
+    ensures { λ r. ⌜ LookupCall (now (table .entry)) (now (packet .entry)) (now (out .entry)) r (now (out .exit)) (now (table .exit) ∷ now (packet .exit) ∷ []) ⌝ }
 {
     match flowspec::lookup(table, packet) {
         Looked::Refused { number, place } => word_of(number, place),
@@ -191,7 +192,7 @@ pub extern "C" fn flowspec4_lookup(table: &[u8], packet: &[u8], out: &mut [u64; 
 // Locates the first match's record. out: its start in the table and its length, 0 and 0 where nothing matches.
 #[no_mangle]
 pub extern "C" fn flowspec4_first_match(table: &[u8], packet: &[u8], out: &mut [u64; 2]) -> u64
-    ensures { λ r. ⌜ FirstMatchCall (now (table .entry)) (now (packet .entry)) (now (out .entry)) r (now (out .exit)) ⌝ }
+    ensures { λ r. ⌜ FirstMatchCall (now (table .entry)) (now (packet .entry)) (now (out .entry)) r (now (out .exit)) (now (table .exit) ∷ now (packet .exit) ∷ []) ⌝ }
 {
     let found = flowspec::first_match_place(table, packet);
     if found.number != 0 {

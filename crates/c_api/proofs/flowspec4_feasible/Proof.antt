@@ -34,12 +34,12 @@ enum-told c = search needs
 returns : tie.Need-returns
 returns c =
     let kept = rw (c .before .before .before .before .before .is-on .ensures) at (c .before .before .before .before .judge-rule .ensures) in
-    record { is = word-is feasibleAnswer _ _ (kept .is) _ (c .before .before .number .given .1) _ (c .word-of .ensures) }
+    record { is = word-is feasibleAnswer _ _ (kept .is) _ (c .before .before .number .given .1) _ (c .word-of .ensures); keeps = refl }
 
 returns-2 : tie.Need-returns-2
 returns-2 c =
     let kept = rw (c .before .before .before .is-on .ensures) at (c .before .before .judge-rule .ensures) in
-    record { is = word-is feasibleAnswer _ _ (kept .is) _ (c .enum-told .given .1) _ refl }
+    record { is = word-is feasibleAnswer _ _ (kept .is) _ (c .enum-told .given .1) _ refl; keeps = refl }
 
 pub flowspec4-feasible-spec : {M : Type 1} → statement M
 flowspec4-feasible-spec =

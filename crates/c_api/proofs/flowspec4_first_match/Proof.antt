@@ -1,4 +1,5 @@
 -- The place of the first match, with the lookup's number.
+use mathlib.Core.Path.{refl}
 use Rattle.c_api.proofs.CallLaws.{first-refused, first-done}
 use borrow.Author.Needs.{needs}
 use Rattle.c_api.proofs.flowspec4_first_match.Statement.{statement}
@@ -15,13 +16,13 @@ word-of-requires : tie.Need-word-of-requires
 word-of-requires c κs = search needs
 
 returns : tie.Need-returns
-returns c = first-refused _ _ _ _ (c .before .before .before .first-match-place .ensures) (c .before .if1 .taken) _ (c .word-of .ensures)
+returns c = record { returns = first-refused _ _ _ _ _ (c .before .before .before .first-match-place .ensures) (c .before .if1 .taken) _ (c .word-of .ensures); keeps = refl }
 
 sub-length : tie.Need-sub-length
 sub-length c = search needs
 
 returns-2 : tie.Need-returns-2
-returns-2 c = first-done _ _ _ _ (c .before .before .before .before .first-match-place .ensures) (c .before .before .if1 .left)
+returns-2 c = record { returns = first-done _ _ _ _ _ (c .before .before .before .before .first-match-place .ensures) (c .before .before .if1 .left); keeps = refl }
 
 pub flowspec4-first-match-spec : {M : Type 1} → statement M
 flowspec4-first-match-spec =

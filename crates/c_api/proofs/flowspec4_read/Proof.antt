@@ -1,4 +1,5 @@
 -- One law for each return.
+use mathlib.Core.Path.{refl}
 use Rattle.c_api.proofs.CallLaws.{read-near, read-refused, read-done}
 use borrow.Author.Needs.{needs}
 use Rattle.c_api.proofs.flowspec4_read.Statement.{statement}
@@ -21,10 +22,10 @@ enum-known-start : tie.Need-enum-known-start
 enum-known-start c = search needs
 
 returns : tie.Need-returns
-returns c = search (read-refused, needs)
+returns c = record { returns = search (read-refused, needs); keeps = refl }
 
 returns-2 : tie.Need-returns-2
-returns-2 c = search (read-done, needs)
+returns-2 c = record { returns = search (read-done, needs); keeps = refl }
 
 pub flowspec4-read-spec : {M : Type 1} → statement M
 flowspec4-read-spec =

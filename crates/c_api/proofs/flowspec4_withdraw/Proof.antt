@@ -31,13 +31,13 @@ same-length : tie.Need-same-length
 same-length c = search needs
 
 returns : tie.Need-returns
-returns c = record { is = word-is changeAnswer _ _ (c .before .before .before .before .before .before .withdraw .ensures .is) _ (c .before .before .number .given .1) _ (c .word-of .ensures); leaves = c .before .before .before .before .before .before .withdraw .ensures .leaves }
+returns c = record { is = word-is changeAnswer _ _ (c .before .before .before .before .before .before .withdraw .ensures .is) _ (c .before .before .number .given .1) _ (c .word-of .ensures); leaves = c .before .before .before .before .before .before .withdraw .ensures .leaves; keeps = refl }
 
 same-length-2 : tie.Need-same-length-2
 same-length-2 c = search needs
 
 returns-2 : tie.Need-returns-2
-returns-2 c = record { is = word-is changeAnswer _ _ (c .before .before .before .before .withdraw .ensures .is) _ (c .enum-told .given .1) _ refl; leaves = c .before .before .before .before .withdraw .ensures .leaves }
+returns-2 c = record { is = word-is changeAnswer _ _ (c .before .before .before .before .withdraw .ensures .is) _ (c .enum-told .given .1) _ refl; leaves = c .before .before .before .before .withdraw .ensures .leaves; keeps = refl }
 
 pub flowspec4-withdraw-spec : {M : Type 1} → statement M
 flowspec4-withdraw-spec =
