@@ -1,6 +1,7 @@
 pub mod OperatorLaws
 pub mod Refusal
 pub mod ComponentLaws
+pub mod ReaderLaws
 pub mod ValueLaws
 pub mod PlainLaws
 pub mod ClearedLaws

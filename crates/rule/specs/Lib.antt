@@ -1,6 +1,7 @@
 pub mod Family
 pub mod Operator
 pub mod Component
+pub mod Reader
 pub mod Value
 pub mod Plain
 pub mod Reading

@@ -1,6 +1,7 @@
 // One rule (RFC 8955 section 4): its components, its plain spelling, reading one and writing one. `component_at` is the one cursor
-// of reading: it and the functions that it calls make every bounds check of that walk. The plain spelling has a walk of its own, octet
-// by octet; only what fills or writes a buffer asks for its size.
+// of reading: it and the functions that it calls make every bounds check of that walk. `Reader`, a value with a place in it, is thin above
+// the cursor, and whoever walks a value asks `next_component`, which takes plain parameters. The plain spelling has a walk of its own,
+// octet by octet; only what fills or writes a buffer asks for its size.
 ghost use mathlib.Core.Path.{_≡_};
 ghost use mathlib.Core.Bool.{Bool, true, false};
 ghost use mathlib.Core.List.{_++_};
@@ -9,6 +10,7 @@ ghost use lib.ListN.{length, getD, take, drop};
 ghost use Rattle.rule.specs.Family.{ipv4};
 ghost use Rattle.rule.specs.Operator.{endsList, sizeOf, isPrefix, isBitmask, sizeAllowed};
 ghost use Rattle.rule.specs.Component.{pairAt, pairsFrom, prefixEnd, bodyEnd, componentAt};
+ghost use Rattle.rule.specs.Reader.{readerAt, nextOf};
 ghost use Rattle.rule.specs.Value.{checkValue};
 ghost use Rattle.rule.specs.Plain.{bodyOf, after, operandAfter, plainOperator, plainOperand, plainAddress, cleared, plain};
 ghost use Rattle.rule.specs.Reading.{fieldSize, fieldLength, firstRule, oneRule};
@@ -43,6 +45,14 @@ pub enum Next {
     Nothing,
     Component { kind: u8, next: usize },
     Refused { number: u8, place: usize },
+}
+
+// A value and how far it has been read: where the next component begins, and the type of the one before it (0 at the start).
+pub struct Reader<'a> {
+    pub family: Family,
+    pub value: &'a [u8],
+    pub at: usize,
+    pub previous: u8,
 }
 
 // What the next octet of a value is: a type, a prefix's length, an octet of a prefix with the bits still to come, an operator (a
@@ -257,6 +267,34 @@ pub fn component_at(family: Family, value: &[u8], at: usize, previous: u8) -> Ne
     }
 }
 
+impl<'a> Reader<'a> {
+    // A reader at a place of a value.
+    pub fn new(family: Family, value: &'a [u8], at: usize, previous: u8) -> Reader<'a>
+        ensures { λ r. ⌜ r ≡ readerAt family (value .entry) at previous ⌝ }
+    {
+        Reader {
+            family,
+            value,
+            at,
+            previous,
+        }
+    }
+
+    // What stands at the reader's place.
+    pub fn next(self) -> Next
+        ensures { λ r. ⌜ r ≡ nextOf (self .entry) ⌝ }
+    {
+        component_at(self.family, self.value, self.at, self.previous)
+    }
+}
+
+// What a reader at a place of a value finds there.
+pub fn next_component(family: Family, value: &[u8], at: usize, previous: u8) -> Next
+    ensures { λ r. ⌜ r ≡ componentAt family (now (value .entry)) at previous ⌝ }
+{
+    Reader::new(family, value, at, previous).next()
+}
+
 // Refusals 1 to 7 of a value.
 pub fn check_value(family: Family, value: &[u8]) -> Checked
     ensures { λ r. ⌜ r ≡ checkValue family (now (value .entry)) ⌝ }
@@ -276,7 +314,7 @@ pub fn check_value(family: Family, value: &[u8]) -> Checked
     let mut at = 0;
     let mut previous = 0;
     loop {
-        let next = component_at(family, value, at, previous);
+        let next = next_component(family, value, at, previous);
         match next {
             Next::Nothing => {
                 return Checked::Accepted;

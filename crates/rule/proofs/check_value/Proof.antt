@@ -9,7 +9,7 @@ use Rattle.rule.proofs.check_value.Statement.{statement}
 use Rattle.rule.proofs.check_value.Tie as tie
 use Rattle.rule.proofs.check_value.Reads as reads
 use Rattle.rule.proofs.check_value.Lts as lts
-use Rattle.rule.proofs.component_at.Reads as component-at-reads
+use Rattle.rule.proofs.next_component.Reads as next-component-reads
 
 abbrev Inv-loop : tie.InvT-loop
 Inv-loop family value at₀ previous₀ at previous = checkValue family value ≡ accepts family value at previous
@@ -26,8 +26,8 @@ returns-2 c = search (check-empty, needs)
 loop-holds : tie.Need-loop-holds Inv-loop μ-loop
 loop-holds c = search (check-walk, needs)
 
-component-at-requires : tie.Need-component-at-requires Inv-loop μ-loop
-component-at-requires c κs = search needs
+next-component-requires : tie.Need-next-component-requires Inv-loop μ-loop
+next-component-requires c κs = search needs
 
 enum-told : tie.Need-enum-told Inv-loop μ-loop
 enum-told c = search needs
@@ -40,7 +40,7 @@ enum-known-next c = search needs
 
 loop-less : tie.Need-loop-less Inv-loop μ-loop
 loop-less c = let l = c .before .before .before .before .loop in
-    let f = was-found _ _ (l .at) (l .previous) _ _ (sym (c .before .before .before .component-at .ensures) ∙ c .before .next .given .1) in
+    let f = was-found _ _ (l .at) (l .previous) _ _ (sym (c .before .before .before .next-component .ensures) ∙ c .before .next .given .1) in
     omega (arith, f .within)
 
 loop-again : tie.Need-loop-again Inv-loop μ-loop
@@ -61,7 +61,7 @@ check-value-spec =
     returns
     returns-2
     loop-holds
-    component-at-requires
+    next-component-requires
     enum-told
     returns-3
     enum-known-next
