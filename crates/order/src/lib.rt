@@ -70,8 +70,8 @@ pub fn compare_next(first: &[u8], here: usize, second: &[u8], there: usize, prev
     ensures { λ r. ⌜ Turned (now (first .entry)) here (now (second .entry)) there previous r ⌝ }
 {
     let family = rule::ipv4();
-    let left = rule::component_at(family, first, here, previous);
-    let right = rule::component_at(family, second, there, previous);
+    let left = rule::next_component(family, first, here, previous);
+    let right = rule::next_component(family, second, there, previous);
     match left {
         Next::Nothing => Turn::Decided(runs_out(right)),
         Next::Refused {

@@ -400,7 +400,7 @@ pub fn matches_rule(family: Family, value: &[u8], packet: Packet) -> bool
     let mut at = 0;
     let mut previous = 0;
     loop {
-        let next = rule::component_at(family, value, at, previous);
+        let next = rule::next_component(family, value, at, previous);
         match next {
             Next::Component { kind, next } => {
                 let start = at + 1;

@@ -225,7 +225,7 @@ fn destination_for(kind: u8, body: &[u8]) -> Destination
 pub fn destination_of(value: &[u8]) -> Destination
     ensures { λ r. ⌜ r ≡ destinationOf ipv4 (now (value .entry)) ⌝ }
 {
-    match rule::component_at(rule::ipv4(), value, 0, 0) {
+    match rule::next_component(rule::ipv4(), value, 0, 0) {
         Next::Component { kind, next } => destination_for(kind, &value[1..next]),
         Next::Nothing => Destination::Missing,
         Next::Refused {

@@ -12,29 +12,29 @@ use Rattle.order.proofs.compare_next.Lts as lts
 use Rattle.order.proofs.compare_components.Reads as compare-components-reads
 use Rattle.order.proofs.runs_out.Reads as runs-out-reads
 use Rattle.order.proofs.turn_for.Reads as turn-for-reads
-use Rattle.rule.proofs.component_at.Reads as component-at-reads
+use Rattle.rule.proofs.next_component.Reads as next-component-reads
 use Rattle.rule.proofs.ipv4.Reads as ipv4-reads
 
 here-found : (c : tie.After-known-told2) → Found ipv4 (c .before .before .before .before .before .before .before .before .before .before .before .args .first .now) (c .before .before .before .before .before .before .before .before .before .before .before .args .here) (c .before .before .before .before .before .before .before .before .before .before .before .args .previous)
     (c .before .before .before .before .left .given .0 .0) (c .before .before .before .before .left .given .0 .1 .0)
 here-found c =
-    left-found _ _ (c .before .before .before .before .before .before .before .before .before .before .before .args .second .now) (c .before .before .before .before .before .before .before .before .before .before .before .args .there) _ _ (c .before .before .before .before .before .before .before .before .ipv4 .ensures) _ _ (c .before .before .before .before .before .before .before .component-at .ensures)
-    (c .before .before .before .before .before .before .component-at2 .ensures) _ _ (c .before .before .before .before .left .given .1)
+    left-found _ _ (c .before .before .before .before .before .before .before .before .before .before .before .args .second .now) (c .before .before .before .before .before .before .before .before .before .before .before .args .there) _ _ (c .before .before .before .before .before .before .before .before .ipv4 .ensures) _ _ (c .before .before .before .before .before .before .before .next-component .ensures)
+    (c .before .before .before .before .before .before .next-component2 .ensures) _ _ (c .before .before .before .before .left .given .1)
 
 there-found : (c : tie.After-known-told2) → Found ipv4 (c .before .before .before .before .before .before .before .before .before .before .before .args .second .now) (c .before .before .before .before .before .before .before .before .before .before .before .args .there) (c .before .before .before .before .before .before .before .before .before .before .before .args .previous)
     (c .before .right .given .0 .0) (c .before .right .given .0 .1 .0)
 there-found c =
-    right-found _ _ _ _ _ _ (c .before .before .before .before .before .before .before .before .ipv4 .ensures) _ _ (c .before .before .before .before .before .before .before .component-at .ensures) (c .before .before .before .before .before .before .component-at2 .ensures) _ _ (c .before .before .before .before .left .given .1) _ _
+    right-found _ _ _ _ _ _ (c .before .before .before .before .before .before .before .before .ipv4 .ensures) _ _ (c .before .before .before .before .before .before .before .next-component .ensures) (c .before .before .before .before .before .before .next-component2 .ensures) _ _ (c .before .before .before .before .left .given .1) _ _
     (c .before .right .given .1)
 
 ipv4-requires : tie.Need-ipv4-requires
 ipv4-requires c κs = search needs
 
-component-at-requires : tie.Need-component-at-requires
-component-at-requires c κs = search needs
+next-component-requires : tie.Need-next-component-requires
+next-component-requires c κs = search needs
 
-component-at-requires-2 : tie.Need-component-at-requires-2
-component-at-requires-2 c κs = search needs
+next-component-requires-2 : tie.Need-next-component-requires-2
+next-component-requires-2 c κs = search needs
 
 enum-told : tie.Need-enum-told
 enum-told c = search needs
@@ -110,8 +110,8 @@ compare-next-spec =
     tie.close
     (tie.spec
     ipv4-requires
-    component-at-requires
-    component-at-requires-2
+    next-component-requires
+    next-component-requires-2
     enum-told
     runs-out-requires
     enum-told-2

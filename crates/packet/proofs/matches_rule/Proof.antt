@@ -20,13 +20,13 @@ inside : (c : tie.After-known-told Inv-loop μ-loop)
     → (c .before .before .before .before .loop .at + 1 < c .before .next .given .0 .1 .0)
     × (c .before .next .given .0 .1 .0 ≤ length (c .before .before .before .before .before .before .args .value .now))
 inside c = let l = c .before .before .before .before .loop in
-    was-found _ _ (l .at) (l .previous) _ _ (sym (c .before .before .before .component-at .ensures) ∙ c .before .next .given .1) .within
+    was-found _ _ (l .at) (l .previous) _ _ (sym (c .before .before .before .next-component .ensures) ∙ c .before .next .given .1) .within
 
 loop-holds : tie.Need-loop-holds Inv-loop μ-loop
 loop-holds c = search (from-start, needs)
 
-component-at-requires : tie.Need-component-at-requires Inv-loop μ-loop
-component-at-requires c κs = search needs
+next-component-requires : tie.Need-next-component-requires Inv-loop μ-loop
+next-component-requires c κs = search needs
 
 enum-known-next : tie.Need-enum-known-next Inv-loop μ-loop
 enum-known-next c = search needs
@@ -74,7 +74,7 @@ matches-rule-spec =
     Inv-loop
     μ-loop
     loop-holds
-    component-at-requires
+    next-component-requires
     enum-known-next
     add-start
     sub-matches-component

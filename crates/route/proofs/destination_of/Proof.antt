@@ -8,17 +8,17 @@ use Rattle.route.proofs.destination_of.Tie as tie
 use Rattle.route.proofs.destination_of.Reads as reads
 use Rattle.route.proofs.destination_of.Lts as lts
 use Rattle.route.proofs.destination_for.Reads as destination-for-reads
-use Rattle.rule.proofs.component_at.Reads as component-at-reads
+use Rattle.rule.proofs.next_component.Reads as next-component-reads
 use Rattle.rule.proofs.ipv4.Reads as ipv4-reads
 
 found-first : (c : tie.After-known-told) → Found ipv4 (c .before .before .before .before .before .before .args .value .now) 0 0 (c .before .kind .given .0 .0) (c .before .kind .given .0 .1 .0)
-found-first c = first-found ipv4 _ _ (c .before .before .before .before .ipv4 .ensures) _ (c .before .before .before .component-at .ensures) _ _ (c .before .kind .given .1)
+found-first c = first-found ipv4 _ _ (c .before .before .before .before .ipv4 .ensures) _ (c .before .before .before .next-component .ensures) _ _ (c .before .kind .given .1)
 
 ipv4-requires : tie.Need-ipv4-requires
 ipv4-requires c κs = search needs
 
-component-at-requires : tie.Need-component-at-requires
-component-at-requires c κs = search needs
+next-component-requires : tie.Need-next-component-requires
+next-component-requires c κs = search needs
 
 enum-known-kind : tie.Need-enum-known-kind
 enum-known-kind c = search needs
@@ -55,7 +55,7 @@ destination-of-spec =
     tie.close
     (tie.spec
     ipv4-requires
-    component-at-requires
+    next-component-requires
     enum-known-kind
     sub-destination-for
     part-destination-for-start
