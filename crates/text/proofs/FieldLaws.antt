@@ -1,0 +1,87 @@
+-- The fields of a line: the first of them and those behind it, what a search for the next tab knows at each turn, and that a text is the
+-- same as another exactly when both are one list. Assumes nothing.
+use mathlib.Core.Path.{_≡_, refl, ap, sym, _∙_}
+use mathlib.Core.Bool.{Bool, true, false, cond}
+use mathlib.Core.List.{List, [], _∷_}
+use Prim.Native.Nat.{ℕ, suc, _+_, _-_, _<_, _≤_, compare, Ordering, Ordering·lt, Ordering·eq, Ordering·gt}
+use native.Mathlib.Omega.{arith}
+use native.Mathlib.Numerals.{add-one}
+use native.Mathlib.Nat.{add-zero}
+use native.Mathlib.Decide.{decLt}
+use lib.Dec.{eqb, ltb, isEq, leb·suc-suc}
+use lib.ListN.{length, getD, take, drop, length-drop, drop-of-length-le}
+use lib.Seq.{drop-cons, drop-drop}
+use borrow.Author.Tests.{lt-ltb, le-ltb, eq-eqb, ne-eqb}
+use Rattle.octets.specs.declared.Order.{Order}
+use Rattle.octets.specs.declared.Order.the-variants.{First, Second, Same}
+use Rattle.octets.specs.Order.{lex, ordered}
+use Rattle.octets.proofs.OrderLaws.{nat-order, lex-order}
+use Rattle.octets.proofs.Cases.{by-test, apart}
+use Rattle.text.specs.Field.{fields, beforeTab, fieldEnd, sameText}
+
+-- the first field of a text, and those behind its tab
+fields-first : (t : List ℕ) → fields t ≡ take (beforeTab t) t ∷ cond (ltb (beforeTab t) (length t)) (fields (drop (beforeTab t + 1) t)) []
+unfolding fields beforeTab
+fields-first [] = refl
+fields-first (x ∷ t) =
+    by-test (eqb x 9)
+    (λ e. rw (e, lt-ltb 0 (suc (length t)) (omega arith)))
+    (λ e. rw (e, fields-first t, add-one (beforeTab t), add-one (suc (beforeTab t)), leb·suc-suc (suc (beforeTab t)) (length t)))
+
+-- the field of a line that begins at a place, and those behind it
+pub fields-from : (line : List ℕ) (from end : ℕ) → from ≤ length line → end ≡ fieldEnd line from
+    → fields (drop from line) ≡ take (end - from) (drop from line) ∷ cond (ltb end (length line)) (fields (drop (end + 1) line)) []
+fields-from line from end h e =
+    let b : ℕ = beforeTab (drop from line) in
+    let k : end - from ≡ b = omega arith in
+    let l : end + 1 ≡ from + (b + 1) = omega arith in
+    let inside : ltb b (length line - from) ≡ ltb end (length line) =
+    elim (decLt b (length line - from)) [
+      | yes m ↦ lt-ltb b (length line - from) m ∙ sym (lt-ltb end (length line) (omega arith))
+      | no m ↦ le-ltb b (length line - from) (omega arith) ∙ sym (le-ltb end (length line) (omega arith))
+    ]
+    in
+    fields-first (drop from line) ∙ rw (k, l, drop-drop (b + 1) from line, length-drop from line, inside)
+
+-- the search for the next tab of a line
+module _ (line : List ℕ) (i end : ℕ) (so-far : end ≡ fieldEnd line i) where
+  pub tab-more : i < length line → (getD line i 0 ≡ 9 → ⊥) → end ≡ fieldEnd line (i + 1)
+  unfolding beforeTab
+  tab-more h n = so-far ∙ rw (drop-cons line i 0 h, beforeTab, ne-eqb (getD line i 0) 9 n, add-one) (omega arith)
+
+  pub tab-here : i < length line → getD line i 0 ≡ 9 → i ≡ end
+  unfolding beforeTab
+  tab-here h n = sym (so-far ∙ rw (drop-cons line i 0 h, beforeTab, eq-eqb (getD line i 0) 9 n) (add-zero i))
+
+  pub tab-none : length line ≤ i → i ≡ end
+  unfolding beforeTab
+  tab-none h = sym (so-far ∙ rw (drop-of-length-le line h, beforeTab) (add-zero i))
+
+-- a text is the same as another exactly when both are one list
+pub same-text : (a b : List ℕ) → sameText a b ≡ true → a ≡ b
+unfolding sameText
+same-text a b e = lex-order compare nat-order .only a b (tie (lex compare a b) e)
+  where
+    tie : (o : Ordering) → isEq o ≡ true → o ≡ Ordering·eq
+    tie Ordering·lt e = apart (cc)
+    tie Ordering·eq e = refl
+    tie Ordering·gt e = apart (cc)
+
+pub text-same : (a : List ℕ) → sameText a a ≡ true
+unfolding sameText
+text-same a = rw (lex-order compare nat-order .same a)
+
+-- what a comparison says of it
+abbrev pub isSame : Order → Bool
+isSame First = false
+isSame Second = false
+isSame Same = true
+
+pub compared : (r : Order) (a b : List ℕ) → r ≡ ordered (lex compare a b) → isSame r ≡ sameText a b
+unfolding sameText
+compared r a b e = ap isSame e ∙ by (lex compare a b)
+  where
+    by : (o : Ordering) → isSame (ordered o) ≡ isEq o
+    by Ordering·lt = refl
+    by Ordering·eq = refl
+    by Ordering·gt = refl

@@ -1,0 +1,5 @@
+pub mod HexLaws
+pub mod PrintLaws
+pub mod DecimalLaws
+pub mod FieldLaws
+pub mod Examples
