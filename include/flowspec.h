@@ -1,0 +1,152 @@
+/*
+ * IPv4 flow rules (RFC 8955): the proved calls, for C and for whatever calls C.
+ *
+ * Link with libc_api.a, which tools/staticlib proves and builds. The functions allocate nothing,
+ * keep nothing between calls and call nothing else, so they may be called from several threads as
+ * long as no buffer that one call writes is lent to another call at the same time.
+ *
+ * THE ANSWER of every function is one uint64_t: the refusal's number in the low 32 bits, 0 if there
+ * is none, and its place in the high 32. flowspec4_number and flowspec4_place take it apart.
+ *
+ *    0  done, no refusal
+ *    1  length field or value runs past the bytes; writer: value over 4,095
+ *    2  value of length 0
+ *    3  component type 0 or above 12
+ *    4  type not above the one before
+ *    5  prefix length above 32
+ *    6  value ends inside a component
+ *    7  size not allowed for the type
+ *    8  infeasible
+ *    9  route list unsound
+ *   10  table unsound
+ *   11  table has no room
+ *   12  packet unusable
+ *   13  actions unsound
+ *   14  rule to withdraw is not held
+ *   15  bytes after the one rule
+ *   16  writer's buffer too short
+ *
+ * The place of 3 to 7 counts octets of the value from 0: the type octet (3, 4), the length octet
+ * (5), the operator (7), the value's end (6). The place of every other answer is 0.
+ *
+ * WHAT IS WRITTEN. Answered 0, each word of `out` is set, and the table or the buffer is as the
+ * function says. Refused, `out` and every lent octet stay as they were, except that 8 from
+ * flowspec4_announce removes a held equal rule. What is lent as const is never written.
+ *
+ * WHAT IS ASSUMED OF THE CALLER, and cannot be checked by the functions:
+ *   - a pointer and its length are true: so many octets (or words) may be read there, and written
+ *     where the pointer is not const; `out` has as many words as its declaration says;
+ *   - no buffer that is written (`out`, `buf`, a table lent to be changed) overlaps any other lent
+ *     buffer;
+ *   - pointers are not null, even with a length of 0, and words are aligned.
+ * Nothing else is: any octets may be lent as a rule, a table, a packet, communities or routes.
+ *
+ * THE TABLE is a lent buffer of 0 to 65,536 octets; all zero is an empty table. Records stand from
+ * octet 0 in precedence order and all after is zero. A record is: value length (2 octets),
+ * originator (4), flags (1), DSCP (1), byte rate (8), packet rate (8), redirect community (8), then
+ * the value in its plain spelling; numbers are big-endian and absent fields zero. A rule costs 32
+ * plus the length of its value. Flags: 1 byte rate, 2 packet rate, 4 sample (S), 8 go on to later
+ * rules (T), 16 marking, 32 redirect.
+ *
+ * ROUTES are lent as 32-bit words, four a route: address, length, originator, neighbour AS. A list
+ * is sound if it has a multiple of four words, at most 4,096 routes, each length at most 32, no bit
+ * of an address set past the length, and the routes rise strictly by address, then length.
+ */
+#ifndef FLOWSPEC_H
+#define FLOWSPEC_H
+
+#include <stddef.h>
+#include <stdint.h>
+
+#ifdef __cplusplus
+extern "C" {
+#endif
+
+/* The refusal's number in an answer; 0 means done. */
+static inline uint32_t flowspec4_number(uint64_t answer)
+{
+    return (uint32_t)answer;
+}
+
+/* The refusal's place in an answer. */
+static inline uint32_t flowspec4_place(uint64_t answer)
+{
+    return (uint32_t)(answer >> 32);
+}
+
+/*
+ * Reads one rule (NLRI): its length field and its value.
+ * Refused with 1 to 7 or 15.
+ * out: where the value starts in `rule`, and its length.
+ */
+uint64_t flowspec4_read(const uint8_t *rule, size_t rule_len, uint64_t out[2]);
+
+/*
+ * Writes one rule from its value: the length field (one octet below 240, two from 240), then the
+ * value in its plain spelling, in which every bit that is to be ignored is 0.
+ * Refused with 1 to 7 or 16.
+ * out: how many octets were written. Answered 0, they stand at the front of `buf`, whose other
+ * octets stay as they were.
+ */
+uint64_t flowspec4_write(const uint8_t *value, size_t value_len, uint8_t *buf, size_t buf_len, uint64_t out[1]);
+
+/*
+ * Says which of two rules comes first (RFC 8955 section 5.1).
+ * Refused with 1 to 7 or 15, for `a` before `b`.
+ * out: 1 if `a` precedes, 2 if `b` does, 3 if they are the same rule, which is exactly when their
+ * plain spellings are equal.
+ */
+uint64_t flowspec4_compare(const uint8_t *a, size_t a_len, const uint8_t *b, size_t b_len, uint64_t out[1]);
+
+/*
+ * Judges whether a rule from `originator` is feasible (section 6): the longest route that covers
+ * its destination exists and has that originator, and no route strictly inside the destination has
+ * another neighbour AS than it. `words` counts words, four a route. A rule with no destination is
+ * feasible exactly if `allow_no_destination` is not 0.
+ * Refused with 9, 1 to 7, 15 or 8, checked in this order.
+ */
+uint64_t flowspec4_feasible(const uint32_t *routes, size_t words, uint32_t allow_no_destination, const uint8_t *rule, size_t rule_len, uint32_t originator);
+
+/*
+ * Reads filtering actions (section 7) from at most 64 extended communities of 8 octets.
+ * Refused with 13.
+ * out: flags as in a record, DSCP, byte rate, packet rate, redirect community; what the flags do
+ * not name is 0. A rate of 0 means drop.
+ */
+uint64_t flowspec4_actions(const uint8_t *communities, size_t len, uint64_t out[5]);
+
+/*
+ * Announces a rule with its actions: the table then holds it, in the place of a held equal rule.
+ * Refused with 10, 9, 1 to 7, 15, 13, 8 or 11, checked in this order. 8 removes a held equal rule;
+ * every other refusal leaves the table as it was. 11 means exactly that the costs of the rules
+ * after the call would pass `table_len`.
+ */
+uint64_t flowspec4_announce(uint8_t *table, size_t table_len, const uint32_t *routes, size_t words, uint32_t allow_no_destination, const uint8_t *rule, size_t rule_len, uint32_t originator, const uint8_t *communities, size_t len);
+
+/*
+ * Withdraws a rule: the table then no longer holds it.
+ * Refused with 10, 1 to 7, 15 or 14, checked in this order; a refusal leaves the table as it was.
+ */
+uint64_t flowspec4_withdraw(uint8_t *table, size_t table_len, const uint8_t *rule, size_t rule_len);
+
+/*
+ * Looks a packet (from its IPv4 header on) up: goes down the table, collects each rule that
+ * matches, and stops after one without T.
+ * Refused with 10 or 12, checked in this order.
+ * out: how many rules were collected, then their merged actions: flags (T is never set), DSCP, byte
+ * rate, packet rate, redirect community. If no rule matches all six words are 0.
+ */
+uint64_t flowspec4_lookup(const uint8_t *table, size_t table_len, const uint8_t *packet, size_t packet_len, uint64_t out[6]);
+
+/*
+ * Finds the record of the first rule that matches a packet.
+ * Refused as flowspec4_lookup is.
+ * out: where the record starts in `table`, and its length; 0 and 0 if no rule matches.
+ */
+uint64_t flowspec4_first_match(const uint8_t *table, size_t table_len, const uint8_t *packet, size_t packet_len, uint64_t out[2]);
+
+#ifdef __cplusplus
+}
+#endif
+
+#endif

@@ -1,0 +1,289 @@
+/*
+ * Calls every function of flowspec.h from C and holds the answers to literal values, which are
+ * those of the examples in the paper of requirements (01).
+ *
+ *     cc -Wall -Wextra -Werror -I include tests/c/calls.c target/staticlib/libc_api.a -o calls && ./calls
+ */
+#include "flowspec.h"
+
+#include <inttypes.h>
+#include <stdio.h>
+#include <string.h>
+
+/* What a word of `out` is before a call. */
+#define UNTOUCHED UINT64_C(0xa5a5a5a5a5a5a5a5)
+
+/* The longest value and its length field. */
+#define LONGEST 4097
+
+/* A value octet by octet, with its length. */
+#define OCTETS(...) (const uint8_t[]){__VA_ARGS__}, sizeof((const uint8_t[]){__VA_ARGS__})
+
+static int checks, failures;
+
+/* Holds one number to what it must be. */
+static void check(const char *what, uint64_t found, uint64_t expected)
+{
+    checks++;
+    if (found != expected) {
+        failures++;
+        printf("%s: %" PRIu64 ", not %" PRIu64 "\n", what, found, expected);
+    }
+}
+
+/* Holds an answer to a number and a place. */
+static void check_answer(const char *what, uint64_t answer, uint32_t number, uint32_t place)
+{
+    check(what, answer, number | (uint64_t)place << 32);
+}
+
+/* Holds octets to what they must be. */
+static void check_octets(const char *what, const uint8_t *found, const uint8_t *expected, size_t count)
+{
+    check(what, (uint64_t)(memcmp(found, expected, count) != 0), 0);
+}
+
+/* Holds the answer to reading one rule, and its two words, to numbers. */
+static void check_read(const uint8_t *rule, size_t length, uint32_t number, uint32_t place, uint64_t start, uint64_t count)
+{
+    uint64_t out[2] = {UNTOUCHED, UNTOUCHED};
+    check_answer("read", flowspec4_read(rule, length, out), number, place);
+    check("read: start", out[0], start);
+    check("read: length", out[1], count);
+}
+
+/* 01's example of a rule: to 192.0.2.0/24, protocol 6, port 25. */
+static const uint8_t example[12] = {0x0b, 0x01, 0x18, 0xc0, 0x00, 0x02, 0x03, 0x81, 0x06, 0x04, 0x81, 0x19};
+
+/* A rule is read in both forms of the length field, and refused where 01 says. */
+static void reading(void)
+{
+    check_read(example, sizeof example, 0, 0, 1, 11);
+    check_read(OCTETS(0xf0, 0x0b, 0x01, 0x18, 0xc0, 0x00, 0x02, 0x03, 0x81, 0x06, 0x04, 0x81, 0x19), 0, 0, 2, 11);
+    check_read(OCTETS(0x02, 0x01, 0x21), 5, 1, UNTOUCHED, UNTOUCHED);
+    check_read(OCTETS(0x04, 0x01, 0x18, 0xc0, 0x00), 6, 4, UNTOUCHED, UNTOUCHED);
+    check_read(OCTETS(0x06, 0x03, 0x81, 0x06, 0x03, 0x81, 0x06), 4, 3, UNTOUCHED, UNTOUCHED);
+    check_read(OCTETS(0x02, 0x0b, 0x91), 7, 1, UNTOUCHED, UNTOUCHED);
+    check_read(OCTETS(0x03, 0x0d, 0x81, 0x06), 3, 0, UNTOUCHED, UNTOUCHED);
+    check_read(example, 11, 1, 0, UNTOUCHED, UNTOUCHED);
+    check_read(OCTETS(0x00), 2, 0, UNTOUCHED, UNTOUCHED);
+    check_read(OCTETS(0x03, 0x03, 0x81, 0x06, 0x00), 15, 0, UNTOUCHED, UNTOUCHED);
+}
+
+/* Makes an accepted value of so many octets: type 3 and pairs of two octets, the first of three if need be. */
+static void fill_value(uint8_t *value, size_t length)
+{
+    size_t at = 1;
+    memset(value, 0, length);
+    value[0] = 0x03;
+    if (length % 2 == 0) {
+        value[at] = 0x11;
+        at += 3;
+    }
+    for (; at < length; at += 2)
+        value[at] = at + 2 == length ? 0x81 : 0x01;
+}
+
+/* Writes a value of this length and holds the front of the buffer to a length field. */
+static void check_written(size_t length, const uint8_t *field, size_t field_length)
+{
+    uint8_t value[LONGEST], buffer[LONGEST + 1];
+    uint64_t out[1] = {UNTOUCHED};
+    fill_value(value, length);
+    memset(buffer, 0xee, sizeof buffer);
+    check_answer("write", flowspec4_write(value, length, buffer, sizeof buffer, out), 0, 0);
+    check("write: octets written", out[0], field_length + length);
+    check_octets("write: length field", buffer, field, field_length);
+    check_octets("write: value", buffer + field_length, value, length);
+    check("write: the octet behind", buffer[field_length + length], 0xee);
+}
+
+/* Lengths 239, 240, 4,095 are written ef, f0f0, ffff; bits that are to be ignored are cleared. */
+static void writing(void)
+{
+    static const uint8_t spelled[] = {0x01, 0x07, 0xff, 0x0c, 0xcf, 0xff};
+    static const uint8_t plain[] = {0x06, 0x01, 0x07, 0xfe, 0x0c, 0x83, 0x0f, 0xee};
+    uint8_t buffer[8], value[LONGEST];
+    uint64_t out[1] = {UNTOUCHED};
+    check_written(239, OCTETS(0xef));
+    check_written(240, OCTETS(0xf0, 0xf0));
+    check_written(4095, OCTETS(0xff, 0xff));
+    memset(buffer, 0xee, sizeof buffer);
+    check_answer("write short", flowspec4_write(spelled, sizeof spelled, buffer, 6, out), 16, 0);
+    check("write short: out", out[0], UNTOUCHED);
+    check("write short: buffer", buffer[0], 0xee);
+    check_answer("write plain", flowspec4_write(spelled, sizeof spelled, buffer, sizeof buffer, out), 0, 0);
+    check("write plain: octets written", out[0], 7);
+    check_octets("write plain: buffer", buffer, plain, sizeof plain);
+    fill_value(value, 4096);
+    check_answer("write long", flowspec4_write(value, 4096, buffer, sizeof buffer, out), 1, 0);
+}
+
+/* Holds a comparison to who comes first. */
+static void check_order(const uint8_t *a, size_t a_length, const uint8_t *b, size_t b_length, uint64_t expected)
+{
+    uint64_t out[1] = {UNTOUCHED};
+    check_answer("compare", flowspec4_compare(a, a_length, b, b_length, out), 0, 0);
+    check("compare: out", out[0], expected);
+}
+
+/* 01's examples of precedence, and the same rule in two spellings. */
+static void comparing(void)
+{
+    uint64_t out[1] = {UNTOUCHED};
+    check_order(OCTETS(6, 1, 25, 192, 0, 2, 0), OCTETS(5, 1, 24, 192, 0, 2), 1);
+    check_order(OCTETS(5, 1, 24, 198, 51, 100), OCTETS(5, 1, 24, 192, 0, 2), 2);
+    check_order(OCTETS(2, 1, 0), OCTETS(3, 3, 0x81, 6), 1);
+    check_order(OCTETS(3, 1, 8, 10), OCTETS(4, 1, 16, 9, 255), 2);
+    check_order(OCTETS(3, 3, 0x81, 6), OCTETS(0xf0, 3, 3, 0xc9, 6), 3);
+    check_answer("compare", flowspec4_compare(OCTETS(2, 1, 33), OCTETS(0), out), 5, 1);
+    check("compare: out", out[0], UNTOUCHED);
+}
+
+/* Judges the destination 192.0.2.0 of this length. */
+static uint64_t judged(const uint32_t *routes, size_t words, uint8_t length, uint32_t originator)
+{
+    const uint8_t rule[] = {length > 24 ? 6 : 5, 1, length, 192, 0, 2, 0};
+    return flowspec4_feasible(routes, words, 0, rule, 1U + rule[0], originator);
+}
+
+/* 01's example of feasibility: a route, then one more inside it from another AS. */
+static void judging(void)
+{
+    static const uint32_t routes[] = {0xc0000200, 24, 7, 64500, 0xc0000280, 25, 7, 64501};
+    static const uint8_t protocol[] = {3, 3, 0x81, 6};
+    check_answer("feasible /25 from 7", judged(routes, 4, 25, 7), 0, 0);
+    check_answer("feasible /25 from 8", judged(routes, 4, 25, 8), 8, 0);
+    check_answer("feasible /24 from 7", judged(routes, 4, 24, 7), 0, 0);
+    check_answer("feasible /24 with two routes", judged(routes, 8, 24, 7), 8, 0);
+    check_answer("feasible /25 with two routes", judged(routes, 8, 25, 7), 0, 0);
+    check_answer("feasible with three words", judged(routes, 3, 24, 7), 9, 0);
+    check_answer("no destination, off", flowspec4_feasible(routes, 4, 0, protocol, sizeof protocol, 7), 8, 0);
+    check_answer("no destination, on", flowspec4_feasible(routes, 4, 2, protocol, sizeof protocol, 7), 0, 0);
+}
+
+/* Holds the byte rate that a single gives to a number. */
+static void check_rate(uint32_t single, uint64_t expected)
+{
+    const uint8_t community[] = {0x80, 0x06, 0, 0, (uint8_t)(single >> 24), (uint8_t)(single >> 16), (uint8_t)(single >> 8), (uint8_t)single};
+    uint64_t out[5] = {UNTOUCHED, UNTOUCHED, UNTOUCHED, UNTOUCHED, UNTOUCHED};
+    check_answer("actions", flowspec4_actions(community, sizeof community, out), 0, 0);
+    check("actions: flags", out[0], 1);
+    check("actions: byte rate", out[2], expected);
+}
+
+/* 01's examples of rates, and one community of each other kind. */
+static void acting(void)
+{
+    static const uint8_t all[] = {
+        0x80, 0x0c, 0, 0, 0x3f, 0x80, 0, 0, 0x80, 0x07, 0, 0, 0, 0, 0, 3, 0x80, 0x09, 0, 0, 0, 0, 0, 0xee, 0x81, 0x08, 1, 2, 3, 4, 5, 6,
+    };
+    static const uint64_t expected[5] = {2 + 4 + 8 + 16 + 32, 0x2e, 0, 1, UINT64_C(0x8108010203040506)};
+    static const uint8_t no_number[] = {0x80, 0x06, 0, 0, 0x7f, 0xc0, 0, 0};
+    uint64_t out[5];
+    int word;
+    check_rate(0xbf800000, 0);
+    check_rate(0x80000000, 0);
+    check_rate(0x00000001, 1);
+    check_rate(0x4b7fffff, 16777215);
+    check_rate(0x5effffff, UINT64_C(9223371487098961920));
+    check_rate(0x5f000000, UINT64_C(1) << 63);
+    check_answer("actions of every kind", flowspec4_actions(all, sizeof all, out), 0, 0);
+    for (word = 0; word < 5; word++)
+        check("actions of every kind: out", out[word], expected[word]);
+    check_answer("actions, not a number", flowspec4_actions(no_number, sizeof no_number, out), 13, 0);
+    check("actions, not a number: out", out[4], expected[4]);
+    check_answer("actions of seven octets", flowspec4_actions(all, 7, out), 13, 0);
+}
+
+/* A byte rate of 0: drop. */
+static const uint8_t drop[8] = {0x80, 0x06};
+
+/* The route of 01's example: 192.0.2.0/24, originator 7, AS 64500. */
+static const uint32_t route[4] = {0xc0000200, 24, 7, 64500};
+
+/* TCP from 198.51.100.1, port 1000, to 192.0.2.200, port 25. */
+static const uint8_t packet[40] = {
+    0x45, 0, 0, 40, 0, 0, 0, 0, 64, 6, 0, 0, 198, 51, 100, 1, 192, 0, 2, 200, 0x03, 0xe8, 0, 25, 0, 0, 0, 1, 0, 0, 0, 0, 0x50, 2,
+};
+
+/* Announces 01's example to a table. */
+static uint64_t announced(uint8_t *table, size_t length, uint32_t originator)
+{
+    return flowspec4_announce(table, length, route, 4, 0, example, sizeof example, originator, drop, sizeof drop);
+}
+
+/* 01's record of 43 octets: 50 zero digits stand between 0701 and 0118. */
+static void check_record(const char *what, const uint8_t *table)
+{
+    uint8_t record[43] = {0x00, 0x0b, 0x00, 0x00, 0x00, 0x07, 0x01};
+    memcpy(record + 32, example + 1, 11);
+    check_octets(what, table, record, sizeof record);
+}
+
+/* The table of 01's example: announce, refuse, withdraw, twice. */
+static void changing(void)
+{
+    static const uint8_t empty[64];
+    uint8_t table[64] = {0};
+    check_answer("announce without room", announced(table, 42, 7), 11, 0);
+    check_octets("announce without room: table", table, empty, sizeof table);
+    check_answer("announce", announced(table, sizeof table, 7), 0, 0);
+    check_record("announce: record", table);
+    check_octets("announce: the rest", table + 43, empty, sizeof table - 43);
+    check_answer("announce again, full", announced(table, 43, 7), 0, 0);
+    check_record("announce again, full: record", table);
+    check_answer("announce infeasible", announced(table, sizeof table, 8), 8, 0);
+    check_octets("announce infeasible: table", table, empty, sizeof table);
+    check_answer("withdraw none", flowspec4_withdraw(table, sizeof table, example, sizeof example), 14, 0);
+    check_answer("announce anew", announced(table, sizeof table, 7), 0, 0);
+    check_answer("withdraw", flowspec4_withdraw(table, sizeof table, example, sizeof example), 0, 0);
+    check_octets("withdraw: table", table, empty, sizeof table);
+    table[63] = 1;
+    check_answer("withdraw, unsound", flowspec4_withdraw(table, sizeof table, example, sizeof example), 10, 0);
+    check_answer("announce, unsound", announced(table, sizeof table, 7), 10, 0);
+}
+
+/* A packet that 01's example matches, one it does not, and one that is cut short. */
+static void looking(void)
+{
+    uint8_t table[64] = {0}, other[40];
+    uint64_t out[6] = {UNTOUCHED, UNTOUCHED, UNTOUCHED, UNTOUCHED, UNTOUCHED, UNTOUCHED};
+    uint64_t found[2] = {UNTOUCHED, UNTOUCHED};
+    int word;
+    memcpy(other, packet, sizeof other);
+    other[9] = 17;
+    check_answer("announce", announced(table, sizeof table, 7), 0, 0);
+    check_answer("lookup, cut short", flowspec4_lookup(table, sizeof table, packet, 19, out), 12, 0);
+    check("lookup, cut short: out", out[0], UNTOUCHED);
+    check_answer("lookup", flowspec4_lookup(table, sizeof table, packet, sizeof packet, out), 0, 0);
+    for (word = 0; word < 6; word++)
+        check("lookup: out", out[word], word < 2 ? 1 : 0);
+    check_answer("first match", flowspec4_first_match(table, sizeof table, packet, sizeof packet, found), 0, 0);
+    check("first match: start", found[0], 0);
+    check("first match: length", found[1], 43);
+    check_answer("lookup, UDP", flowspec4_lookup(table, sizeof table, other, sizeof other, out), 0, 0);
+    for (word = 0; word < 6; word++)
+        check("lookup, UDP: out", out[word], 0);
+    check_answer("first match, UDP", flowspec4_first_match(table, sizeof table, other, sizeof other, found), 0, 0);
+    check("first match, UDP: start", found[0], 0);
+    check("first match, UDP: length", found[1], 0);
+    table[63] = 1;
+    check_answer("lookup, unsound", flowspec4_lookup(table, sizeof table, packet, sizeof packet, out), 10, 0);
+    check_answer("first match, unsound", flowspec4_first_match(table, sizeof table, packet, sizeof packet, found), 10, 0);
+}
+
+int main(void)
+{
+    reading();
+    writing();
+    comparing();
+    judging();
+    acting();
+    changing();
+    looking();
+    check("number", flowspec4_number(UINT64_C(0x400000006)), 6);
+    check("place", flowspec4_place(UINT64_C(0x400000006)), 4);
+    printf("%d checks, %d failed\n", checks, failures);
+    return failures != 0;
+}
