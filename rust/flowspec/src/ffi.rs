@@ -1,0 +1,166 @@
+//! The C functions of `include/flowspec.h`, each behind a safe function on slices.
+//!
+//! Every function answers one word: the refusal's number in the low 32 bits (0 done), its place in
+//! the high 32. Answered 0, each word of `out` is set; refused, `out` and every lent octet stay as
+//! they were, except that 8 removes the held rule. The typed functions of this crate stand on
+//! these; use these where the words themselves are wanted.
+//!
+//! All `unsafe` code of the crate is here. What the C side assumes of its callers holds of slices:
+//! pointer and length are true, and what is lent to be written overlaps nothing else that is lent.
+//! An empty slice has a pointer that is not null.
+
+extern "C" {
+    fn flowspec4_read(rule: *const u8, rule_len: usize, out: &mut [u64; 2]) -> u64;
+    fn flowspec4_write(
+        value: *const u8,
+        value_len: usize,
+        buf: *mut u8,
+        buf_len: usize,
+        out: &mut [u64; 1],
+    ) -> u64;
+    fn flowspec4_compare(
+        a: *const u8,
+        a_len: usize,
+        b: *const u8,
+        b_len: usize,
+        out: &mut [u64; 1],
+    ) -> u64;
+    fn flowspec4_feasible(
+        routes: *const u32,
+        words: usize,
+        allow_no_destination: u32,
+        rule: *const u8,
+        rule_len: usize,
+        originator: u32,
+    ) -> u64;
+    fn flowspec4_actions(communities: *const u8, len: usize, out: &mut [u64; 5]) -> u64;
+    fn flowspec4_announce(
+        table: *mut u8,
+        table_len: usize,
+        routes: *const u32,
+        words: usize,
+        allow_no_destination: u32,
+        rule: *const u8,
+        rule_len: usize,
+        originator: u32,
+        communities: *const u8,
+        len: usize,
+    ) -> u64;
+    fn flowspec4_withdraw(
+        table: *mut u8,
+        table_len: usize,
+        rule: *const u8,
+        rule_len: usize,
+    ) -> u64;
+    fn flowspec4_lookup(
+        table: *const u8,
+        table_len: usize,
+        packet: *const u8,
+        packet_len: usize,
+        out: &mut [u64; 6],
+    ) -> u64;
+    fn flowspec4_first_match(
+        table: *const u8,
+        table_len: usize,
+        packet: *const u8,
+        packet_len: usize,
+        out: &mut [u64; 2],
+    ) -> u64;
+}
+
+/// Reads one rule: `out` is the start and the length of its value.
+pub fn read(rule: &[u8], out: &mut [u64; 2]) -> u64 {
+    // SAFETY: pointer and length are those of one slice, and `out` is borrowed apart from it.
+    unsafe { flowspec4_read(rule.as_ptr(), rule.len(), out) }
+}
+
+/// Writes one rule from its value to the front of a buffer: `out` is how many octets were written.
+pub fn write(value: &[u8], buffer: &mut [u8], out: &mut [u64; 1]) -> u64 {
+    let (start, length) = (buffer.as_mut_ptr(), buffer.len());
+    // SAFETY: each pointer and length are those of one slice, and `buffer` and `out` are borrowed
+    // apart from all else.
+    unsafe { flowspec4_write(value.as_ptr(), value.len(), start, length, out) }
+}
+
+/// Compares two rules: `out` is 1 if the first precedes, 2 if the second does, 3 if they are the
+/// same rule.
+pub fn compare(first: &[u8], second: &[u8], out: &mut [u64; 1]) -> u64 {
+    let (start, length) = (second.as_ptr(), second.len());
+    // SAFETY: each pointer and length are those of one slice, and `out` is borrowed apart from
+    // both.
+    unsafe { flowspec4_compare(first.as_ptr(), first.len(), start, length, out) }
+}
+
+/// Judges whether a rule is feasible; for `allow_no_destination` 0 is off and any other number on.
+pub fn feasible(routes: &[u32], allow_no_destination: u32, rule: &[u8], originator: u32) -> u64 {
+    // SAFETY: each pointer and length are those of one slice, and nothing is written.
+    unsafe {
+        flowspec4_feasible(
+            routes.as_ptr(),
+            routes.len(),
+            allow_no_destination,
+            rule.as_ptr(),
+            rule.len(),
+            originator,
+        )
+    }
+}
+
+/// Reads communities: `out` is flags, DSCP, byte rate, packet rate and redirect as in a record.
+pub fn actions(communities: &[u8], out: &mut [u64; 5]) -> u64 {
+    // SAFETY: pointer and length are those of one slice, and `out` is borrowed apart from it.
+    unsafe { flowspec4_actions(communities.as_ptr(), communities.len(), out) }
+}
+
+/// Announces a rule with its actions to a table; for `allow_no_destination` 0 is off and any other
+/// number on.
+pub fn announce(
+    table: &mut [u8],
+    routes: &[u32],
+    allow_no_destination: u32,
+    rule: &[u8],
+    originator: u32,
+    communities: &[u8],
+) -> u64 {
+    // SAFETY: each pointer and length are those of one slice, and `table` is borrowed apart from
+    // all else.
+    unsafe {
+        flowspec4_announce(
+            table.as_mut_ptr(),
+            table.len(),
+            routes.as_ptr(),
+            routes.len(),
+            allow_no_destination,
+            rule.as_ptr(),
+            rule.len(),
+            originator,
+            communities.as_ptr(),
+            communities.len(),
+        )
+    }
+}
+
+/// Withdraws a rule from a table.
+pub fn withdraw(table: &mut [u8], rule: &[u8]) -> u64 {
+    // SAFETY: each pointer and length are those of one slice, and `table` is borrowed apart from
+    // `rule`.
+    unsafe { flowspec4_withdraw(table.as_mut_ptr(), table.len(), rule.as_ptr(), rule.len()) }
+}
+
+/// Looks a packet up: `out` is the count of rules collected (0 unmatched, the rest 0), then the
+/// merged actions.
+pub fn lookup(table: &[u8], packet: &[u8], out: &mut [u64; 6]) -> u64 {
+    let (start, length) = (packet.as_ptr(), packet.len());
+    // SAFETY: each pointer and length are those of one slice, and `out` is borrowed apart from
+    // both.
+    unsafe { flowspec4_lookup(table.as_ptr(), table.len(), start, length, out) }
+}
+
+/// Finds the record of the first match: `out` is its start in the table and its length, 0 and 0 if
+/// there is none.
+pub fn first_match(table: &[u8], packet: &[u8], out: &mut [u64; 2]) -> u64 {
+    let (start, length) = (packet.as_ptr(), packet.len());
+    // SAFETY: each pointer and length are those of one slice, and `out` is borrowed apart from
+    // both.
+    unsafe { flowspec4_first_match(table.as_ptr(), table.len(), start, length, out) }
+}

@@ -1,0 +1,177 @@
+//! The table: rules with their actions, in precedence order, in a buffer of at most 65,536 octets.
+
+use crate::actions::Actions;
+use crate::error::{done, Error};
+use crate::ffi;
+
+/// How many octets of a record stand before its value.
+const HEAD: usize = 32;
+
+/// The refusal of an unsound table.
+const TABLE_UNSOUND: u32 = 10;
+
+/// A table over octets of its own (`Vec<u8>`) or lent (`&mut [u8]`; `&[u8]` to look up alone).
+///
+/// It may be made over any octets: a call answers 10 if no list of accepted rules could be these.
+#[derive(Clone, Debug, PartialEq, Eq)]
+pub struct Table<B> {
+    octets: B,
+}
+
+/// What a packet meets in a table.
+#[derive(Clone, Copy, Debug, PartialEq, Eq, Hash)]
+pub enum Verdict {
+    /// No rule matches.
+    Unmatched,
+    /// Rules match.
+    Matched {
+        /// The merged actions; go_on is never set.
+        actions: Actions,
+        /// How many rules were collected.
+        count: u64,
+    },
+}
+
+/// One rule that a table holds.
+#[derive(Clone, Copy, Debug, PartialEq, Eq, Hash)]
+pub struct Record<'a> {
+    /// Who announced it.
+    pub originator: u32,
+    /// Its actions.
+    pub actions: Actions,
+    /// Its value in the plain spelling, a part of the table.
+    pub value: &'a [u8],
+}
+
+impl Table<Vec<u8>> {
+    /// An empty table of this many octets; a rule costs 32 plus its value's length.
+    pub fn new(length: usize) -> Self {
+        Table::over(vec![0; length])
+    }
+}
+
+impl<B: AsRef<[u8]>> Table<B> {
+    /// A table over the given octets; octets that are all zero are an empty table.
+    pub fn over(octets: B) -> Self {
+        Table { octets }
+    }
+
+    /// The table's octets.
+    pub fn octets(&self) -> &[u8] {
+        self.octets.as_ref()
+    }
+
+    /// Gives back what the table is over.
+    pub fn into_inner(self) -> B {
+        self.octets
+    }
+
+    /// Looks a packet up; refused with 10 or 12.
+    pub fn lookup(&self, packet: &[u8]) -> Result<Verdict, Error> {
+        let mut out = [0; 6];
+        done(ffi::lookup(self.octets(), packet, &mut out))?;
+        let [count, words @ ..] = out;
+        Ok(match count {
+            0 => Verdict::Unmatched,
+            _ => Verdict::Matched {
+                actions: Actions::from_words(words),
+                count,
+            },
+        })
+    }
+
+    /// Finds the record of the first rule that matches a packet; refused with 10 or 12.
+    pub fn first_match(&self, packet: &[u8]) -> Result<Option<Record<'_>>, Error> {
+        let mut out = [0; 2];
+        done(ffi::first_match(self.octets(), packet, &mut out))?;
+        let [start, length] = out.map(|word| word as usize);
+        Ok(Record::split(&self.octets()[start..start + length]).map(|(record, _)| record))
+    }
+
+    /// Goes through the rules in precedence order; refused with 10.
+    pub fn records(&self) -> Result<Records<'_>, Error> {
+        match self.lookup(&[]) {
+            // A packet of no octets is unusable (12), which is said only of a sound table.
+            Err(refused) if refused.number == TABLE_UNSOUND => Err(refused),
+            _ => Ok(Records {
+                rest: self.octets(),
+            }),
+        }
+    }
+}
+
+impl<B: AsRef<[u8]> + AsMut<[u8]>> Table<B> {
+    /// Announces a rule with its actions; refused with 10, 9, 1 to 7, 15, 13, 8 or 11.
+    ///
+    /// A refusal changes nothing, except that 8 removes a held equal rule. Routes are four words
+    /// each: address, length, originator, neighbour AS.
+    pub fn announce(
+        &mut self,
+        routes: &[u32],
+        allow_no_destination: bool,
+        rule: &[u8],
+        originator: u32,
+        communities: &[u8],
+    ) -> Result<(), Error> {
+        done(ffi::announce(
+            self.octets.as_mut(),
+            routes,
+            u32::from(allow_no_destination),
+            rule,
+            originator,
+            communities,
+        ))
+    }
+
+    /// Withdraws a rule; refused with 10, 1 to 7, 15 or 14.
+    pub fn withdraw(&mut self, rule: &[u8]) -> Result<(), Error> {
+        done(ffi::withdraw(self.octets.as_mut(), rule))
+    }
+}
+
+impl<'a> Record<'a> {
+    /// Takes the first record off, if there is one: a value length of 0 ends the records.
+    fn split(octets: &'a [u8]) -> Option<(Record<'a>, &'a [u8])> {
+        let (head, rest) = octets.split_at_checked(HEAD)?;
+        let length = number(&head[..2]) as usize;
+        let (value, rest) = rest.split_at_checked(length)?;
+        let words = [
+            u64::from(head[6]),
+            u64::from(head[7]),
+            number(&head[8..16]),
+            number(&head[16..24]),
+            number(&head[24..]),
+        ];
+        let record = Record {
+            originator: number(&head[2..6]) as u32,
+            actions: Actions::from_words(words),
+            value,
+        };
+        (length > 0).then_some((record, rest))
+    }
+}
+
+/// The records of a table, in precedence order.
+#[derive(Clone, Debug)]
+pub struct Records<'a> {
+    rest: &'a [u8],
+}
+
+impl<'a> Iterator for Records<'a> {
+    type Item = Record<'a>;
+
+    fn next(&mut self) -> Option<Record<'a>> {
+        let (record, rest) = Record::split(self.rest)?;
+        self.rest = rest;
+        Some(record)
+    }
+}
+
+impl std::iter::FusedIterator for Records<'_> {}
+
+/// A big-endian number of at most eight octets.
+fn number(octets: &[u8]) -> u64 {
+    octets
+        .iter()
+        .fold(0, |number, octet| number << 8 | u64::from(*octet))
+}
