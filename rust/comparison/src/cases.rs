@@ -1,0 +1,178 @@
+//! The calls of a run: each is settled by the run's seed and its own number.
+
+use crate::calls::{Call, Judged};
+use crate::random::Random;
+use crate::rules::{self, Component};
+use crate::tables::{self, Held};
+use crate::{communities, packets, routes, world};
+
+/// The number of no case, from which the tables of the stock are drawn.
+const STOCK: u64 = u64::MAX;
+
+/// Maker of the cases of a seed.
+pub struct Cases {
+    seed: u64,
+    stock: Vec<Held>,
+}
+
+impl Cases {
+    /// Prepares the larger tables, which many cases share since they take long to make.
+    pub fn new(seed: u64) -> Cases {
+        let mut random = Random::new(seed, STOCK);
+        let sizes = [(2_048, 30), (8_192, 100), (65_536, 300), (65_536, 1_200)];
+        let stock = sizes
+            .iter()
+            .map(|(length, count)| tables::sound(&mut random, *length, *count))
+            .collect();
+        Cases { seed, stock }
+    }
+
+    /// The call of this number.
+    pub fn call(&self, number: u64) -> Call {
+        let random = &mut Random::new(self.seed, number);
+        match random.below(32) {
+            0..=4 => Call::Read {
+                rule: rules::rule(random),
+            },
+            5..=8 => write(random),
+            9..=13 => compare(random),
+            14..=16 => feasible(random),
+            17..=19 => Call::Actions {
+                communities: communities::any(random),
+            },
+            20..=24 => self.announce(random),
+            25..=27 => self.withdraw(random),
+            28..=29 => {
+                let (table, packet) = self.looked_up(random);
+                Call::Lookup { table, packet }
+            }
+            _ => {
+                let (table, packet) = self.looked_up(random);
+                Call::FirstMatch { table, packet }
+            }
+        }
+    }
+
+    /// A table: mostly small, rarely one of the stock, sometimes damaged.
+    fn table(&self, random: &mut Random) -> Held {
+        let mut held = match random.one_in(2_000) {
+            true => self.stock[random.below(self.stock.len())].clone(),
+            false => tables::small(random),
+        };
+        if random.one_in(8) {
+            tables::damage(random, &mut held);
+        }
+        held
+    }
+
+    /// An announcement, in half the cases of a rule that is held.
+    fn announce(&self, random: &mut Random) -> Call {
+        let mut held = self.table(random);
+        let rule = rule_near(random, &held);
+        if random.one_in(4) {
+            tables::narrow(random, &mut held.octets, rule.len().saturating_sub(1));
+        }
+        let originator = world::originator(random);
+        let routes = match random.one_in(2) {
+            true => vec![0, 0, originator, 64500],
+            false => routes::routes(random),
+        };
+        Call::Announce {
+            table: held.octets,
+            judged: Judged {
+                routes,
+                allow_no_destination: setting(random),
+                rule,
+                originator,
+            },
+            communities: communities::any(random),
+        }
+    }
+
+    /// A withdrawal, in half the cases of a rule that is held.
+    fn withdraw(&self, random: &mut Random) -> Call {
+        let held = self.table(random);
+        Call::Withdraw {
+            rule: rule_near(random, &held),
+            table: held.octets,
+        }
+    }
+
+    /// A table and a packet, mostly aimed at one of its rules.
+    fn looked_up(&self, random: &mut Random) -> (Vec<u8>, Vec<u8>) {
+        let held = self.table(random);
+        let packet = aimed_packet(random, &held.rules);
+        (held.octets, packet)
+    }
+}
+
+/// A packet, in four of five cases aimed at one of the rules.
+pub fn aimed_packet(random: &mut Random, rules: &[Vec<Component>]) -> Vec<u8> {
+    if rules.is_empty() || random.one_in(5) {
+        packets::packet(random, &[])
+    } else {
+        let at = random.below(rules.len());
+        packets::packet(random, &rules[at])
+    }
+}
+
+/// The setting for rules with no destination: 0 is off, any other number on.
+fn setting(random: &mut Random) -> u32 {
+    random.pick(&[0, 0, 1, 2, 0x100, 0x8000_0000, u32::MAX])
+}
+
+/// A rule that the table holds, in some spelling, or any rule.
+fn rule_near(random: &mut Random, held: &Held) -> Vec<u8> {
+    if held.rules.is_empty() || random.one_in(2) {
+        return rules::rule(random);
+    }
+    let mut components = held.rules[random.below(held.rules.len())].clone();
+    rules::respell(random, &mut components);
+    let two_octets = random.one_in(2);
+    rules::rule_of(&rules::value_of(&components), two_octets)
+}
+
+/// A value and a buffer, which is often just long enough or just too short.
+fn write(random: &mut Random) -> Call {
+    let value = rules::value(random);
+    let length = match random.below(4) {
+        0 => random.below(16),
+        1 => value.len() + 16,
+        _ => (value.len() + 4).saturating_sub(random.below(6)),
+    };
+    Call::Write {
+        value,
+        buffer: random.octets(length),
+    }
+}
+
+/// Two rules: unlike, the same in another spelling, or alike but for a bit.
+fn compare(random: &mut Random) -> Call {
+    if random.one_in(2) {
+        return Call::Compare {
+            first: rules::rule(random),
+            second: rules::rule(random),
+        };
+    }
+    let mut components = rules::components(random);
+    let first = rules::rule_of(&rules::value_of(&components), random.one_in(4));
+    rules::respell(random, &mut components);
+    let mut value = rules::value_of(&components);
+    if random.one_in(2) {
+        random.flip_bit(&mut value);
+    }
+    let mut pair = [first, rules::rule_of(&value, random.one_in(4))];
+    random.shuffle(&mut pair);
+    let [first, second] = pair;
+    Call::Compare { first, second }
+}
+
+/// Routes and a rule, of any originator.
+fn feasible(random: &mut Random) -> Call {
+    Call::Feasible(Judged {
+        routes: routes::routes(random),
+        allow_no_destination: setting(random),
+        rule: rules::rule(random),
+        originator: world::originator(random),
+    })
+}

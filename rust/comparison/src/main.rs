@@ -1,0 +1,86 @@
+//! The comparison for as many cases as wanted, and one case again.
+//!
+//! `cargo run --release --offline -p comparison -- --cases N --histories H --seed S` compares N
+//! calls and H histories; `--replay SEED:NUMBER` shows one call, and `--replay-history SEED:NUMBER`
+//! runs one history.
+
+use comparison::cases::Cases;
+use comparison::histories::history;
+use comparison::report::Distribution;
+use comparison::{agreed, compare_calls, compare_histories, SEED};
+use std::process::ExitCode;
+
+/// What the command line asks for.
+struct Wanted {
+    cases: u64,
+    histories: u64,
+    seed: u64,
+    replay: Option<(u64, u64)>,
+    replay_history: Option<(u64, u64)>,
+}
+
+/// A number of the command line.
+fn number(text: &str) -> Result<u64, String> {
+    text.parse().map_err(|_| format!("{text} is not a number"))
+}
+
+/// A seed and the number of a case, parted by a colon.
+fn place(text: &str) -> Result<(u64, u64), String> {
+    let (seed, case) = text
+        .split_once(':')
+        .ok_or(format!("{text} is not SEED:NUMBER"))?;
+    Ok((number(seed)?, number(case)?))
+}
+
+/// Reads the command line.
+fn wanted(mut words: impl Iterator<Item = String>) -> Result<Wanted, String> {
+    let mut wanted = Wanted {
+        cases: 1_000_000,
+        histories: 100,
+        seed: SEED,
+        replay: None,
+        replay_history: None,
+    };
+    while let Some(word) = words.next() {
+        let given = words.next().ok_or(format!("{word} needs a value"))?;
+        match word.as_str() {
+            "--cases" => wanted.cases = number(&given)?,
+            "--histories" => wanted.histories = number(&given)?,
+            "--seed" => wanted.seed = number(&given)?,
+            "--replay" => wanted.replay = Some(place(&given)?),
+            "--replay-history" => wanted.replay_history = Some(place(&given)?),
+            _ => return Err(format!("{word} is not known")),
+        }
+    }
+    Ok(wanted)
+}
+
+/// Does what the command line asks for.
+fn run() -> Result<(), String> {
+    let wanted = wanted(std::env::args().skip(1))?;
+    let mut seen = Distribution::default();
+    if let Some((seed, number)) = wanted.replay {
+        let call = Cases::new(seed).call(number);
+        println!("{call}\nboth: {}", agreed(&call, true)?);
+    } else if let Some((seed, number)) = wanted.replay_history {
+        history(seed, number, &mut seen)?;
+        println!("{seen}");
+    } else {
+        compare_calls(wanted.seed, wanted.cases, &mut seen)?;
+        println!("{seen}");
+        let mut seen = Distribution::default();
+        compare_histories(wanted.seed, wanted.histories, &mut seen)?;
+        println!("{} histories\n{seen}", wanted.histories);
+    }
+    Ok(())
+}
+
+fn main() -> ExitCode {
+    match run() {
+        Ok(()) => ExitCode::SUCCESS,
+        Err(text) => {
+            eprintln!("{text}");
+            ExitCode::FAILURE
+        }
+    }
+}

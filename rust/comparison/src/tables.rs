@@ -1,0 +1,174 @@
+//! Tables: empty, sound by their history, full or nearly so, and damaged.
+
+use crate::communities;
+use crate::random::Random;
+use crate::rules::{self, Component};
+use crate::world;
+
+/// How many octets of a record stand before its value.
+pub const HEAD: usize = 32;
+
+/// The community that sets T: go on to later rules.
+const GO_ON: [u8; 8] = [0x80, 0x07, 0, 0, 0, 0, 0, 0x01];
+
+/// A sound table and the rules that were announced to it.
+#[derive(Clone)]
+pub struct Held {
+    pub octets: Vec<u8>,
+    pub rules: Vec<Vec<Component>>,
+}
+
+/// Where each record of a sound table starts and ends.
+pub fn records(octets: &[u8]) -> Vec<(usize, usize)> {
+    let mut found = Vec::new();
+    let mut at = 0;
+    while at + HEAD < octets.len() && octets[at..at + 2] != [0, 0] {
+        let length = usize::from(octets[at]) << 8 | usize::from(octets[at + 1]);
+        found.push((at, at + HEAD + length));
+        at += HEAD + length;
+    }
+    found
+}
+
+/// How many octets the records of a sound table take.
+pub fn used(octets: &[u8]) -> usize {
+    records(octets).last().map_or(0, |(_, end)| *end)
+}
+
+/// Announces a rule to a table with a route that makes it feasible; it may be left out by 11 or 13.
+fn announce(random: &mut Random, held: &mut Held, components: Vec<Component>) {
+    let rule = rules::rule_of(&rules::value_of(&components), false);
+    let originator = world::originator(random);
+    let routes = [0, 0, originator, 64500];
+    let mut communities = communities::communities(random);
+    if random.one_in(2) {
+        communities.splice(..0, GO_ON);
+    }
+    let answer = reference::announce(
+        &mut held.octets,
+        &routes,
+        true,
+        &rule,
+        originator,
+        &communities,
+    );
+    if answer.is_ok() {
+        held.rules.push(components);
+    }
+}
+
+/// A sound table of so many octets, to which so many rules were announced as long as there was
+/// room; many are wider than one before, so that a packet may match several.
+pub fn sound(random: &mut Random, length: usize, count: usize) -> Held {
+    let mut held = Held {
+        octets: vec![0; length],
+        rules: Vec::new(),
+    };
+    for _ in 0..count {
+        let components = match held.rules.is_empty() || random.one_in(2) {
+            true => rules::components(random),
+            false => {
+                let at = random.below(held.rules.len());
+                rules::wider(random, &held.rules[at])
+            }
+        };
+        announce(random, &mut held, components);
+    }
+    held
+}
+
+/// A sound table of few rules, rarely with a long one, with some room left, little or none.
+pub fn small(random: &mut Random) -> Held {
+    let count = random.pick(&[0, 1, 2, 2, 3, 3, 4, 5, 8]);
+    let mut held = sound(random, 1 << 10, count);
+    if random.one_in(100) {
+        held.octets.resize(1 << 13, 0);
+        let length = random.pick(&[239, 240, 255, 256, 4094, 4095]);
+        let components = rules::components_of_length(random, length);
+        announce(random, &mut held, components);
+    }
+    let room = random.pick(&[0, 1, 2, 31, 32, 33, 64, 100, 300]);
+    let length = used(&held.octets) + room;
+    held.octets.resize(length, 0);
+    held
+}
+
+/// Leaves so much room behind the records that a rule of this length just fits or just does not.
+pub fn narrow(random: &mut Random, octets: &mut Vec<u8>, value_length: usize) {
+    let room = (HEAD + value_length + 2).saturating_sub(random.below(5));
+    octets.resize(used(octets) + room, 0);
+}
+
+/// Writes a number where a record has one that would be zero or of few kinds.
+fn damage_head(random: &mut Random, octets: &mut [u8], start: usize) {
+    let number = match random.below(4) {
+        0 => 1 << 63,
+        1 => (1 << 63) + 1,
+        2 => (1 << 24) + 1,
+        _ => random.word() >> random.below(64),
+    };
+    match random.below(6) {
+        0 => octets[start + 6] ^= 1 << random.below(8),
+        1 => octets[start + 7] = random.octet(),
+        2 => octets[start + 8..start + 16].copy_from_slice(&number.to_be_bytes()),
+        3 => octets[start + 16..start + 24].copy_from_slice(&number.to_be_bytes()),
+        4 => octets[start + 24..start + 32].copy_from_slice(&number.to_be_bytes()),
+        _ => {
+            let kind: u16 = random.pick(&[0x8008, 0x8108, 0x8208, 0x8308, 0x8009]);
+            octets[start + 6] |= 32;
+            octets[start + 24..start + 26].copy_from_slice(&kind.to_be_bytes());
+        }
+    }
+}
+
+/// Puts the records into another order, or one of them in twice.
+fn damage_order(random: &mut Random, octets: &mut Vec<u8>, records: &[(usize, usize)]) {
+    let mut parts: Vec<Vec<u8>> = records
+        .iter()
+        .map(|(start, end)| octets[*start..*end].to_vec())
+        .collect();
+    let at = random.below(parts.len());
+    match random.below(2) {
+        0 => random.shuffle(&mut parts),
+        _ => parts.insert(at, parts[at].clone()),
+    }
+    let rest = octets.split_off(records[records.len() - 1].1);
+    *octets = parts.concat();
+    octets.extend(rest);
+}
+
+/// Sets bits that are to be ignored in the value of one held rule, so that it is not plain.
+fn damage_spelling(random: &mut Random, held: &mut Held) {
+    let at = random.below(held.rules.len());
+    let plain = rules::value_of(&held.rules[at]);
+    let mut other = held.rules[at].clone();
+    rules::respell(random, &mut other);
+    let places = held.octets.windows(plain.len());
+    let found = places.into_iter().position(|part| part == plain);
+    if let Some(start) = found {
+        held.octets[start..start + plain.len()].copy_from_slice(&rules::value_of(&other));
+    }
+}
+
+/// Spoils a table; some of what is done leaves it sound.
+pub fn damage(random: &mut Random, held: &mut Held) {
+    let records = records(&held.octets);
+    if records.is_empty() || random.one_in(8) {
+        match random.below(4) {
+            0 => held.octets.resize(65_536 + 1 + random.below(2), 0),
+            1 => random.flip_bit(&mut held.octets),
+            2 => held.octets.truncate(random.below(held.octets.len() + 1)),
+            _ => held.octets.push(random.octet()),
+        }
+        return;
+    }
+    let (start, end) = random.pick(&records);
+    match random.below(6) {
+        0 => random.flip_bit(&mut held.octets),
+        1 => random.flip_bit(&mut held.octets[start..end]),
+        2 => damage_head(random, &mut held.octets, start),
+        3 => damage_order(random, &mut held.octets, &records),
+        4 => damage_spelling(random, held),
+        _ => held.octets[start + random.below(2)] = random.octet(),
+    }
+}
