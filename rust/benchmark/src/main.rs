@@ -1,0 +1,139 @@
+//! Times each call of the proved library beside the reference, which does the same job with the same
+//! checks, and how both grow with the number of rules.
+//!
+//! `cargo run --release --offline -p benchmark` in `rust/`.
+
+mod jobs;
+mod load;
+mod sides;
+
+use jobs::{Job, Run, Setting, RUNS};
+use load::{Load, PACKETS, TABLE};
+use sides::{Library, Reference, Side};
+
+/// The sizes between which growth is measured.
+const SIZES: [usize; 2] = [100, 1_200];
+
+/// The jobs by name, as the library and as the reference do them.
+const JOBS: [(&str, Job, Job); 9] = [
+    ("read", jobs::read::<Library>, jobs::read::<Reference>),
+    ("write", jobs::write::<Library>, jobs::write::<Reference>),
+    (
+        "compare",
+        jobs::compare::<Library>,
+        jobs::compare::<Reference>,
+    ),
+    (
+        "actions",
+        jobs::actions::<Library>,
+        jobs::actions::<Reference>,
+    ),
+    (
+        "feasible",
+        jobs::feasible::<Library>,
+        jobs::feasible::<Reference>,
+    ),
+    (
+        "announce",
+        jobs::announce::<Library>,
+        jobs::announce::<Reference>,
+    ),
+    (
+        "withdraw",
+        jobs::withdraw::<Library>,
+        jobs::withdraw::<Reference>,
+    ),
+    ("lookup", jobs::lookup::<Library>, jobs::lookup::<Reference>),
+    (
+        "first match",
+        jobs::first_match::<Library>,
+        jobs::first_match::<Reference>,
+    ),
+];
+
+/// The nanoseconds of one call in the middle one of the runs.
+fn median(runs: &[Run]) -> f64 {
+    let mut times: Vec<f64> = runs
+        .iter()
+        .map(|run| run.time.as_nanos() as f64 / run.calls as f64)
+        .collect();
+    times.sort_by(f64::total_cmp);
+    times[times.len() / 2]
+}
+
+/// Times a job done by both sides in turn: nanoseconds of a call of each.
+fn measure(setting: &Setting, library: Job, reference: Job) -> [f64; 2] {
+    let mut runs = [Vec::new(), Vec::new()];
+    for run in 0..RUNS {
+        let (ours, theirs) = (library(setting, run), reference(setting, run));
+        assert_eq!(ours.sum, theirs.sum, "both answer the same");
+        runs[0].push(ours);
+        runs[1].push(theirs);
+    }
+    runs.map(|runs| median(&runs))
+}
+
+/// A time as text.
+fn shown(nanoseconds: f64) -> String {
+    match nanoseconds {
+        below if below < 10_000.0 => format!("{below:.0} ns"),
+        _ => format!("{:.1} us", nanoseconds / 1_000.0),
+    }
+}
+
+/// What the times are measured on.
+fn describe(load: &Load) {
+    let rules = SIZES[1];
+    let short = load.short_destinations(rules);
+    let setting = Setting::new(load, rules);
+    let packets = load.packets.iter();
+    let matched = packets.filter(|packet| Reference::lookup(&setting.table, packet) > 0);
+    let matched = matched.count();
+    let part = |count: usize, all: usize| 100.0 * count as f64 / all as f64;
+    println!("tables of {TABLE} octets; {} routes", load.routes.len() / 4);
+    println!(
+        "{rules} rules, {short} of them ({:.1} %) with a destination shorter than 16 bits",
+        part(short, rules)
+    );
+    println!(
+        "{PACKETS} packets, {matched} of them ({:.1} %) match at {rules} rules",
+        part(matched, PACKETS)
+    );
+    println!("time of a call: the median of {RUNS} runs, library and reference in turn\n");
+}
+
+/// A line of the result: times and ratio at each size, and how much both grow.
+fn print_line(name: &str, times: [[f64; 2]; 2]) {
+    print!("{name:12}");
+    for [library, reference] in times {
+        print!(
+            " | {:>10} {:>10} {:>6.2}",
+            shown(library),
+            shown(reference),
+            library / reference
+        );
+    }
+    let [small, large] = times;
+    println!(
+        " | {:>7.2} {:>7.2}",
+        large[0] / small[0],
+        large[1] / small[1]
+    );
+}
+
+fn main() {
+    let load = Load::new(SIZES[1]);
+    describe(&load);
+    let [small, large] = SIZES.map(|rules| format!("{rules} rules"));
+    println!("{:12} | {small:28} | {large:28} | growth", "");
+    let columns = format!("{:>10} {:>10} {:>6}", "library", "reference", "ratio");
+    println!(
+        "{:12} | {columns} | {columns} | {:>7} {:>7}",
+        "call", "lib", "ref"
+    );
+    let settings = SIZES.map(|rules| Setting::new(&load, rules));
+    for (name, library, reference) in JOBS {
+        let times = [0, 1].map(|size| measure(&settings[size], library, reference));
+        print_line(name, times);
+    }
+}
