@@ -5,13 +5,13 @@ use crate::sides::Side;
 use std::time::{Duration, Instant};
 
 /// How often each side does each job.
-pub const RUNS: usize = 5;
+pub const RUNS: usize = 25;
 
 /// How many calls a run makes where a call is short.
-const SHORT_CALLS: usize = 120_000;
+const SHORT_CALLS: usize = 24_000;
 
 /// How many calls a run makes that change the table.
-const CHANGES: usize = 400;
+const CHANGES: usize = 80;
 
 /// What one run took, how many calls it made, and a sum of what they answered.
 pub struct Run {
@@ -83,7 +83,7 @@ pub fn compare<S: Side>(setting: &Setting, _: usize) -> Run {
 
 pub fn feasible<S: Side>(setting: &Setting, _: usize) -> Run {
     let rules = &setting.load.rules[..setting.rules];
-    timed(SHORT_CALLS / 20, |number| {
+    timed(SHORT_CALLS / 8, |number| {
         S::feasible(&setting.load.routes, &rules[number % rules.len()])
     })
 }

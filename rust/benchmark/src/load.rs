@@ -2,7 +2,7 @@
 //! the same in every run.
 
 use comparison::random::Random;
-use std::collections::BTreeSet;
+use std::collections::BTreeMap;
 
 /// How many octets a table has.
 pub const TABLE: usize = 65_536;
@@ -25,55 +25,88 @@ pub struct Load {
     pub rules: Vec<Vec<u8>>,
     /// Communities, as many as rules.
     pub communities: Vec<Vec<u8>>,
-    /// Packets, of which about half are aimed at a rule.
+    /// Packets, of which at least half belong to a rule.
     pub packets: Vec<Vec<u8>>,
     /// Routes as words, under which all rules are feasible.
     pub routes: Vec<u32>,
 }
 
-/// A prefix of 10.0.0.0/8 of this length, as a component of this type.
-fn prefix(random: &mut Random, kind: u8, length: u8) -> Vec<u8> {
+/// What a rule asks for: prefixes as address and length, and some fields.
+struct Flow {
+    destination: (u32, u8),
+    source: Option<(u32, u8)>,
+    protocol: Option<u8>,
+    port: Option<u16>,
+    is_syn: bool,
+    is_long: bool,
+}
+
+/// A port that traffic is sent to.
+fn port(random: &mut Random) -> u16 {
+    random.pick(&[25, 53, 80, 123, 443, 1900, 8080, 11211])
+}
+
+/// A prefix of 10.0.0.0/8 of this length.
+fn prefix(random: &mut Random, length: u8) -> (u32, u8) {
     let address = 0x0a00_0000 | random.word() as u32 & 0x00ff_ffff;
-    let masked = address & u32::MAX << (32 - length);
-    let octets = usize::from(length).div_ceil(8);
-    let mut component = vec![kind, length];
-    component.extend_from_slice(&masked.to_be_bytes()[..octets]);
-    component
+    (address & u32::MAX << (32 - length), length)
 }
 
-/// A port as a pair that asks for equality.
-fn port(random: &mut Random) -> [u8; 3] {
-    let port: u16 = random.pick(&[25, 53, 80, 123, 443, 1900, 8080, 11211]);
-    let [high, low] = port.to_be_bytes();
-    [0x91, high, low]
-}
-
-/// The value of a rule: a destination, which is rarely short, and a few other components; one with
-/// a short destination asks for more, so that it does not match all.
-fn value(random: &mut Random) -> Vec<u8> {
+/// A flow with a destination, which is rarely short, and a few other things asked for; one with a
+/// short destination asks for more, so that it does not match all.
+fn flow(random: &mut Random) -> Flow {
     let short = random.one_in(20);
     let length = match short {
         true => 9 + random.below(7) as u8,
         false => random.pick(&[24, 24, 24, 28, 32, 32, 32]),
     };
-    let mut value = prefix(random, 1, length);
-    if short || random.one_in(5) {
-        value.extend(prefix(random, 2, if short { 12 } else { 24 }));
+    let is_syn = random.one_in(8);
+    Flow {
+        destination: prefix(random, length),
+        source: match short || random.one_in(5) {
+            true => Some(prefix(random, if short { 12 } else { 24 })),
+            false => None,
+        },
+        protocol: match is_syn {
+            true => Some(6),
+            false => (!random.one_in(5)).then(|| random.pick(&[6, 17])),
+        },
+        port: (short || random.one_in(2)).then(|| port(random)),
+        is_syn,
+        is_long: random.one_in(8),
     }
-    if !random.one_in(5) {
-        value.extend([3, 0x81, random.pick(&[6, 17])]);
+}
+
+/// The value of a flow's rule.
+fn value(flow: &Flow) -> Vec<u8> {
+    let mut value = Vec::new();
+    let prefixes = [(1, Some(flow.destination)), (2, flow.source)];
+    for (kind, prefix) in prefixes {
+        if let Some((address, length)) = prefix {
+            let octets = usize::from(length).div_ceil(8);
+            value.extend([kind, length]);
+            value.extend(&address.to_be_bytes()[..octets]);
+        }
     }
-    if short || random.one_in(2) {
-        value.push(5);
-        value.extend(port(random));
+    if let Some(protocol) = flow.protocol {
+        value.extend([3, 0x81, protocol]);
     }
-    if random.one_in(8) {
+    if let Some(port) = flow.port {
+        value.extend([5, 0x91]);
+        value.extend(port.to_be_bytes());
+    }
+    if flow.is_syn {
         value.extend([9, 0x81, 0x02]);
     }
-    if random.one_in(8) {
+    if flow.is_long {
         value.extend([10, 0x13, 0x01, 0xf4, 0xd5, 0x05, 0xdc]);
     }
     value
+}
+
+/// The rule of a value that is shorter than 240 octets.
+fn rule(value: Vec<u8>) -> Vec<u8> {
+    [vec![value.len() as u8], value].concat()
 }
 
 /// Two communities: a rate, and sampling, marking, redirecting or going on.
@@ -91,20 +124,30 @@ fn communities(random: &mut Random) -> Vec<u8> {
     octets
 }
 
-/// A packet of 40 octets; if aimed at a rule, to its destination, of its protocol, to its port.
-fn packet(random: &mut Random, aimed_at: Option<&[u8]>) -> Vec<u8> {
+/// The first 40 octets of a packet, which belongs to the flow if one is given.
+fn packet(random: &mut Random, flow: Option<&Flow>) -> Vec<u8> {
+    let (mut source, mut destination) = (prefix(random, 32).0, prefix(random, 32).0);
+    let mut protocol = random.pick(&[6, 17]);
+    let mut port = port(random);
+    let mut total: u16 = random.pick(&[40, 1_000]);
+    let mut flags = 0x10;
+    if let Some(flow) = flow {
+        destination = flow.destination.0;
+        source = flow.source.map_or(source, |(address, _)| address);
+        protocol = flow.protocol.unwrap_or(protocol);
+        port = flow.port.unwrap_or(port);
+        total = if flow.is_long { 1_000 } else { total };
+        flags = if flow.is_syn { 0x02 } else { flags };
+    }
     let mut packet = random.octets(40);
     packet[0] = 0x45;
-    packet[2..4].copy_from_slice(&[0, 40]);
+    packet[2..4].copy_from_slice(&total.to_be_bytes());
     packet[6..8].copy_from_slice(&[0x40, 0]);
-    packet[9] = random.pick(&[6, 17]);
-    packet[12] = 10;
-    packet[16] = 10;
-    packet[22..24].copy_from_slice(&port(random)[1..]);
-    if let Some(rule) = aimed_at {
-        let octets = usize::from(rule[2]) / 8;
-        packet[16..16 + octets].copy_from_slice(&rule[3..3 + octets]);
-    }
+    packet[9] = protocol;
+    packet[12..16].copy_from_slice(&source.to_be_bytes());
+    packet[16..20].copy_from_slice(&destination.to_be_bytes());
+    packet[22..24].copy_from_slice(&port.to_be_bytes());
+    packet[33] = flags;
     packet
 }
 
@@ -112,21 +155,20 @@ impl Load {
     /// The load with so many rules.
     pub fn new(count: usize) -> Load {
         let random = &mut Random::new(8955, 0);
-        let mut values = BTreeSet::new();
-        while values.len() < count {
-            values.insert(value(random));
+        let mut flows = BTreeMap::new();
+        while flows.len() < count {
+            let flow = flow(random);
+            flows.insert(value(&flow), flow);
         }
-        let mut rules: Vec<Vec<u8>> = values
-            .into_iter()
-            .map(|value| [vec![value.len() as u8], value].concat())
-            .collect();
-        random.shuffle(&mut rules);
+        let mut flows: Vec<(Vec<u8>, Flow)> = flows.into_iter().collect();
+        random.shuffle(&mut flows);
         let packets = (0..PACKETS)
             .map(|_| {
-                let aimed_at = random.one_in(2).then(|| random.below(count));
-                packet(random, aimed_at.map(|at| &rules[at][..]))
+                let of_rule = random.one_in(2).then(|| random.below(count));
+                packet(random, of_rule.map(|at| &flows[at].1))
             })
             .collect();
+        let rules = flows.into_iter().map(|(value, _)| rule(value)).collect();
         Load {
             communities: (0..count).map(|_| communities(random)).collect(),
             packets,

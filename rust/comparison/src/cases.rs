@@ -53,11 +53,12 @@ impl Cases {
         }
     }
 
-    /// A table: mostly small, rarely one of the stock, sometimes damaged.
+    /// A table: mostly small, rarely one of the stock or one with a long value, sometimes damaged.
     fn table(&self, random: &mut Random) -> Held {
-        let mut held = match random.one_in(2_000) {
-            true => self.stock[random.below(self.stock.len())].clone(),
-            false => tables::small(random),
+        let mut held = match random.below(1_000) {
+            0 | 1 => self.stock[random.below(self.stock.len())].clone(),
+            2 => tables::long(random),
+            _ => tables::small(random),
         };
         if random.one_in(8) {
             tables::damage(random, &mut held);

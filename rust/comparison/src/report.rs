@@ -188,6 +188,11 @@ impl Distribution {
         *self.counts.entry(key).or_default() += 1;
     }
 
+    /// How often a call gave an answer of this kind.
+    pub fn times(&self, call: &'static str, kind: &'static str) -> u64 {
+        self.counts.get(&(call, kind)).copied().unwrap_or_default()
+    }
+
     /// How many answers were counted.
     pub fn total(&self) -> u64 {
         self.counts.values().sum()
@@ -199,7 +204,7 @@ impl Distribution {
         let mut faults = Vec::new();
         let expected: Vec<_> = EXPECTED.iter().flat_map(kinds).collect();
         for (call, kind) in &expected {
-            if !self.counts.contains_key(&(*call, *kind)) {
+            if self.times(call, kind) == 0 {
                 faults.push(format!("{call} never answered {kind}"));
             }
         }

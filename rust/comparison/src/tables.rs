@@ -93,6 +93,21 @@ pub fn small(random: &mut Random) -> Held {
     held
 }
 
+/// A table of one record that is written here, since its value may be longer than a rule's can be.
+pub fn long(random: &mut Random) -> Held {
+    let length = random.pick(&[4_094, 4_095, 4_096, 4_097, 5_000]);
+    let components = rules::components_of_length(random, length);
+    let mut octets = vec![0; HEAD];
+    octets[..2].copy_from_slice(&(length as u16).to_be_bytes());
+    octets.extend(rules::value_of(&components));
+    let room = random.pick(&[0, 1, 33, 5_000]);
+    octets.resize(octets.len() + room, 0);
+    Held {
+        octets,
+        rules: vec![components],
+    }
+}
+
 /// Leaves so much room behind the records that a rule of this length just fits or just does not.
 pub fn narrow(random: &mut Random, octets: &mut Vec<u8>, value_length: usize) {
     let room = (HEAD + value_length + 2).saturating_sub(random.below(5));

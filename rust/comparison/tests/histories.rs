@@ -3,10 +3,26 @@
 use comparison::report::Distribution;
 use comparison::{compare_histories, SEED};
 
+/// Answers without which the histories would show little.
+const MET: [(&str, &str); 9] = [
+    ("announce", "0 new"),
+    ("announce", "0 again"),
+    ("announce", "8 removed"),
+    ("announce", "11"),
+    ("withdraw", "0"),
+    ("withdraw", "14"),
+    ("lookup", "0 unmatched"),
+    ("lookup", "0 several"),
+    ("first_match", "0 record"),
+];
+
 #[test]
 fn histories() {
     let mut seen = Distribution::default();
-    let compared = compare_histories(SEED, 60, &mut seen);
+    let compared = compare_histories(SEED, 150, &mut seen);
     println!("{seen}");
     compared.unwrap_or_else(|text| panic!("{text}"));
+    for (call, kind) in MET {
+        assert!(seen.times(call, kind) > 0, "{call} never answered {kind}");
+    }
 }
