@@ -1,17 +1,25 @@
 //! The jobs that are timed, each done by either side in the same way.
+//!
+//! A run makes so few calls that it takes a millisecond or two, and there are many runs: what else
+//! the machine does then falls into few of them, and the middle one is not touched.
 
 use crate::load::{Load, PACKETS, TABLE};
-use crate::sides::Side;
+use crate::sides::{Library, Reference, Side};
 use std::time::{Duration, Instant};
 
-/// How often each side does each job.
-pub const RUNS: usize = 25;
+/// How many packets a run looks up; all packets are looked up once.
+const PACKETS_A_RUN: usize = 5;
 
-/// How many calls a run makes where a call is short.
-const SHORT_CALLS: usize = 24_000;
+/// How many runs look packets up.
+const LOOKING_RUNS: usize = PACKETS / PACKETS_A_RUN;
 
-/// How many calls a run makes that change the table.
-const CHANGES: usize = 80;
+/// How many calls a run makes where a call is short, and how many runs there are.
+const SHORT_CALLS: usize = 400;
+const SHORT_RUNS: usize = 1_000;
+
+/// How many calls a run makes that change the table, and how many runs there are.
+const CHANGES: usize = 4;
+const CHANGING_RUNS: usize = 500;
 
 /// What one run took, how many calls it made, and a sum of what they answered.
 pub struct Run {
@@ -27,32 +35,101 @@ pub struct Setting<'a> {
     pub table: Vec<u8>,
 }
 
-/// A job, done by one side: the setting and the number of the run give the time.
-pub type Job = fn(&Setting, usize) -> Run;
+/// A run of a job by one side: it depends on the setting and on the number of the run.
+pub type RunOf = fn(&Setting, usize) -> Run;
+
+/// A job, which both sides do in turn.
+pub struct Job {
+    pub name: &'static str,
+    pub runs: usize,
+    pub library: RunOf,
+    pub reference: RunOf,
+}
+
+/// A job from the two forms of its run.
+const fn job(name: &'static str, runs: usize, library: RunOf, reference: RunOf) -> Job {
+    Job {
+        name,
+        runs,
+        library,
+        reference,
+    }
+}
+
+/// All jobs.
+pub const JOBS: [Job; 9] = [
+    job("read", SHORT_RUNS, read::<Library>, read::<Reference>),
+    job("write", SHORT_RUNS, write::<Library>, write::<Reference>),
+    job(
+        "compare",
+        SHORT_RUNS,
+        compare::<Library>,
+        compare::<Reference>,
+    ),
+    job(
+        "actions",
+        SHORT_RUNS,
+        actions::<Library>,
+        actions::<Reference>,
+    ),
+    job(
+        "feasible",
+        SHORT_RUNS,
+        feasible::<Library>,
+        feasible::<Reference>,
+    ),
+    job(
+        "announce",
+        CHANGING_RUNS,
+        announce::<Library>,
+        announce::<Reference>,
+    ),
+    job(
+        "withdraw",
+        CHANGING_RUNS,
+        withdraw::<Library>,
+        withdraw::<Reference>,
+    ),
+    job(
+        "lookup",
+        LOOKING_RUNS,
+        lookup::<Library>,
+        lookup::<Reference>,
+    ),
+    job(
+        "first match",
+        LOOKING_RUNS,
+        first_match::<Library>,
+        first_match::<Reference>,
+    ),
+];
 
 impl Setting<'_> {
     /// The setting with so many rules.
     pub fn new(load: &Load, rules: usize) -> Setting<'_> {
         let mut table = vec![0; TABLE];
         for (rule, communities) in load.rules[..rules].iter().zip(&load.communities) {
-            let answer =
-                crate::sides::Library::announce(&mut table, &load.routes, rule, communities);
+            let answer = Library::announce(&mut table, &load.routes, rule, communities);
             assert_eq!(answer, 1, "each rule is held");
         }
         Setting { load, rules, table }
     }
 
-    /// The packets of a run.
-    fn packets(&self, run: usize) -> &[Vec<u8>] {
-        let share = PACKETS / RUNS;
-        &self.load.packets[run * share..(run + 1) * share]
+    /// The rule at a place, counted round and round.
+    fn rule(&self, at: usize) -> &[u8] {
+        &self.load.rules[at % self.rules]
+    }
+
+    /// The communities of the rule at a place.
+    fn communities(&self, at: usize) -> &[u8] {
+        &self.load.communities[at % self.rules]
     }
 }
 
-/// Times calls that are made one after the other.
-fn timed(calls: usize, call: impl FnMut(usize) -> u64) -> Run {
+/// Times the calls of a run, made one after the other; each is told its number in all runs.
+fn timed(run: usize, calls: usize, call: impl FnMut(usize) -> u64) -> Run {
     let start = Instant::now();
-    let sum = (0..calls).map(call).sum();
+    let sum = (run * calls..(run + 1) * calls).map(call).sum();
     Run {
         time: start.elapsed(),
         calls,
@@ -60,84 +137,84 @@ fn timed(calls: usize, call: impl FnMut(usize) -> u64) -> Run {
     }
 }
 
-pub fn read<S: Side>(setting: &Setting, _: usize) -> Run {
-    let rules = &setting.load.rules[..setting.rules];
-    timed(SHORT_CALLS, |number| S::read(&rules[number % rules.len()]))
+/// Reads rules.
+fn read<S: Side>(setting: &Setting, run: usize) -> Run {
+    timed(run, SHORT_CALLS, |number| S::read(setting.rule(number)))
 }
 
-pub fn write<S: Side>(setting: &Setting, _: usize) -> Run {
-    let rules = &setting.load.rules[..setting.rules];
+/// Writes rules.
+fn write<S: Side>(setting: &Setting, run: usize) -> Run {
     let mut buffer = [0; 300];
-    timed(SHORT_CALLS, |number| {
-        S::write(&rules[number % rules.len()][1..], &mut buffer)
+    timed(run, SHORT_CALLS, |number| {
+        S::write(&setting.rule(number)[1..], &mut buffer)
     })
 }
 
-pub fn compare<S: Side>(setting: &Setting, _: usize) -> Run {
-    let rules = &setting.load.rules[..setting.rules];
-    timed(SHORT_CALLS, |number| {
-        let other = (number * 7 + number / rules.len()) % rules.len();
-        S::compare(&rules[number % rules.len()], &rules[other])
+/// Compares rules with others of the table.
+fn compare<S: Side>(setting: &Setting, run: usize) -> Run {
+    timed(run, SHORT_CALLS, |number| {
+        S::compare(setting.rule(number), setting.rule(number * 7 + 1))
     })
 }
 
-pub fn feasible<S: Side>(setting: &Setting, _: usize) -> Run {
-    let rules = &setting.load.rules[..setting.rules];
-    timed(SHORT_CALLS / 8, |number| {
-        S::feasible(&setting.load.routes, &rules[number % rules.len()])
+/// Reads communities.
+fn actions<S: Side>(setting: &Setting, run: usize) -> Run {
+    timed(run, SHORT_CALLS, |number| {
+        S::actions(setting.communities(number))
     })
 }
 
-pub fn actions<S: Side>(setting: &Setting, _: usize) -> Run {
-    let communities = &setting.load.communities[..setting.rules];
-    timed(SHORT_CALLS, |number| {
-        S::actions(&communities[number % communities.len()])
+/// Judges rules by all routes.
+fn feasible<S: Side>(setting: &Setting, run: usize) -> Run {
+    timed(run, SHORT_CALLS / 4, |number| {
+        S::feasible(&setting.load.routes, setting.rule(number))
     })
 }
 
-pub fn lookup<S: Side>(setting: &Setting, run: usize) -> Run {
-    let packets = setting.packets(run);
-    timed(packets.len(), |number| {
-        S::lookup(&setting.table, &packets[number])
+/// Looks packets up.
+fn lookup<S: Side>(setting: &Setting, run: usize) -> Run {
+    timed(run, PACKETS_A_RUN, |number| {
+        S::lookup(&setting.table, &setting.load.packets[number])
     })
 }
 
-pub fn first_match<S: Side>(setting: &Setting, run: usize) -> Run {
-    let packets = setting.packets(run);
-    timed(packets.len(), |number| {
-        S::first_match(&setting.table, &packets[number])
+/// Finds the first match of packets.
+fn first_match<S: Side>(setting: &Setting, run: usize) -> Run {
+    timed(run, PACKETS_A_RUN, |number| {
+        S::first_match(&setting.table, &setting.load.packets[number])
     })
 }
 
-/// Withdraws rules of a full table and announces each again at once, and times either.
-fn changed<S: Side>(setting: &Setting, times_announce: bool) -> Run {
+/// Withdraws rules and announces each again at once; gives the time of both, summed up.
+fn changed<S: Side>(setting: &Setting, run: usize) -> [Run; 2] {
     let mut table = setting.table.clone();
-    let mut time = Duration::ZERO;
+    let mut times = [Duration::ZERO; 2];
     let mut sum = 0;
-    for number in 0..CHANGES {
-        let at = number * 31 % setting.rules;
-        let (rule, communities) = (&setting.load.rules[at], &setting.load.communities[at]);
+    for number in run * CHANGES..(run + 1) * CHANGES {
+        let (rule, communities) = (setting.rule(number * 31), setting.communities(number * 31));
         let start = Instant::now();
         sum += S::withdraw(&mut table, rule);
         let between = Instant::now();
         sum += S::announce(&mut table, &setting.load.routes, rule, communities);
-        time += match times_announce {
-            true => between.elapsed(),
-            false => between - start,
-        };
+        times[0] += between - start;
+        times[1] += between.elapsed();
     }
     assert!(table == setting.table, "the table is as before");
-    Run {
+    times.map(|time| Run {
         time,
         calls: CHANGES,
         sum,
-    }
+    })
 }
 
-pub fn announce<S: Side>(setting: &Setting, _: usize) -> Run {
-    changed::<S>(setting, true)
+/// Withdraws rules that the table holds.
+fn withdraw<S: Side>(setting: &Setting, run: usize) -> Run {
+    let [withdrawn, _] = changed::<S>(setting, run);
+    withdrawn
 }
 
-pub fn withdraw<S: Side>(setting: &Setting, _: usize) -> Run {
-    changed::<S>(setting, false)
+/// Announces rules that the table does not hold.
+fn announce<S: Side>(setting: &Setting, run: usize) -> Run {
+    let [_, announced] = changed::<S>(setting, run);
+    announced
 }

@@ -7,49 +7,12 @@ mod jobs;
 mod load;
 mod sides;
 
-use jobs::{Job, Run, Setting, RUNS};
+use jobs::{Job, Run, Setting, JOBS};
 use load::{Load, PACKETS, TABLE};
-use sides::{Library, Reference, Side};
+use sides::{Reference, Side};
 
 /// The sizes between which growth is measured.
 const SIZES: [usize; 2] = [100, 1_200];
-
-/// The jobs by name, as the library and as the reference do them.
-const JOBS: [(&str, Job, Job); 9] = [
-    ("read", jobs::read::<Library>, jobs::read::<Reference>),
-    ("write", jobs::write::<Library>, jobs::write::<Reference>),
-    (
-        "compare",
-        jobs::compare::<Library>,
-        jobs::compare::<Reference>,
-    ),
-    (
-        "actions",
-        jobs::actions::<Library>,
-        jobs::actions::<Reference>,
-    ),
-    (
-        "feasible",
-        jobs::feasible::<Library>,
-        jobs::feasible::<Reference>,
-    ),
-    (
-        "announce",
-        jobs::announce::<Library>,
-        jobs::announce::<Reference>,
-    ),
-    (
-        "withdraw",
-        jobs::withdraw::<Library>,
-        jobs::withdraw::<Reference>,
-    ),
-    ("lookup", jobs::lookup::<Library>, jobs::lookup::<Reference>),
-    (
-        "first match",
-        jobs::first_match::<Library>,
-        jobs::first_match::<Reference>,
-    ),
-];
 
 /// The nanoseconds of one call in the middle one of the runs.
 fn median(runs: &[Run]) -> f64 {
@@ -62,13 +25,14 @@ fn median(runs: &[Run]) -> f64 {
 }
 
 /// Times a job done by both sides in turn: nanoseconds of a call of each.
-fn measure(setting: &Setting, library: Job, reference: Job) -> [f64; 2] {
+fn measure(setting: &Setting, job: &Job) -> [f64; 2] {
     let mut runs = [Vec::new(), Vec::new()];
-    for run in 0..RUNS {
-        let (ours, theirs) = (library(setting, run), reference(setting, run));
-        assert_eq!(ours.sum, theirs.sum, "both answer the same");
-        runs[0].push(ours);
-        runs[1].push(theirs);
+    for number in 0..job.runs {
+        let library = (job.library)(setting, number);
+        let reference = (job.reference)(setting, number);
+        assert_eq!(library.sum, reference.sum, "both answer the same");
+        runs[0].push(library);
+        runs[1].push(reference);
     }
     runs.map(|runs| median(&runs))
 }
@@ -99,7 +63,7 @@ fn describe(load: &Load) {
         "{PACKETS} packets, {matched} of them ({:.1} %) match at {rules} rules",
         part(matched, PACKETS)
     );
-    println!("time of a call: the median of {RUNS} runs, library and reference in turn\n");
+    println!("time of a call: the median of many runs, library and reference in turn\n");
 }
 
 /// A line of the result: times and ratio at each size, and how much both grow.
@@ -132,8 +96,8 @@ fn main() {
         "call", "lib", "ref"
     );
     let settings = SIZES.map(|rules| Setting::new(&load, rules));
-    for (name, library, reference) in JOBS {
-        let times = [0, 1].map(|size| measure(&settings[size], library, reference));
-        print_line(name, times);
+    for job in &JOBS {
+        let times = [0, 1].map(|size| measure(&settings[size], job));
+        print_line(job.name, times);
     }
 }
