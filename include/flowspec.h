@@ -1,9 +1,10 @@
 /*
  * IPv4 flow rules (RFC 8955): the proved calls, for C and for whatever calls C.
  *
- * Link with libc_api.a, which tools/staticlib proves and builds. The functions allocate nothing,
- * keep nothing between calls and call nothing else, so they may be called from several threads as
- * long as no buffer that one call writes is lent to another call at the same time.
+ * Link with libc_api.a, which tools/staticlib proves and builds. The functions allocate nothing and
+ * keep nothing between calls, so they may be called from several threads as long as no buffer that
+ * one call writes is lent to another call at the same time. Of the C library they use memcpy and
+ * memset alone.
  *
  * THE ANSWER of every function is one uint64_t: the refusal's number in the low 32 bits, 0 if there
  * is none, and its place in the high 32. flowspec4_number and flowspec4_place take it apart.

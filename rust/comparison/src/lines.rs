@@ -2,25 +2,16 @@
 
 use crate::communities;
 use crate::random::Random;
+use crate::report::hex;
 use crate::routes;
 use crate::rules::{self, Component};
 use crate::world;
-use std::fmt::Write;
 
 /// The longest line that is looked at.
 const LONGEST: usize = 16_384;
 
 /// The most routes that the program takes.
 const MOST_ROUTES: u32 = 4_096;
-
-/// Octets in lower-case hex.
-fn hex(octets: &[u8]) -> String {
-    let mut text = String::new();
-    for octet in octets {
-        write!(text, "{octet:02x}").expect("text grows");
-    }
-    text
-}
 
 /// A line for each route of a list.
 fn route_lines(words: &[u32]) -> Vec<Vec<u8>> {

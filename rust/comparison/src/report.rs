@@ -5,22 +5,26 @@ use crate::tables;
 use std::collections::BTreeMap;
 use std::fmt::{self, Write};
 
-/// Octets in hex; of many zeros at the end only how many there are.
-fn hex(octets: &[u8]) -> String {
+/// Octets in lower-case hex.
+pub fn hex(octets: &[u8]) -> String {
+    let mut text = String::new();
+    for octet in octets {
+        write!(text, "{octet:02x}").expect("text grows");
+    }
+    text
+}
+
+/// Octets in hex and quotes; of many zeros at the end only how many there are.
+fn quoted(octets: &[u8]) -> String {
     let shown = octets
         .iter()
         .rposition(|octet| *octet != 0)
         .map_or(0, |last| last + 1);
     let zeros = octets.len() - shown;
-    let shown = if zeros > 8 { shown } else { octets.len() };
-    let mut text = String::from("\"");
-    for octet in &octets[..shown] {
-        write!(text, "{octet:02x}").expect("text grows");
+    match zeros > 8 {
+        true => format!("\"{} 00*{zeros}\"", hex(&octets[..shown])),
+        false => format!("\"{}\"", hex(octets)),
     }
-    if shown < octets.len() {
-        write!(text, " 00*{zeros}").expect("text grows");
-    }
-    text + "\""
 }
 
 impl Call {
@@ -57,7 +61,7 @@ impl fmt::Display for Call {
         write!(f, "{}", self.name())?;
         let (parts, judged) = self.parts();
         for (name, octets) in parts {
-            write!(f, "\n  {name} {}", hex(octets))?;
+            write!(f, "\n  {name} {}", quoted(octets))?;
         }
         if let Some(judged) = judged {
             write!(f, "\n  routes {:x?}", judged.routes)?;
@@ -75,7 +79,7 @@ impl fmt::Display for Call {
 impl fmt::Display for Answer {
     fn fmt(&self, f: &mut fmt::Formatter<'_>) -> fmt::Result {
         write!(f, "number {} place {}", self.number, self.place)?;
-        write!(f, " out {:x?} octets {}", self.out, hex(&self.octets))
+        write!(f, " out {:x?} octets {}", self.out, quoted(&self.octets))
     }
 }
 
