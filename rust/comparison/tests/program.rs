@@ -1,30 +1,29 @@
 //! The line program against the reference's: the same output, octet for octet, for any input.
 //!
-//! FLOWSPEC_PROGRAM names the program, and FLOWSPEC_PROGRAM_RUNNER the words that stand before it
-//! (an emulator); with no program named nothing is compared.
+//! It is started by `run` at the repository's root, as a user does; FLOWSPEC_PROGRAM names another
+//! program in its place.
 
 use comparison::{lines, SEED};
 use std::collections::BTreeMap;
 use std::io::Write;
+use std::path::{Path, PathBuf};
 use std::process::{Command, Stdio};
 use std::{env, thread};
 
 /// How many inputs the program is run on.
 const INPUTS: u64 = 200;
 
-/// The words of the command: the runner's, if any, and the program.
-fn command() -> Option<Vec<String>> {
-    let program = env::var("FLOWSPEC_PROGRAM").ok()?;
-    let runner = env::var("FLOWSPEC_PROGRAM_RUNNER").unwrap_or_default();
-    let mut words: Vec<String> = runner.split_whitespace().map(String::from).collect();
-    words.push(program);
-    Some(words)
+/// The program: what FLOWSPEC_PROGRAM names, or `run` at the repository's root.
+fn program_path() -> PathBuf {
+    env::var_os("FLOWSPEC_PROGRAM").map_or_else(
+        || Path::new(env!("CARGO_MANIFEST_DIR")).join("../../run"),
+        PathBuf::from,
+    )
 }
 
 /// What the program writes to standard output when it is fed this input.
-fn output_of(words: &[String], input: Vec<u8>) -> Vec<u8> {
-    let mut program = Command::new(&words[0])
-        .args(&words[1..])
+fn output_of(path: &Path, input: Vec<u8>) -> Vec<u8> {
+    let mut program = Command::new(path)
         .stdin(Stdio::piped())
         .stdout(Stdio::piped())
         .spawn()
@@ -82,15 +81,12 @@ fn count_answers(output: &[u8], counts: &mut BTreeMap<String, u64>) {
 
 #[test]
 fn program() {
-    let Some(words) = command() else {
-        println!("FLOWSPEC_PROGRAM names no program: nothing is compared");
-        return;
-    };
+    let path = program_path();
     let mut counts = BTreeMap::new();
     for number in 0..INPUTS {
         let input = lines::input(SEED, number);
         let expected = reference::run_lines(&input);
-        let found = output_of(&words, input.clone());
+        let found = output_of(&path, input.clone());
         if found != expected {
             let place = env::temp_dir().join(format!("flowspec-lines-{SEED}-{number}.txt"));
             std::fs::write(&place, &input).expect("the input is kept");

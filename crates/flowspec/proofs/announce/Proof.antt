@@ -1,3 +1,4 @@
+-- One law for each return: the checks come in 01's order, and what is asked is done to the table.
 use native.Mathlib.Omega.{arith}
 use Rattle.rule.specs.Family.{ipv4}
 use Rattle.rule.proofs.ReadingLaws.{ReadRule}

@@ -1,3 +1,4 @@
+-- One law for each return: a refusal of the first rule, one of the second, and the order of both values.
 use native.Mathlib.Omega.{arith}
 use Rattle.rule.specs.Family.{ipv4}
 use Rattle.rule.proofs.ReadingLaws.{ReadRule}

@@ -1,3 +1,4 @@
+-- The part of the table at the place that was located; that it begins there is read off its pointer.
 use mathlib.Core.Path.{refl}
 use Rattle.flowspec.proofs.TableLaws.{located-at}
 use borrow.Author.Needs.{needs}

@@ -1,3 +1,4 @@
+-- One law for each return: unsound routes, a rule that is refused, and one that is judged.
 use Rattle.rule.specs.Family.{ipv4}
 use Rattle.rule.proofs.ReadingLaws.{ReadRule}
 use native.Mathlib.Omega.{arith}

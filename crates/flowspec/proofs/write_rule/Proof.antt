@@ -1,3 +1,4 @@
+-- The writer of crate rule keeps the promise, for the family IPv4.
 use Rattle.flowspec.proofs.WriteLaws.{writes}
 use borrow.Author.Needs.{needs}
 use Rattle.flowspec.proofs.write_rule.Statement.{statement}

@@ -1,3 +1,4 @@
+-- The octets passed are equal, so that the order of both slices is the order of what is left of them.
 use borrow.Author.Needs.{needs}
 use Prim.Native.Nat.{_≤_, _-_, compare}
 use mathlib.Core.Path.{_≡_, refl, ap, sym, _∙_}

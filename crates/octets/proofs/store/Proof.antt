@@ -1,3 +1,4 @@
+-- The octets stored so far stand in the buffer, and those still to be stored give the same at every turn.
 use borrow.Author.Needs.{needs}
 use Prim.Native.Nat.{_≤_, _-_}
 use mathlib.Core.Path.{_≡_, refl}

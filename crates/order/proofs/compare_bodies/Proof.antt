@@ -1,3 +1,4 @@
+-- Two prefixes are compared as prefixes, and other bodies octet by octet.
 use Rattle.octets.specs.Order.{ordered}
 use Rattle.prefix.specs.Prefix.{prefixOrder}
 use mathlib.Core.Path.{_≡_, _∙_, ap₂}

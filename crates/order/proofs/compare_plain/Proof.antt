@@ -1,3 +1,4 @@
+-- The components passed tie, so that the order of both values is the order of what is left of them.
 use borrow.Author.Needs.{needs}
 use Prim.Native.Nat.{_-_}
 use mathlib.Core.Path.{_≡_, refl}

@@ -1,3 +1,4 @@
+-- Only the first component can be of type 1, since types rise.
 use Rattle.rule.proofs.ValueLaws.{Found}
 use native.Mathlib.Omega.{arith}
 use Rattle.rule.specs.Family.{ipv4}

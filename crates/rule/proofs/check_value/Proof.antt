@@ -1,3 +1,4 @@
+-- The components passed are sound, so that the check of the value is that of what is left of it.
 use borrow.Author.Needs.{needs}
 use Prim.Native.Nat.{_-_}
 use mathlib.Core.Path.{_≡_, sym, _∙_}

@@ -1,3 +1,4 @@
+-- One law for each return: the length field is cut short, the value is, or the value is checked.
 use Rattle.rule.proofs.ReadingLaws.{read-no-field, read-short, read-accepted, read-refused}
 use borrow.Author.Needs.{needs}
 use Rattle.rule.proofs.first_rule.Statement.{statement}

@@ -1,3 +1,4 @@
+-- Types 9 and 12, as the definition tests them.
 use mathlib.Core.Logic.{inl, inr}
 use mathlib.Core.Path.{sym}
 use mathlib.Core.Logic.{⊎-elim}

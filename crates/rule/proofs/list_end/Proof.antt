@@ -1,3 +1,4 @@
+-- The pairs passed are sound and none was the last, so that the list ends where what is left of it does.
 use Rattle.rule.proofs.ComponentLaws.{list-on, list-last, list-refused, more-within}
 use borrow.Author.Needs.{needs}
 use Prim.Native.Nat.{_-_}

@@ -1,3 +1,4 @@
+-- One law for each return: the rule is refused, octets follow it, or it is alone.
 use mathlib.Core.Path.{sym, _∙_}
 use native.Mathlib.Omega.{arith}
 use Rattle.rule.proofs.ReadingLaws.{ReadRule, rule-read, alone-whole, alone-more, alone-refused}

@@ -1,3 +1,4 @@
+-- The plain spelling stands at the front of the working array; it is stored behind the length field where both fit.
 use Rattle.rule.proofs.WritingLaws.{front-length, no-room, room-left, write-in-a-row}
 use mathlib.Core.Path.{refl, sym, _∙_}
 use native.Mathlib.Omega.{arith}

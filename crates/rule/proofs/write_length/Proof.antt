@@ -1,3 +1,4 @@
+-- One octet below 240 and two from there on, each stored at its place.
 use native.Mathlib.Omega.{arith}
 use lib.ListN.{length-set}
 use Rattle.rule.proofs.WritingLaws.{room-short, room-long, write-short, write-long}

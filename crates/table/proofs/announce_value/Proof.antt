@@ -1,3 +1,4 @@
+-- The plain spelling stands at the front of the working array; then one law for each return.
 use native.Mathlib.Omega.{arith}
 use Rattle.rule.proofs.ValueLaws.{accepted-small}
 use Rattle.rule.proofs.WritingLaws.{front-length}

@@ -1,3 +1,4 @@
+-- The value behind the head decides whether the record matches, and T in its actions whether the walk goes on.
 use Rattle.table.proofs.LookupLaws.{judge-missed, judge-goes-on, judge-stops}
 use borrow.Author.Needs.{needs}
 use Rattle.table.proofs.judge_record.Statement.{statement}

@@ -1,3 +1,4 @@
+-- The sixteen digits, by computing each.
 use borrow.Author.Needs.{needs}
 use Rattle.text.proofs.HexLaws.{digit-decimal, digit-letter}
 use Rattle.text.proofs.hex_digit.Statement.{statement}

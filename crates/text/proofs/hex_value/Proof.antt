@@ -1,3 +1,4 @@
+-- Each range of signs is one case of the definition.
 use borrow.Author.Needs.{needs}
 use Rattle.text.proofs.HexLaws.{low-decimal, value-decimal, low-letter, value-letter, value-none}
 use Rattle.text.proofs.hex_value.Statement.{statement}

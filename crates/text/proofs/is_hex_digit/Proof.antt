@@ -1,3 +1,4 @@
+-- Each range of signs is one case of the definition.
 use borrow.Author.Needs.{needs}
 use Rattle.text.specs.Hex.{isHexDigit}
 use Rattle.text.proofs.is_hex_digit.Statement.{statement}

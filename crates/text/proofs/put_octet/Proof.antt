@@ -1,3 +1,4 @@
+-- An octet within the buffer is stored, and one past its end is dropped.
 use borrow.Author.Needs.{needs}
 use mathlib.Core.Path.{refl, sym, _∙_}
 use lib.Seq.{set-out}

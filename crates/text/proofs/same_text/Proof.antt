@@ -1,3 +1,4 @@
+-- Two texts are the same where neither comes first.
 use borrow.Author.Needs.{needs}
 use mathlib.Core.Path.{ap, sym, _∙_}
 use Rattle.text.proofs.FieldLaws.{compared, isSame}

@@ -1,3 +1,4 @@
+-- An empty text, a single sign and a longer text are the definition's three cases.
 use borrow.Author.Needs.{needs}
 use Rattle.text.proofs.DecimalLaws.{well-none, well-one, well-many}
 use Rattle.text.proofs.starts_well.Statement.{statement}
