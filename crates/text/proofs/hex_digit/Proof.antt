@@ -1,4 +1,4 @@
--- The sixteen digits, by computing each.
+-- A number below 10 has a decimal digit, and any other below 16 a letter.
 use borrow.Author.Needs.{needs}
 use Rattle.text.proofs.HexLaws.{digit-decimal, digit-letter}
 use Rattle.text.proofs.hex_digit.Statement.{statement}
