@@ -123,8 +123,10 @@ module _ (rule t : List ℕ) where
         pub withdraw-rule : ReadRule ipv4 rule start size
         withdraw-rule = one-read ipv4 rule start size (found ∙ f)
 
-        pub withdraw-requires : (soundTable ipv4 t ≡ true) × (checkValue ipv4 (take (start + size - start) (drop start rule)) ≡ Accepted)
-        withdraw-requires = (was-sound t s is used e .0, rw (add-sub-cancel-left start size) (withdraw-rule .accepted))
+        pub withdraw-requires : (soundTable ipv4 t ≡ true) × ((checkValue ipv4 (take (start + size - start) (drop start rule)) ≡ Accepted) × (used ≡ costs cost (entries t)))
+        withdraw-requires =
+            let h = was-sound t s is used e in
+            (h .0, (rw (add-sub-cancel-left start size) (withdraw-rule .accepted), h .1))
 
         pub withdraw-done : (number : ℕ) (answer : Change) (exit : List ℕ)
             → (number ≡ withdrawn ipv4 t (keysOf ipv4 (plain (take (start + size - start) (drop start rule)))) .number)

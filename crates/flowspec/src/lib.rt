@@ -239,11 +239,11 @@ pub fn withdraw(table: &mut [u8], rule: &[u8]) -> Change
             number: 10,
             place: 0,
         },
-        Soundness::Sound(_) => match rule::one_rule(rule::ipv4(), rule) {
+        Soundness::Sound(used) => match rule::one_rule(rule::ipv4(), rule) {
             Reading::Refused { number, place } => Change::Refused { number, place },
             Reading::Rule { start, size } => {
                 let end = start + size;
-                change_of(table::withdraw_value(table, &rule[start..end]))
+                change_of(table::withdraw_value(table, used, &rule[start..end]))
             }
         },
     }

@@ -8,7 +8,7 @@ use mathlib.Core.Option.{Option, none, some}
 use Prim.Native.Nat.{ℕ, _+_, _-_, _^_, _<_, _≤_}
 use native.Mathlib.Omega.{arith}
 use native.Mathlib.Nat.{add-zero, zero-add, add-sub-cancel-left}
-use lib.ListN.{length, take, drop, take-append-drop}
+use lib.ListN.{length, take, drop, replicate, length-append, take-append-drop}
 use lib.Seq.{getD-drop}
 use borrow.Author.Tests.{le-leb, lt-leb}
 use Rattle.octets.specs.Test.{every}
@@ -35,7 +35,7 @@ use Rattle.table.specs.Walk.{entries}
 use Rattle.table.specs.Sound.{cost, tableOf, Encodes, soundTable}
 use Rattle.table.specs.Place.{placeIn}
 use Rattle.table.specs.Change.{holds, removed, hasRoom, inserted, announced}
-use Rattle.table.proofs.SpliceLaws.{table-record, table-cut, table-over, table-put}
+use Rattle.table.proofs.SpliceLaws.{cut-front, gap-front, table-rest, table-record, table-cut, table-over, table-put}
 use Rattle.table.proofs.EntryLaws.{every-both, octets-between}
 use Rattle.table.proofs.FindLaws.{place-start, place-held, place-absent}
 use Rattle.table.proofs.SoundLaws.{sound-encodes}
@@ -44,6 +44,11 @@ use Rattle.table.proofs.SoundLaws.{sound-encodes}
 cut-nothing : (b : List ℕ) (at : ℕ) → cutOut b at 0 ≡ b
 unfolding cutOut
 cut-nothing b at = rw (add-zero at, append-nil (drop at b)) (take-append-drop at b)
+
+-- a front that keeps its length leaves the whole as long as it was
+pub front-kept : (b last : List ℕ) (n : ℕ) → length last ≡ length (take n b) → length (last ++ drop n b) ≡ length b
+front-kept b last n h =
+    length-append last (drop n b) ∙ ap (λ m. m + length (drop n b)) h ∙ sym (length-append (take n b) (drop n b)) ∙ ap length (take-append-drop n b)
 
 -- the entries before the place of a key, and those behind it
 abbrev before : List Entry → List (List ℕ) → List Entry
@@ -160,9 +165,29 @@ module _ (t : List ℕ) (o : Octets t) (sound : soundTable ipv4 t ≡ true) wher
   pub encoded : Encodes ipv4 t (entries t)
   encoded = sound-encodes ipv4 t o sound
 
+  zeros-behind : (used : ℕ) → used ≡ costs cost (entries t) → drop used t ≡ replicate (length t - used) 0
+  zeros-behind used all = rw all (ap (drop (costs cost (entries t))) (encoded .is) ∙ table-rest (length t) (entries t))
+
   module _ (k : List (List ℕ)) (p : Place) (is : p ≡ placeIn ipv4 k 0 (entries t)) where
     pub place-is : Placed t (entries t) encoded k p
     place-is = rw is (is-placed t (entries t) encoded k)
+
+    -- only records move: what lies behind them is zeros, which stay where they are
+    module _ (used : ℕ) (all : used ≡ costs cost (entries t)) where
+      pub ends-inside : (p .start + (p .end - p .start) ≤ used) × (used ≤ length t)
+      ends-inside = (omega (arith, place-is), omega (arith, encoded .room))
+
+      pub cut-records : (last : List ℕ) → last ≡ cutOut (take used t) (p .start) (p .end - p .start)
+          → last ++ drop used t ≡ cutOut t (p .start) (p .end - p .start)
+      cut-records last e =
+          ap (λ (l : List ℕ). l ++ drop used t) e
+          ∙ cut-front t used (zeros-behind used all) (p .start) (p .end - p .start) (ends-inside .0) (ends-inside .1)
+
+      pub gap-records : (size : ℕ) (last : List ℕ) → used + size ≤ length t → last ≡ gapOpened (take (used + size) t) (p .start) size
+          → last ++ drop (used + size) t ≡ gapOpened t (p .start) size
+      gap-records size last h e =
+          ap (λ (l : List ℕ). l ++ drop (used + size) t) e
+          ∙ gap-front t used (zeros-behind used all) (p .start) size (omega (arith, ends-inside)) h
 
     pub not-held : p .end - p .start ≡ 0 → (false ≡ holds ipv4 t k) × (t ≡ removed ipv4 t k)
     unfolding holds removed

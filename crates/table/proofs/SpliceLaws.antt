@@ -3,8 +3,8 @@ use mathlib.Core.Path.{_≡_, refl, sym, ap, ap₂, _∙_}
 use mathlib.Core.List.{List, [], _∷_, _++_, append-assoc}
 use Prim.Native.Nat.{ℕ, zero, suc, _+_, _-_, _≤_}
 use native.Mathlib.Omega.{arith}
-use lib.ListN.{length, take, drop, replicate, length-append, length-replicate, replicate-append-replicate}
-use lib.Seq.{take-at, drop-at, take-append-add, drop-drop}
+use lib.ListN.{length, take, drop, replicate, length-append, length-drop, length-replicate, replicate-append-replicate, take-append-drop}
+use lib.Seq.{take-at, drop-at, take-append-add, take-append-le, drop-append-le, drop-drop, take-add, take-take, length-take-le}
 use Rattle.octets.specs.Store.{stored, cutOut, gapOpened}
 use Rattle.octets.proofs.StoreLaws.{stored-opened}
 use Rattle.sorted.specs.History.{costs}
@@ -32,6 +32,56 @@ take-zeros : (m k : ℕ) → m ≤ k → take m (replicate {A = ℕ} k 0) ≡ re
 take-zeros zero k h = refl
 take-zeros (suc m) zero h = absurd (omega arith)
 take-zeros (suc m) (suc k) h = ap (λ (l : List ℕ). 0 ∷ l) (take-zeros m k (omega arith))
+
+zeros-as-many : (m n : ℕ) → m ≡ n → replicate {A = ℕ} m 0 ≡ replicate n 0
+zeros-as-many m n h = ap (λ (k : ℕ). replicate {A = ℕ} k 0) h
+
+drop-zeros : (m k : ℕ) → drop m (replicate {A = ℕ} k 0) ≡ replicate (k - m) 0
+drop-zeros zero k = zeros-as-many k (k - 0) (omega arith)
+drop-zeros (suc m) zero = zeros-as-many 0 (0 - suc m) (omega arith)
+drop-zeros (suc m) (suc k) = drop-zeros m k ∙ zeros-as-many (k - m) (suc k - suc m) (omega arith)
+
+-- a change within the front of a buffer whose rest is zeros is the change in the whole buffer
+module _ (b : List ℕ) (used : ℕ) (zeros : drop used b ≡ replicate (length b - used) 0) (at size : ℕ) where
+  pub cut-front : at + size ≤ used → used ≤ length b → cutOut (take used b) at size ++ drop used b ≡ cutOut b at size
+  unfolding cutOut
+  cut-front h k =
+      let long = length-take-le used b k in
+      let behind : drop (at + size) b ≡ drop (at + size) (take used b) ++ drop used b
+      = ap (drop (at + size)) (sym (take-append-drop used b)) ∙ drop-append-le (at + size) (take used b) (drop used b) (omega arith) in
+      let part : List ℕ = drop (at + size) (take used b) in
+      let spare : List ℕ = replicate (length b - used) 0 in
+      let turned : replicate size 0 ++ spare ≡ spare ++ replicate size 0
+      = replicate-append-replicate {A = ℕ} size (length b - used) 0 ∙ zeros-as-many (size + (length b - used)) (length b - used + size) (omega arith)
+      ∙ sym (replicate-append-replicate {A = ℕ} (length b - used) size 0) in
+      rw (take-take at used b (omega arith), behind, zeros)
+      (append-assoc (take at b) (part ++ replicate size 0) spare
+      ∙ ap (λ (l : List ℕ). take at b ++ l)
+      (append-assoc part (replicate size 0) spare ∙ ap (λ (l : List ℕ). part ++ l) turned ∙ sym (append-assoc part spare (replicate size 0))))
+
+  pub gap-front : at ≤ used → used + size ≤ length b → gapOpened (take (used + size) b) at size ++ drop (used + size) b ≡ gapOpened b at size
+  unfolding gapOpened
+  gap-front h k =
+      let long = length-take-le (used + size) b k in
+      let moved : used + size - (at + size) ≡ used - at = omega arith in
+      let inside : used - at ≤ length (drop at (take (used + size) b)) = simp length-drop (omega arith) in
+      let part : take (used - at) (drop at (take (used + size) b)) ≡ take (used - at) (drop at b)
+      = sym (ap (λ (l : List ℕ). take (used - at) (drop at l)) (sym (take-append-drop (used + size) b))
+      ∙ ap (take (used - at)) (drop-append-le at (take (used + size) b) (drop (used + size) b) (omega arith))
+      ∙ take-append-le (used - at) (drop at (take (used + size) b)) (drop (used + size) b) inside) in
+      let spare : ℕ = length b - (used + size) in
+      let all : length b - (at + size) ≡ used - at + spare = omega arith in
+      let here : at + (used - at) ≡ used = omega arith in
+      let end : drop (used + size) b ≡ replicate spare 0
+      = sym (drop-drop size used b) ∙ ap (drop size) zeros ∙ drop-zeros size (length b - used) ∙ zeros-as-many (length b - used - size) spare (omega arith) in
+      let rest : take (length b - (at + size)) (drop at b) ≡ take (used - at) (drop at b) ++ drop (used + size) b
+      = rw (all, take-add (used - at) spare (drop at b), drop-drop (used - at) at b, here, zeros, take-zeros spare (length b - used) (omega arith), end) in
+      rw (long, take-take (at + size) (used + size) b (omega arith), moved, part, rest) (append-assoc (take (at + size) b) (take (used - at) (drop at b)) (drop (used + size) b))
+
+-- behind the records there are zeros
+pub table-rest : (n : ℕ) (es : List Entry) → drop (costs cost es) (tableOf n es) ≡ replicate (n - costs cost es) 0
+unfolding tableOf
+table-rest n es = drop-at (joined es) _ (costs cost es) (length-joined es)
 
 -- the octets of a table from the place behind some of its entries on
 module _ (n : ℕ) (f r : List Entry) where

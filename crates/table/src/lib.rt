@@ -246,9 +246,9 @@ pub fn sound_table(table: &[u8]) -> Soundness
     }
 }
 
-// Takes a rule, by its plain value, out of a sound table, and tells whether it was held.
-pub fn remove_rule(table: &mut [u8], value: &[u8]) -> bool
-    requires { ⌜ (soundTable ipv4 (now table) ≡ true) × (plainValue ipv4 (now value) ≡ true) ⌝ }
+// Takes a rule, by its plain value, out of a sound table whose records take `used` octets, and tells whether it was held.
+pub fn remove_rule(table: &mut [u8], used: usize, value: &[u8]) -> bool
+    requires { ⌜ (soundTable ipv4 (now table) ≡ true) × ((plainValue ipv4 (now value) ≡ true) × (used ≡ costs cost (entries (now table)))) ⌝ }
     ensures { λ r. ⌜ (r ≡ holds ipv4 (now (table .entry)) (keysOf ipv4 (now (value .entry)))) × (now (table .exit) ≡ removed ipv4 (now (table .entry)) (keysOf ipv4 (now (value .entry)))) ⌝ }
 {
     let place = find(table, value);
@@ -257,7 +257,7 @@ pub fn remove_rule(table: &mut [u8], value: &[u8]) -> bool
     if size == 0 {
         return false;
     }
-    octets::cut_out(table, start, size);
+    octets::cut_out(&mut table[..used], start, size);
     true
 }
 
@@ -282,7 +282,8 @@ pub fn insert_rule(
         return false;
     }
     if held == 0 {
-        octets::open_gap(table, start, size);
+        let end = used + size;
+        octets::open_gap(&mut table[..end], start, size);
     }
     entry::write_record(table, start, originator, actions, value);
     true
@@ -304,7 +305,7 @@ pub fn announce_value(
     let mut work = [0u8; 4096];
     rule::fill_plain(value, &mut work);
     if !feasible {
-        remove_rule(table, &work[..size]);
+        remove_rule(table, used, &work[..size]);
         return 8;
     }
     if insert_rule(table, used, originator, actions, &work[..size]) {
@@ -313,15 +314,15 @@ pub fn announce_value(
     11
 }
 
-// Withdraws an accepted value from a sound table: the refusal's number, 0 where done.
-pub fn withdraw_value(table: &mut [u8], value: &[u8]) -> u8
-    requires { ⌜ (soundTable ipv4 (now table) ≡ true) × (checkValue ipv4 (now value) ≡ Checked.Accepted) ⌝ }
+// Withdraws an accepted value from a sound table whose records take `used` octets: the refusal's number, 0 where done.
+pub fn withdraw_value(table: &mut [u8], used: usize, value: &[u8]) -> u8
+    requires { ⌜ (soundTable ipv4 (now table) ≡ true) × ((checkValue ipv4 (now value) ≡ Checked.Accepted) × (used ≡ costs cost (entries (now table)))) ⌝ }
     ensures { λ r. ⌜ (r ≡ withdrawn ipv4 (now (table .entry)) (keysOf ipv4 (plain (now (value .entry)))) .number) × (now (table .exit) ≡ withdrawn ipv4 (now (table .entry)) (keysOf ipv4 (plain (now (value .entry)))) .table) ⌝ }
 {
     let size = value.len();
     let mut work = [0u8; 4096];
     rule::fill_plain(value, &mut work);
-    if remove_rule(table, &work[..size]) {
+    if remove_rule(table, used, &work[..size]) {
         return 0;
     }
     14

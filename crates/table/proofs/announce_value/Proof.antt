@@ -25,7 +25,7 @@ slice-aggregate-remove-rule : tie.Need-slice-aggregate-remove-rule
 slice-aggregate-remove-rule c = front-length _ _ _ (c .before .before .before .before .fill-plain .ensures)
 
 remove-rule-requires : tie.Need-remove-rule-requires
-remove-rule-requires c κs = (c .before .before .before .before .before .before .before .before .pre .0, front-held _ _ _ (c .before .before .before .before .fill-plain .ensures) (λ i. c .before .before .before .before .before .before .shared-slice-known .given i .fits) (c .before .before .before .before .before .before .before .before .pre .1 .0))
+remove-rule-requires c κs = (c .before .before .before .before .before .before .before .before .pre .0, (front-held _ _ _ (c .before .before .before .before .fill-plain .ensures) (λ i. c .before .before .before .before .before .before .shared-slice-known .given i .fits) (c .before .before .before .before .before .before .before .before .pre .1 .0), c .before .before .before .before .before .before .before .before .pre .1 .1))
 
 same-length : tie.Need-same-length
 same-length c = search needs

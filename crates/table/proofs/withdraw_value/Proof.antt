@@ -15,16 +15,16 @@ slice-aggregate-fill-plain : tie.Need-slice-aggregate-fill-plain
 slice-aggregate-fill-plain c = search needs
 
 fill-plain-requires : tie.Need-fill-plain-requires
-fill-plain-requires c κs = omega (arith, accepted-small _ _ (c .before .before .before .pre .1))
+fill-plain-requires c κs = omega (arith, accepted-small _ _ (c .before .before .before .pre .1 .0))
 
 array-share-prefix-work : tie.Need-array-share-prefix-work
-array-share-prefix-work c = omega (arith, accepted-small _ _ (c .before .before .before .before .before .before .pre .1))
+array-share-prefix-work c = omega (arith, accepted-small _ _ (c .before .before .before .before .before .before .pre .1 .0))
 
 slice-aggregate-remove-rule : tie.Need-slice-aggregate-remove-rule
 slice-aggregate-remove-rule c = front-length _ _ _ (c .before .before .before .fill-plain .ensures)
 
 remove-rule-requires : tie.Need-remove-rule-requires
-remove-rule-requires c κs = (c .before .before .before .before .before .before .before .pre .0, front-held _ _ _ (c .before .before .before .fill-plain .ensures) (λ i. c .before .before .before .before .before .shared-slice-known .given i .fits) (c .before .before .before .before .before .before .before .pre .1))
+remove-rule-requires c κs = (c .before .before .before .before .before .before .before .pre .0, (front-held _ _ _ (c .before .before .before .fill-plain .ensures) (λ i. c .before .before .before .before .before .shared-slice-known .given i .fits) (c .before .before .before .before .before .before .before .pre .1 .0), c .before .before .before .before .before .before .before .pre .1 .1))
 
 same-length : tie.Need-same-length
 same-length c = search needs
