@@ -1,0 +1,133 @@
+-- Each turn takes an octet at least, and leaves what is lent at its length.
+use borrow.Author.Needs.{needs}
+use Prim.Native.Nat.{_+_, _-_, _<_, _≤_}
+use mathlib.Core.Path.{_≡_, sym}
+use native.Mathlib.Omega.{arith}
+use lib.ListN.{length, take, drop, length-take, length-drop}
+use lib.Seq.{length-take-le}
+use Rattle.lines.proofs.GatherLaws.{Part, part-of}
+use Rattle.line_program.proofs.answer_block.Statement.{statement}
+use Rattle.line_program.proofs.answer_block.Tie as tie
+use Rattle.line_program.proofs.answer_block.Reads as reads
+use Rattle.line_program.proofs.answer_block.Lts as lts
+use Rattle.line_program.proofs.answer.Reads as answer-reads
+use Rattle.lines.proofs.gather.Reads as gather-reads
+
+abbrev Inv-loop : tie.InvT-loop
+Inv-loop block line₀ routes₀ table₀ out₀ at₀ held₀ used₀ line routes table out at held used =
+    (at ≤ length block) × (held ≤ length line) × (length line ≡ length line₀) × (length routes ≡ length routes₀) × (length table ≡ length table₀) × (length out ≡ length out₀)
+
+abbrev μ-loop : tie.MeasureT-loop
+μ-loop block line₀ routes₀ table₀ out₀ at₀ held₀ used₀ line routes table out at held used = length block - at
+
+-- what is taken of the block, and how much of the line's buffer is held then
+taken : (c : tie.After-struct-known Inv-loop μ-loop) → (0 < c .before .before .before .gather .result .taken) × (c .before .before .before .before .before .before .before .loop .at + c .before .before .before .gather .result .taken ≤ length (c .before .before .before .before .before .before .before .before .before .before .before .before .before .args .block .now)) × (c .before .before .before .gather .result .held ≤ length (c .before .before .before .before .before .before .before .loop .line))
+taken c =
+    let l = c .before .before .before .before .before .before .before .loop in
+    let b = c .before .before .before .before .before .before .before .before .before .before .before .before .before .args .block .now in
+    let within = l .inv .0 in
+    let test = c .before .before .before .before .before .before .loop-test in
+    let p = part-of _ _ _ _ _ _ (c .before .before .before .gather .ensures) in
+    let long : length (take (length b - l .at) (drop (l .at) b)) ≡ length b - l .at = simp (length-take, length-drop) (omega arith) in
+    let some = p .some (omega arith) in
+    let most = p .within in
+    (some, omega arith, p .fits)
+
+loop-holds : tie.Need-loop-holds Inv-loop μ-loop
+loop-holds c = search needs
+
+sub-gather : tie.Need-sub-gather Inv-loop μ-loop
+sub-gather c = search needs
+
+part-gather-start : tie.Need-part-gather-start Inv-loop μ-loop
+part-gather-start c = search needs
+
+part-gather-end : tie.Need-part-gather-end Inv-loop μ-loop
+part-gather-end c = search needs
+
+gather-requires : tie.Need-gather-requires Inv-loop μ-loop
+gather-requires c κs = search needs
+
+add-at : tie.Need-add-at Inv-loop μ-loop
+add-at c = omega (arith, taken c)
+
+slice-reshare-prefix-answer : tie.Need-slice-reshare-prefix-answer Inv-loop μ-loop
+slice-reshare-prefix-answer c = omega (arith, taken (c .before))
+
+slice-aggregate-answer : tie.Need-slice-aggregate-answer Inv-loop μ-loop
+slice-aggregate-answer c = sym (length-take-le _ _ (omega (arith, taken (c .before .before))))
+
+answer-requires : tie.Need-answer-requires Inv-loop μ-loop
+answer-requires c κs = search needs
+
+same-length : tie.Need-same-length Inv-loop μ-loop
+same-length c = search needs
+
+same-length-2 : tie.Need-same-length-2 Inv-loop μ-loop
+same-length-2 c = search needs
+
+same-length-3 : tie.Need-same-length-3 Inv-loop μ-loop
+same-length-3 c = search needs
+
+same-length-4 : tie.Need-same-length-4 Inv-loop μ-loop
+same-length-4 c = search needs
+
+returns : tie.Need-returns Inv-loop μ-loop
+returns c = search needs
+
+loop-less : tie.Need-loop-less Inv-loop μ-loop
+loop-less c = omega (arith, taken (c .before .before .before .before .before .before .before .before .before .before .before .before .before .before))
+
+loop-again : tie.Need-loop-again Inv-loop μ-loop
+loop-again c = let t = taken (c .before .before .before .before .before .before .before .before .before .before .before .before .before .before) in let i = c .before .before .before .before .before .before .before .before .before .before .before .before .before .before .before .before .before .before .before .before .before .loop .inv in (omega arith, omega arith, search needs, search needs, search needs, search needs)
+
+loop-less-2 : tie.Need-loop-less-2 Inv-loop μ-loop
+loop-less-2 c = omega (arith, taken (c .before))
+
+loop-again-2 : tie.Need-loop-again-2 Inv-loop μ-loop
+loop-again-2 c = let t = taken (c .before) in (omega arith, omega arith, search needs, search needs, search needs, search needs)
+
+same-length-5 : tie.Need-same-length-5 Inv-loop μ-loop
+same-length-5 c = search needs
+
+same-length-6 : tie.Need-same-length-6 Inv-loop μ-loop
+same-length-6 c = search needs
+
+same-length-7 : tie.Need-same-length-7 Inv-loop μ-loop
+same-length-7 c = search needs
+
+same-length-8 : tie.Need-same-length-8 Inv-loop μ-loop
+same-length-8 c = search needs
+
+returns-2 : tie.Need-returns-2 Inv-loop μ-loop
+returns-2 c = search needs
+
+pub answer-block-spec : {M : Type 1} → statement M
+answer-block-spec =
+    tie.close
+    (tie.spec
+    Inv-loop
+    μ-loop
+    loop-holds
+    sub-gather
+    part-gather-start
+    part-gather-end
+    gather-requires
+    add-at
+    slice-reshare-prefix-answer
+    slice-aggregate-answer
+    answer-requires
+    same-length
+    same-length-2
+    same-length-3
+    same-length-4
+    returns
+    loop-less
+    loop-again
+    loop-less-2
+    loop-again-2
+    same-length-5
+    same-length-6
+    same-length-7
+    same-length-8
+    returns-2)

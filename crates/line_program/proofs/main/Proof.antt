@@ -1,0 +1,39 @@
+-- Each of the five arrays is lent at its length.
+use Prim.Native.Nat.{ℕ}
+use mathlib.Core.Path.{sym}
+use lib.ListN.{length-replicate}
+use Rattle.line_program.proofs.main.Statement.{statement}
+use Rattle.line_program.proofs.main.Tie as tie
+
+slice-aggregate-run : tie.Need-slice-aggregate-run
+slice-aggregate-run c = sym (length-replicate {A = ℕ} 65536 0)
+
+slice-aggregate-run-2 : tie.Need-slice-aggregate-run-2
+slice-aggregate-run-2 c = sym (length-replicate {A = ℕ} 16385 0)
+
+slice-aggregate-run-3 : tie.Need-slice-aggregate-run-3
+slice-aggregate-run-3 c = sym (length-replicate {A = ℕ} 16384 0)
+
+slice-aggregate-run-4 : tie.Need-slice-aggregate-run-4
+slice-aggregate-run-4 c = sym (length-replicate {A = ℕ} 65536 0)
+
+slice-aggregate-run-5 : tie.Need-slice-aggregate-run-5
+slice-aggregate-run-5 c = sym (length-replicate {A = ℕ} 142993 0)
+
+run-requires : tie.Need-run-requires
+run-requires c κs = length-replicate {A = ℕ} 142993 0
+
+returns : tie.Need-returns
+returns c = tt
+
+pub main-spec : {M : Type 1} → statement M
+main-spec =
+    tie.close
+    (tie.spec
+    slice-aggregate-run
+    slice-aggregate-run-2
+    slice-aggregate-run-3
+    slice-aggregate-run-4
+    slice-aggregate-run-5
+    run-requires
+    returns)

@@ -1,0 +1,153 @@
+// The line program: reads lines from standard input, serves each by crate `lines`, and writes what it prints to standard output. The
+// input may have any length: it comes in blocks, and of a line no more is kept than shows that it is too long. The program ends where the
+// input does, and where its input or its output fails, which it then says on standard error.
+ghost use mathlib.Core.Path.{_≡_};
+ghost use Prim.Native.Nat.{_≤_};
+ghost use lib.ListN.{length};
+ghost use Rattle.lines.specs.Answer.{mostText};
+use libc::STDERR_FILENO;
+use libc::STDIN_FILENO;
+use libc::STDOUT_FILENO;
+
+// The octets of a block of input.
+const BLOCK: usize = 65536;
+
+// The octets of the buffer for a line: one more than a line may have.
+const LINE: usize = 16385;
+
+// The words of 4,096 routes.
+const WORDS: usize = 16384;
+
+// The octets of the table.
+const TABLE: usize = 65536;
+
+// The octets of the longest text that a line prints, which is the list of a full table: 65,536 octets hold at most 1,985 records of at
+// least 33 octets, so that it has a line of at most 11 octets, two octets for each octet of the records and six more for each record.
+const TEXT: usize = 142993;
+
+// Where the program stands: the octets of a line not ended yet that its buffer holds, the words of routes in use, and whether the output
+// still takes what is written.
+struct Progress {
+    held: usize,
+    used: usize,
+    open: bool,
+}
+
+// Serves a line and writes what it prints.
+fn answer(
+    line: &[u8],
+    routes: &mut [u32],
+    used: usize,
+    table: &mut [u8],
+    out: &mut [u8],
+) -> Progress
+    requires { ⌜ length (now out) ≡ mostText ⌝ }
+    ensures { λ r. ⌜ r .held ≡ 0 ⌝ }
+{
+    let served = lines::serve(line, routes, used, table, out);
+    let printed = served.printed;
+    let open = io::write_all(STDOUT_FILENO, &out[..printed]);
+    if !open {
+        io::write_all(
+            STDERR_FILENO,
+            b"line_program: the output cannot be written\n",
+        );
+    }
+    Progress {
+        held: 0,
+        used: served.used,
+        open,
+    }
+}
+
+// Serves the lines that end in a block, and holds what stands behind the last of them.
+fn answer_block(
+    block: &[u8],
+    line: &mut [u8],
+    routes: &mut [u32],
+    table: &mut [u8],
+    out: &mut [u8],
+    start: Progress,
+) -> Progress
+    requires { ⌜ (length (now out) ≡ mostText) × (start .held ≤ length (now line)) ⌝ }
+    ensures { λ r. ⌜ r .held ≤ length (now (line .entry)) ⌝ }
+{
+    let mut at = 0;
+    let mut held = start.held;
+    let mut used = start.used;
+    while at < block.len() {
+        let part = lines::gather(&block[at..], line, held);
+        at += part.taken;
+        held = part.held;
+        if part.ended {
+            let after = answer(&line[..held], routes, used, table, out);
+            if !after.open {
+                return after;
+            }
+            used = after.used;
+            held = 0;
+        }
+    }
+    Progress {
+        held,
+        used,
+        open: true,
+    }
+}
+
+// Serves the last line, which has no LF, at the end of the input: `got` is what the read answered that brought nothing.
+fn answer_rest(
+    got: isize,
+    line: &[u8],
+    routes: &mut [u32],
+    used: usize,
+    table: &mut [u8],
+    out: &mut [u8],
+)
+    requires { ⌜ length (now out) ≡ mostText ⌝ }
+{
+    if got < 0 {
+        io::write_all(STDERR_FILENO, b"line_program: the input cannot be read\n");
+        return;
+    }
+    if line.len() == 0 {
+        return;
+    }
+    answer(line, routes, used, table, out);
+}
+
+// Reads the input block by block and serves its lines. A proved loop has to end, and nothing says that the input does: so the loop counts
+// its turns down, from a number that no run uses up.
+fn run(block: &mut [u8], line: &mut [u8], routes: &mut [u32], table: &mut [u8], out: &mut [u8])
+    requires { ⌜ length (now out) ≡ mostText ⌝ }
+{
+    let mut progress = Progress {
+        held: 0,
+        used: 0,
+        open: true,
+    };
+    let mut turns = u64::MAX;
+    while 0 < turns {
+        let got = libc::read(STDIN_FILENO, block);
+        let count = io::count(got, block);
+        if count == 0 {
+            let held = progress.held;
+            answer_rest(got, &line[..held], routes, progress.used, table, out);
+            return;
+        }
+        progress = answer_block(&block[..count], line, routes, table, out, progress);
+        if !progress.open {
+            return;
+        }
+        turns -= 1;
+    }
+}
+
+fn main() {
+    let mut block = [0u8; BLOCK];
+    let mut line = [0u8; LINE];
+    let mut routes = [0u32; WORDS];
+    let mut table = [0u8; TABLE];
+    let mut out = [0u8; TEXT];
+    run(&mut block, &mut line, &mut routes, &mut table, &mut out);
+}

@@ -1,0 +1,8 @@
+pub mod GatherLaws
+pub mod CutLaws
+pub mod FormLaws
+pub mod ReadLaws
+pub mod PrintLaws
+pub mod ListLaws
+pub mod ServeLaws
+pub mod Unique

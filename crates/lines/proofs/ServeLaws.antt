@@ -1,0 +1,164 @@
+-- Serving a line: a route put behind the others, and what each form of a line leaves. Assumes nothing.
+use mathlib.Core.Path.{_≡_, refl, ap, sym, subst, _∙_}
+use mathlib.Core.Bool.{Bool, true, false, cond, _&&_}
+use mathlib.Core.List.{List, [], _∷_, _++_}
+use Prim.Native.Nat.{ℕ, zero, suc, _+_, _-_, _*_, _<_, _≤_, min}
+use native.Mathlib.Omega.{arith}
+use native.Mathlib.Decide.{decLt}
+use lib.Dec.{leb}
+use lib.ListN.{length, set, take, drop}
+use lib.Seq.{sets, sets-eq, take-at, take-all, length-take-le}
+use borrow.Author.Tests.{le-leb, lt-leb, leb-true}
+use Rattle.octets.proofs.Cases.{by-test, apart}
+use Rattle.rule.specs.Value.{between}
+use Rattle.octets.specs.Store.{stored}
+use Rattle.flowspec.specs.declared.Change.{Change}
+use Rattle.flowspec.specs.Announce.{announcing, withdrawing, Outcome as Changed}
+use Rattle.flowspec.specs.Told.{changeTold}
+use Rattle.text.specs.Hex.{octetsIn}
+use Rattle.text.specs.Print.{laid}
+use Rattle.text.proofs.HexLaws.{length-octetsIn}
+use Rattle.text.proofs.PrintLaws.{laid-stored, length-laid, laid-none}
+use Rattle.lines.specs.Answer.{unknownText, changeText, listText, mostText}
+use Rattle.lines.specs.declared.Served.{Served}
+use Rattle.lines.specs.declared.Form.{Form}
+use Rattle.lines.specs.declared.Form.the-variants.{Route, Announce, Withdraw, Listing, Unknown}
+use Rattle.lines.specs.Line.{Line, other, lineOf, mostSigns}
+use Rattle.lines.specs.Form.{formSays, FormIn, Says}
+use Rattle.lines.specs.Serve.{Outcome, mostWords, routeFits, printing, changing, servedAs, served, Changes}
+use Rattle.lines.specs.Promise.{servedTold, Serves}
+use Rattle.lines.proofs.CutLaws.{too-long}
+use Rattle.lines.proofs.FormLaws.{no-and}
+
+-- a route is added, or not
+module _ (routes : List ℕ) (used address size originator neighbour : ℕ) where
+  abbrev pub Added : Bool → List ℕ → Type 0
+  Added answer exit =
+      (answer ≡ routeFits used routes) × (exit ≡ cond (routeFits used routes) (stored routes used (address ∷ size ∷ originator ∷ neighbour ∷ [])) routes)
+
+  not-added : routeFits used routes ≡ false → Added false routes
+  not-added e = rw e (refl, refl)
+
+  pub add-past : 16380 < used → Added false routes
+  add-past h = not-added (rw (lt-leb (used + 4) mostWords (omega arith)))
+
+  pub add-short : length routes < used + 4 → Added false routes
+  add-short h = not-added (rw (lt-leb (used + 4) (length routes) h, no-and (leb (used + 4) mostWords)))
+
+  pub add-done : used ≤ 16380 → used + 4 ≤ length routes
+      → Added true (set (set (set (set routes used address) (used + 1) size) (used + 2) originator) (used + 3) neighbour)
+  unfolding stored
+  add-done h k =
+      let second : used + 1 ≡ suc used = omega arith in
+      let third : used + 2 ≡ suc (suc used) = omega arith in
+      let fourth : used + 3 ≡ suc (suc (suc used)) = omega arith in
+      rw (le-leb (used + 4) mostWords (omega arith), le-leb (used + 4) (length routes) k)
+      (refl, rw (second, third, fourth) (sets-eq (address ∷ size ∷ originator ∷ neighbour ∷ []) routes used k))
+
+-- a route that was added has room
+pub route-fits : (routes : List ℕ) (used : ℕ) (fits : Bool) → fits ≡ routeFits used routes → fits ≡ true → used + 4 ≤ mostWords
+route-fits routes used fits e t =
+    by-test (leb (used + 4) mostWords) (λ h. leb-true (used + 4) mostWords h) (λ h. let z : true ≡ false = sym t ∙ e ∙ rw h in apart (cc))
+
+-- octets that were read into a room that is long enough
+module _ (room exit text : List ℕ) (count : ℕ) (reads : (exit ≡ laid room 0 (octetsIn text)) × (count ≡ length (octetsIn text))) (long : length text ≤ 2 * length room) where
+  fits : 0 + length (octetsIn text) ≤ length room
+  fits = omega (arith, length-octetsIn text)
+
+  pub read-within : count ≤ length exit
+  read-within = let n = reads .1 in rw (reads .0, length-laid room 0 (octetsIn text)) (omega (arith, fits))
+
+  pub read-size : count ≡ length (take count exit)
+  read-size = sym (length-take-le count exit read-within)
+
+  pub read-is : take count exit ≡ octetsIn text
+  unfolding stored
+  read-is =
+      rw (reads .0, reads .1, laid-stored room 0 (octetsIn text) fits)
+      (take-at (octetsIn text) (drop (0 + length (octetsIn text)) room) (length (octetsIn text)) refl)
+
+-- a change of the table whose answer was printed
+pub changes : (o : Changed) (out : List ℕ) (change : Change) (t x : List ℕ) (printed : ℕ) → change ≡ o .answer → t ≡ o .table
+    → (x ≡ laid out 0 (changeText (changeTold change))) × (printed ≡ length (changeText (changeTold change))) × (printed ≤ mostText) → Changes o out printed t x
+changes o out change t x printed a e p = record { leaves = e; prints = rw (← a) (p .0); long = rw (← a) (p .1); short = p .2 }
+
+-- the routes in use, where `used` may pass the buffer's end
+pub in-use : (used count : ℕ) (routes : List ℕ) → count ≡ min used (length routes) → take count routes ≡ take used routes
+in-use used count routes e =
+    elim (decLt used (length routes)) [
+      | yes l ↦ let k : count ≡ used = omega arith in rw k
+      | no g ↦ take-all count routes (omega arith) ∙ sym (take-all used routes (omega arith))
+    ]
+
+-- a line that says something is not too long
+said-short : (line : List ℕ) (what : Line) → lineOf line ≡ what → (what ≡ other → ⊥) → length line ≤ mostSigns
+said-short line what e n =
+    elim (decLt mostSigns (length line)) [ yes l ↦ absurd (n (sym e ∙ too-long line l)) | no g ↦ omega arith ]
+
+-- a line that was read as a form: its places lie in it, and it is not too long
+module _ (line : List ℕ) (form : Form) (read : Says line form (lineOf line)) where
+  pub announce-places : (rule ruleEnd originator communities : ℕ) → form ≡ Announce rule ruleEnd originator communities
+      → (rule ≤ ruleEnd) × ((ruleEnd ≤ length line) × ((communities ≤ length line) × (length line ≤ mostSigns)))
+  announce-places rule ruleEnd originator communities is =
+      let w = subst (FormIn line) is (read .within) in
+      (w .0, (w .1 .0, (w .1 .1, said-short line _ (sym (read .is) ∙ ap (formSays line) is) (λ e. apart (cc)))))
+
+  pub withdraw-places : (rule : ℕ) → form ≡ Withdraw rule → (rule ≤ length line) × (length line ≤ mostSigns)
+  withdraw-places rule is =
+      (subst (FormIn line) is (read .within), said-short line _ (sym (read .is) ∙ ap (formSays line) is) (λ e. apart (cc)))
+
+-- what serving it leaves
+module _ (line : List ℕ) (used : ℕ) (routes table out : List ℕ) (form : Form) (read : Says line form (lineOf line)) where
+  served-as : (f : Form) → form ≡ f → served line used routes table ≡ servedAs (formSays line f) used routes table
+  unfolding served
+  served-as f e = rw (← read .is, e)
+
+  -- a promise from the equation for the outcome
+  serves : (o : Outcome) → served line used routes table ≡ o → (answer : Served) (r t x : List ℕ) → answer ≡ servedTold o → r ≡ o .routes → t ≡ o .table
+      → x ≡ laid out 0 (o .text) → answer .printed ≤ mostText → Serves line used routes table out answer r t x (line ∷ [])
+  serves o e answer r t x a b c d s = record { is = rw e a; leavesRoutes = rw e b; leavesTable = rw e c; prints = rw e d; short = s; keeps = refl }
+
+  module _ (address size originator neighbour : ℕ) (is : form ≡ Route address size originator neighbour) (fits : Bool) (exit : List ℕ)
+      (added : Added routes used address size originator neighbour fits exit) where
+    pub serve-added : fits ≡ true → Serves line used routes table out (record { printed = 0; used = used + 4 }) exit table out (line ∷ [])
+    serve-added t =
+        let f : routeFits used routes ≡ true = sym (added .0) ∙ t in
+        serves (record { text = []; used = used + 4; routes = stored routes used (address ∷ size ∷ originator ∷ neighbour ∷ []); table = table })
+        (served-as (Route address size originator neighbour) is ∙ rw f) _ _ _ _ refl (added .1 ∙ rw f) refl (sym (laid-none out 0)) (omega arith)
+
+    pub serve-not-added : fits ≡ false → (printed : ℕ) (x : List ℕ) → (x ≡ laid out 0 unknownText) × (printed ≡ length unknownText)
+        → Serves line used routes table out (record { printed = printed; used = used }) exit table x (line ∷ [])
+    serve-not-added t printed x p =
+        let f : routeFits used routes ≡ false = sym (added .0) ∙ t in
+        serves (printing unknownText used routes table) (served-as (Route address size originator neighbour) is ∙ rw f) _ _ _ _
+        (λ i. record { printed = p .1 i; used = used }) (added .1 ∙ rw f) refl (p .0) (let e = p .1 in omega arith)
+
+  module _ (rule ruleEnd originator communities : ℕ) (is : form ≡ Announce rule ruleEnd originator communities) where
+    pub serve-announced : (count printed : ℕ) (t x : List ℕ) → count ≡ min used (length routes)
+        → Changes (announcing false (take count routes) (octetsIn (between line rule ruleEnd)) originator (octetsIn (between line communities (length line))) table) out printed t x
+        → Serves line used routes table out (record { printed = printed; used = used }) routes t x (line ∷ [])
+    serve-announced count printed t x e c =
+        serves (changing (announcing false (take count routes) (octetsIn (between line rule ruleEnd)) originator (octetsIn (between line communities (length line))) table) used routes)
+        (served-as (Announce rule ruleEnd originator communities) is ∙ rw (in-use used count routes e)) _ _ _ _
+        (λ i. record { printed = c .long i; used = used }) refl (c .leaves) (c .prints) (c .short)
+
+  module _ (rule : ℕ) (is : form ≡ Withdraw rule) where
+    pub serve-withdrawn : (printed : ℕ) (t x : List ℕ) → Changes (withdrawing (octetsIn (between line rule (length line))) table) out printed t x
+        → Serves line used routes table out (record { printed = printed; used = used }) routes t x (line ∷ [])
+    serve-withdrawn printed t x c =
+        serves (changing (withdrawing (octetsIn (between line rule (length line))) table) used routes) (served-as (Withdraw rule) is) _ _ _ _
+        (λ i. record { printed = c .long i; used = used }) refl (c .leaves) (c .prints) (c .short)
+
+  -- a line that prints and changes nothing
+  serve-printed : (text : List ℕ) → served line used routes table ≡ printing text used routes table → (printed : ℕ) (x : List ℕ)
+      → (x ≡ laid out 0 text) × (printed ≡ length text) × (printed ≤ mostText)
+      → Serves line used routes table out (record { printed = printed; used = used }) routes table x (line ∷ [])
+  serve-printed text e printed x p = serves (printing text used routes table) e _ _ _ _ (λ i. record { printed = p .1 i; used = used }) refl refl (p .0) (p .2)
+
+  pub serve-listed : form ≡ Listing → (printed : ℕ) (x : List ℕ) → (x ≡ laid out 0 (listText table)) × (printed ≡ length (listText table)) × (printed ≤ mostText)
+      → Serves line used routes table out (record { printed = printed; used = used }) routes table x (line ∷ [])
+  serve-listed is = serve-printed (listText table) (served-as Listing is)
+
+  pub serve-unknown : form ≡ Unknown → (printed : ℕ) (x : List ℕ) → (x ≡ laid out 0 unknownText) × (printed ≡ length unknownText)
+      → Serves line used routes table out (record { printed = printed; used = used }) routes table x (line ∷ [])
+  serve-unknown is printed x p = serve-printed unknownText (served-as Unknown is) printed x (let e = p .1 in (p .0, p .1, omega arith))

@@ -1,0 +1,71 @@
+-- The records counted and those that are left give the whole count.
+use borrow.Author.Needs.{needs}
+use Prim.Native.Nat.{_-_}
+use mathlib.Core.Path.{_≡_, sym, _∙_}
+use native.Mathlib.Omega.{arith}
+use lib.ListN.{length}
+use Rattle.table.specs.declared.NextRecord.the-variants.{Record}
+use Rattle.table.specs.Walk.{recordAt}
+use Rattle.table.proofs.WalkLaws.{Found, was-found}
+use Rattle.lines.proofs.ListLaws.{left-end, left-unsound, Counting, count-starts, count-done, count-more}
+use Rattle.lines.proofs.count_records.Statement.{statement}
+use Rattle.lines.proofs.count_records.Tie as tie
+use Rattle.lines.proofs.count_records.Reads as reads
+use Rattle.lines.proofs.count_records.Lts as lts
+use Rattle.table.proofs.record_at.Reads as record-at-reads
+
+abbrev Inv-loop : tie.InvT-loop
+Inv-loop table at₀ count₀ at count = Counting table at count
+
+abbrev μ-loop : tie.MeasureT-loop
+μ-loop table at₀ count₀ at count = length table - at
+
+found-here : (c : tie.After-known-told Inv-loop μ-loop) → recordAt (c .before .before .before .before .before .before .args .table .now) (c .before .before .before .before .loop .at) ≡ Record (c .before .next .given .0 .0)
+found-here c = sym (c .before .before .before .record-at .ensures) ∙ c .before .next .given .1
+
+loop-holds : tie.Need-loop-holds Inv-loop μ-loop
+loop-holds c = count-starts _
+
+record-at-requires : tie.Need-record-at-requires Inv-loop μ-loop
+record-at-requires c κs = search needs
+
+enum-told : tie.Need-enum-told Inv-loop μ-loop
+enum-told c = search needs
+
+returns : tie.Need-returns Inv-loop μ-loop
+returns c = count-done _ _ _ (c .before .before .before .loop .inv) (left-end _ _ (sym (c .before .before .record-at .ensures) ∙ c .enum-told .given .1))
+
+enum-told-2 : tie.Need-enum-told-2 Inv-loop μ-loop
+enum-told-2 c = search needs
+
+returns-2 : tie.Need-returns-2 Inv-loop μ-loop
+returns-2 c = count-done _ _ _ (c .before .before .before .loop .inv) (left-unsound _ _ (sym (c .before .before .record-at .ensures) ∙ c .enum-told2 .given .1))
+
+enum-known-next : tie.Need-enum-known-next Inv-loop μ-loop
+enum-known-next c = search needs
+
+add-count : tie.Need-add-count Inv-loop μ-loop
+add-count c = search needs
+
+loop-less : tie.Need-loop-less Inv-loop μ-loop
+loop-less c = omega (arith, was-found _ (c .before .before .before .before .loop .at) _ (found-here c))
+
+loop-again : tie.Need-loop-again Inv-loop μ-loop
+loop-again c = count-more _ _ _ (c .before .before .before .before .loop .inv) _ (found-here c)
+
+pub count-records-spec : {M : Type 1} → statement M
+count-records-spec =
+    tie.close
+    (tie.spec
+    Inv-loop
+    μ-loop
+    loop-holds
+    record-at-requires
+    enum-told
+    returns
+    enum-told-2
+    returns-2
+    enum-known-next
+    add-count
+    loop-less
+    loop-again)

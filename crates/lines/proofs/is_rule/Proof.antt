@@ -1,0 +1,21 @@
+use native.Mathlib.Omega.{arith}
+use lib.ListN.{length}
+use borrow.Author.Tests.{lt-ltb, le-ltb}
+use borrow.Author.Needs.{needs}
+use Rattle.lines.proofs.is_rule.Statement.{statement}
+use Rattle.lines.proofs.is_rule.Tie as tie
+use Rattle.lines.proofs.is_rule.Reads as reads
+use Rattle.lines.proofs.is_rule.Lts as lts
+use Rattle.text.proofs.are_octets.Reads as are-octets-reads
+
+returns : tie.Need-returns
+returns c = rw (le-ltb 0 (length (c .before .before .args .field .now)) (omega arith))
+
+are-octets-requires : tie.Need-are-octets-requires
+are-octets-requires c κs = search needs
+
+returns-2 : tie.Need-returns-2
+returns-2 c = rw (lt-ltb 0 (length (c .before .before .before .args .field .now)) (omega arith)) (c .are-octets .ensures)
+
+pub is-rule-spec : {M : Type 1} → statement M
+is-rule-spec = tie.close (tie.spec returns are-octets-requires returns-2)

@@ -1,0 +1,54 @@
+use native.Mathlib.Omega.{arith}
+use Rattle.text.proofs.DecimalLaws.{decimal-short}
+use Rattle.lines.specs.Answer.{answerText}
+use Rattle.lines.proofs.PrintLaws.{printed-then, printed-short, place-short, answer-short}
+use borrow.Author.Needs.{needs}
+use Rattle.lines.proofs.put_answer.Statement.{statement}
+use Rattle.lines.proofs.put_answer.Tie as tie
+use Rattle.lines.proofs.put_answer.Reads as reads
+use Rattle.lines.proofs.put_answer.Lts as lts
+use Rattle.lines.proofs.put_place.Reads as put-place-reads
+use Rattle.text.proofs.put_decimal.Reads as put-decimal-reads
+use Rattle.text.proofs.put_octets.Reads as put-octets-reads
+
+slice-aggregate-put-octets : tie.Need-slice-aggregate-put-octets
+slice-aggregate-put-octets c = search needs
+
+put-octets-requires : tie.Need-put-octets-requires
+put-octets-requires c κs = search needs
+
+put-decimal-requires : tie.Need-put-decimal-requires
+put-decimal-requires c κs = omega (arith, decimal-short (c .before .before .before .before .before .before .before .args .number) (omega arith))
+
+put-place-requires : tie.Need-put-place-requires
+put-place-requires c κs = omega (arith, decimal-short (c .before .before .before .before .before .before .before .before .before .before .before .args .number) (omega arith))
+
+slice-aggregate-put-octets-2 : tie.Need-slice-aggregate-put-octets-2
+slice-aggregate-put-octets-2 c = search needs
+
+put-octets-requires-2 : tie.Need-put-octets-requires-2
+put-octets-requires-2 c κs =
+    omega (arith, decimal-short (c .before .before .before .before .before .before .before .before .before .before .before .before .before .before .before .before .args .number) (omega arith), place-short (c .before .before .before .before .before .before .before .before .before .before .before .before .before .before .before .before .args .number) (c .before .before .before .before .before .before .before .before .before .before .before .before .before .before .before .before .args .place) (omega arith))
+
+same-length : tie.Need-same-length
+same-length c = search needs
+
+returns : tie.Need-returns
+unfolding answerText
+returns c =
+    printed-short _ _ _ _
+    (printed-then _ _ _ _ _ _ _ _ (c .before .before .before .before .before .before .before .before .before .before .before .before .before .before .before .put-octets .ensures)
+    (printed-then _ _ _ _ _ _ _ _ (c .before .before .before .before .before .before .before .before .before .before .before .put-decimal .ensures) (printed-then _ _ _ _ _ _ _ _ (c .before .before .before .before .before .before .before .put-place .ensures) (c .before .before .put-octets2 .ensures)))) (answer-short (c .before .before .before .before .before .before .before .before .before .before .before .before .before .before .before .before .before .before .before .args .number) (c .before .before .before .before .before .before .before .before .before .before .before .before .before .before .before .before .before .before .before .args .place) (omega arith) (omega arith))
+
+pub put-answer-spec : {M : Type 1} → statement M
+put-answer-spec =
+    tie.close
+    (tie.spec
+    slice-aggregate-put-octets
+    put-octets-requires
+    put-decimal-requires
+    put-place-requires
+    slice-aggregate-put-octets-2
+    put-octets-requires-2
+    same-length
+    returns)

@@ -1,0 +1,64 @@
+use native.Mathlib.Omega.{arith}
+use Rattle.lines.proofs.PrintLaws.{count-short, printed-short, printed-from-front}
+use Rattle.lines.proofs.ListLaws.{list-unsound, list-sound, list-short, list-within}
+use borrow.Author.Needs.{needs}
+use Rattle.lines.proofs.put_list.Statement.{statement}
+use Rattle.lines.proofs.put_list.Tie as tie
+use Rattle.lines.proofs.put_list.Reads as reads
+use Rattle.lines.proofs.put_list.Lts as lts
+use Rattle.lines.proofs.count_records.Reads as count-records-reads
+use Rattle.lines.proofs.put_answer.Reads as put-answer-reads
+use Rattle.lines.proofs.put_count.Reads as put-count-reads
+use Rattle.lines.proofs.put_records.Reads as put-records-reads
+use Rattle.table.proofs.sound_table.Reads as sound-table-reads
+
+sound-table-requires : tie.Need-sound-table-requires
+sound-table-requires c κs = search needs
+
+enum-told : tie.Need-enum-told
+enum-told c = search needs
+
+put-answer-requires : tie.Need-put-answer-requires
+put-answer-requires c κs = search needs
+
+enum-told-2 : tie.Need-enum-told-2
+enum-told-2 c = search needs
+
+count-records-requires : tie.Need-count-records-requires
+count-records-requires c κs = search needs
+
+put-count-requires : tie.Need-put-count-requires
+put-count-requires c κs = search needs
+
+put-records-requires : tie.Need-put-records-requires
+put-records-requires c κs =
+    (list-short _ _ (c .before .before .before .before .before .before .before .before .sound-table .ensures) _ (c .before .before .before .before .before .before .enum-told2 .given .1), omega (arith, count-short (c .before .before .before .before .before .count-records .result) (omega arith)))
+
+same-length : tie.Need-same-length
+same-length c = search needs
+
+returns : tie.Need-returns
+returns c = rw (list-unsound _ _ (c .before .before .before .before .before .before .sound-table .ensures) (c .before .before .before .before .enum-told .given .1)) (c .before .before .put-answer .ensures)
+
+same-length-2 : tie.Need-same-length-2
+same-length-2 c = search needs
+
+returns-2 : tie.Need-returns-2
+returns-2 c =
+    printed-short _ _ _ _ (list-sound _ _ (c .before .before .before .before .before .before .before .before .before .before .before .sound-table .ensures) _ (c .before .before .before .before .before .before .before .before .before .enum-told2 .given .1) _ (c .before .before .before .before .before .before .before .before .count-records .ensures .0) _ _ _ (printed-from-front _ _ _ _ (c .before .before .before .before .before .before .put-count .ensures)) _ _ (c .before .before .put-records .ensures)) (list-within _ _ (c .before .before .before .before .before .before .before .before .before .before .before .sound-table .ensures) _ (c .before .before .before .before .before .before .before .before .before .enum-told2 .given .1))
+
+pub put-list-spec : {M : Type 1} → statement M
+put-list-spec =
+    tie.close
+    (tie.spec
+    sound-table-requires
+    enum-told
+    put-answer-requires
+    enum-told-2
+    count-records-requires
+    put-count-requires
+    put-records-requires
+    same-length
+    returns
+    same-length-2
+    returns-2)

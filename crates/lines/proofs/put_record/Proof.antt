@@ -1,0 +1,45 @@
+use native.Mathlib.Omega.{arith}
+use Rattle.text.proofs.HexLaws.{length-hexOf}
+use Rattle.lines.specs.Answer.{ruleText}
+use Rattle.lines.proofs.PrintLaws.{printed-then}
+use borrow.Author.Needs.{needs}
+use Rattle.lines.proofs.put_record.Statement.{statement}
+use Rattle.lines.proofs.put_record.Tie as tie
+use Rattle.lines.proofs.put_record.Reads as reads
+use Rattle.lines.proofs.put_record.Lts as lts
+use Rattle.text.proofs.put_hex.Reads as put-hex-reads
+use Rattle.text.proofs.put_octets.Reads as put-octets-reads
+
+slice-aggregate-put-octets : tie.Need-slice-aggregate-put-octets
+slice-aggregate-put-octets c = search needs
+
+put-octets-requires : tie.Need-put-octets-requires
+put-octets-requires c κs = search needs
+
+put-hex-requires : tie.Need-put-hex-requires
+put-hex-requires c κs = omega (arith, length-hexOf (c .before .before .before .before .before .before .before .before .args .held .now))
+
+slice-aggregate-put-octets-2 : tie.Need-slice-aggregate-put-octets-2
+slice-aggregate-put-octets-2 c = search needs
+
+put-octets-requires-2 : tie.Need-put-octets-requires-2
+put-octets-requires-2 c κs = omega (arith, length-hexOf (c .before .before .before .before .before .before .before .before .before .before .before .before .before .args .held .now))
+
+same-length : tie.Need-same-length
+same-length c = search needs
+
+returns : tie.Need-returns
+unfolding ruleText
+returns c = printed-then _ _ _ _ _ _ _ _ (c .before .before .before .before .before .before .before .before .before .before .before .put-octets .ensures) (printed-then _ _ _ _ _ _ _ _ (c .before .before .before .before .before .before .before .put-hex .ensures) (c .before .before .put-octets2 .ensures))
+
+pub put-record-spec : {M : Type 1} → statement M
+put-record-spec =
+    tie.close
+    (tie.spec
+    slice-aggregate-put-octets
+    put-octets-requires
+    put-hex-requires
+    slice-aggregate-put-octets-2
+    put-octets-requires-2
+    same-length
+    returns)

@@ -1,0 +1,98 @@
+-- What was printed and the records that are left give the whole text.
+use borrow.Author.Needs.{needs}
+use Prim.Native.Nat.{_-_}
+use mathlib.Core.Path.{_≡_, sym, _∙_}
+use native.Mathlib.Omega.{arith}
+use lib.ListN.{length}
+use Rattle.table.specs.declared.NextRecord.the-variants.{Record}
+use Rattle.table.specs.Walk.{recordAt}
+use Rattle.table.proofs.WalkLaws.{Found, was-found}
+use Rattle.table.proofs.EntryLaws.{length-there}
+use Rattle.lines.proofs.ListLaws.{left-end, left-unsound, Printing, print-starts, print-done, print-more}
+use Rattle.lines.proofs.put_records.Statement.{statement}
+use Rattle.lines.proofs.put_records.Tie as tie
+use Rattle.lines.proofs.put_records.Reads as reads
+use Rattle.lines.proofs.put_records.Lts as lts
+use Rattle.lines.proofs.put_record.Reads as put-record-reads
+use Rattle.table.proofs.record_at.Reads as record-at-reads
+
+abbrev Inv-loop : tie.InvT-loop
+Inv-loop table out₀ at place₀ end₀ out place end = Printing table out₀ at place out end
+
+abbrev μ-loop : tie.MeasureT-loop
+μ-loop table out₀ at place₀ end₀ out place end = length table - place
+
+found-here : (c : tie.After-put-record-arg Inv-loop μ-loop) → recordAt (c .before .before .before .before .before .before .before .before .args .table .now) (c .before .before .before .before .before .loop .place) ≡ Record (c .before .before .next .given .0 .0)
+found-here c = sym (c .before .before .before .before .record-at .ensures) ∙ c .before .before .next .given .1
+
+loop-holds : tie.Need-loop-holds Inv-loop μ-loop
+loop-holds c = print-starts _ _ _
+
+record-at-requires : tie.Need-record-at-requires Inv-loop μ-loop
+record-at-requires c κs = search needs
+
+enum-told : tie.Need-enum-told Inv-loop μ-loop
+enum-told c = search needs
+
+same-length : tie.Need-same-length Inv-loop μ-loop
+same-length c = search needs
+
+returns : tie.Need-returns Inv-loop μ-loop
+returns c = print-done _ _ _ _ _ _ (c .before .before .before .loop .inv) (left-end _ _ (sym (c .before .before .record-at .ensures) ∙ c .enum-told .given .1))
+
+enum-told-2 : tie.Need-enum-told-2 Inv-loop μ-loop
+enum-told-2 c = search needs
+
+same-length-2 : tie.Need-same-length-2 Inv-loop μ-loop
+same-length-2 c = search needs
+
+returns-2 : tie.Need-returns-2 Inv-loop μ-loop
+returns-2 c = print-done _ _ _ _ _ _ (c .before .before .before .loop .inv) (left-unsound _ _ (sym (c .before .before .record-at .ensures) ∙ c .enum-told2 .given .1))
+
+enum-known-next : tie.Need-enum-known-next Inv-loop μ-loop
+enum-known-next c = search needs
+
+sub-put-record : tie.Need-sub-put-record Inv-loop μ-loop
+sub-put-record c = omega (arith, was-found _ (c .before .before .before .before .before .loop .place) _ (found-here c))
+
+part-put-record-start : tie.Need-part-put-record-start Inv-loop μ-loop
+part-put-record-start c = omega (arith, was-found _ (c .before .before .before .before .before .loop .place) _ (found-here c))
+
+part-put-record-end : tie.Need-part-put-record-end Inv-loop μ-loop
+part-put-record-end c = omega (arith, was-found _ (c .before .before .before .before .before .loop .place) _ (found-here c))
+
+put-record-requires : tie.Need-put-record-requires Inv-loop μ-loop
+put-record-requires c κs =
+    let k = c .before in
+    let f = was-found _ (k .before .before .before .before .before .loop .place) _ (found-here k) in
+    let long = length-there _ (k .before .before .before .before .before .loop .place) _ (found-here k) in
+    let few = k .before .before .before .before .before .loop .inv .few in
+    (omega (arith, k .before .before .before .before .before .before .before .before .pre), omega (arith, k .before .before .before .before .before .before .before .before .pre))
+
+loop-less : tie.Need-loop-less Inv-loop μ-loop
+loop-less c = let k = c .before .before .before .before in omega (arith, was-found _ (k .before .before .before .before .before .loop .place) _ (found-here k))
+
+loop-again : tie.Need-loop-again Inv-loop μ-loop
+loop-again c = let k = c .before .before .before .before in print-more _ _ _ _ _ _ (k .before .before .before .before .before .loop .inv) _ (found-here k) _ _ (c .before .before .put-record .ensures)
+
+pub put-records-spec : {M : Type 1} → statement M
+put-records-spec =
+    tie.close
+    (tie.spec
+    Inv-loop
+    μ-loop
+    loop-holds
+    record-at-requires
+    enum-told
+    same-length
+    returns
+    enum-told-2
+    same-length-2
+    returns-2
+    enum-known-next
+    sub-put-record
+    part-put-record-start
+    part-put-record-end
+    put-record-requires
+    loop-less
+    loop-again)

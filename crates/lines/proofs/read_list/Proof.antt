@@ -1,0 +1,14 @@
+use Rattle.lines.proofs.ReadLaws.{list-more, list-read}
+use Rattle.lines.proofs.read_list.Statement.{statement}
+use Rattle.lines.proofs.read_list.Tie as tie
+use Rattle.lines.proofs.read_list.Reads as reads
+use Rattle.lines.proofs.read_list.Lts as lts
+
+returns : tie.Need-returns
+returns c = list-more _ _ (c .if1 .taken)
+
+returns-2 : tie.Need-returns-2
+returns-2 c = list-read _ _ (c .if1 .left)
+
+pub read-list-spec : {M : Type 1} → statement M
+read-list-spec = tie.close (tie.spec returns returns-2)

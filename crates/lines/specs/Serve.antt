@@ -1,0 +1,66 @@
+-- What serving a line prints and leaves. The routes stand in a buffer of words, four a route, of which the first `used` are in use.
+use Prim.Native.Nat.{ℕ, _+_, _≤_}
+use mathlib.Core.Path.{_≡_}
+use mathlib.Core.Bool.{Bool, false, cond, _&&_}
+use mathlib.Core.List.{List, [], _∷_}
+use lib.Dec.{leb}
+use lib.ListN.{length, take}
+use Rattle.octets.specs.Store.{stored}
+use Rattle.flowspec.specs.Announce.{announcing, withdrawing, Outcome as Changed}
+use Rattle.flowspec.specs.Told.{changeTold}
+use Rattle.text.specs.Print.{laid}
+use Rattle.lines.specs.Line.{Line, route, announce, withdraw, list, other, lineOf}
+use Rattle.lines.specs.Answer.{unknownText, changeText, listText, mostText}
+
+-- What serving a line leaves: the text that it prints, how many words of the routes' buffer are in use, that buffer's words, and the table.
+pub record Outcome : Type 0 where
+  pub text : List ℕ
+  pub used : ℕ
+  pub routes : List ℕ
+  pub table : List ℕ
+
+-- "At most 4,096 routes", four words each.
+abbrev pub mostWords : ℕ
+mostWords = 16384
+
+-- There is room for a route behind the words in use: it is not past the 4,096, nor past the buffer's end.
+abbrev pub routeFits : ℕ → List ℕ → Bool
+routeFits used routes = leb (used + 4) mostWords && leb (used + 4) (length routes)
+
+-- A line that prints a text and changes nothing.
+abbrev pub printing : List ℕ → ℕ → List ℕ → List ℕ → Outcome
+printing text used routes table = record { text = text; used = used; routes = routes; table = table }
+
+-- A line that changes the table alone, and prints the call's answer.
+abbrev pub changing : Changed → ℕ → List ℕ → Outcome
+changing changed used routes =
+    record { text = changeText (changeTold (changed .answer)); used = used; routes = routes; table = changed .table }
+
+-- "A route line adds to the list and prints nothing"; "a route past 4,096 prints `answer\t?`". Whether the routes are sound is judged by
+-- the announcements that follow.
+abbrev pub adding : List ℕ → ℕ → List ℕ → List ℕ → Outcome
+adding words used routes table =
+    cond (routeFits used routes)
+    (record { text = []; used = used + 4; routes = stored routes used words; table = table })
+    (printing unknownText used routes table)
+
+-- What a line says is done. "The setting is off": a rule with no destination is infeasible. The routes in use are all words where `used`
+-- passes the buffer's end.
+abbrev pub servedAs : Line → ℕ → List ℕ → List ℕ → Outcome
+servedAs (route address size originator neighbour) used routes table = adding (address ∷ size ∷ originator ∷ neighbour ∷ []) used routes table
+servedAs (announce rule originator communities) used routes table =
+    changing (announcing false (take used routes) rule originator communities table) used routes
+servedAs (withdraw rule) used routes table = changing (withdrawing rule table) used routes
+servedAs list used routes table = printing (listText table) used routes table
+servedAs other used routes table = printing unknownText used routes table
+
+-- What serving a line leaves.
+unfoldable pub served : List ℕ → ℕ → List ℕ → List ℕ → Outcome
+served line used routes table = servedAs (lineOf line) used routes table
+
+-- How the code holds what a line that changes the table leaves: the table, the printed text, and its length, which is short.
+pub record Changes (changed : Changed) (out : List ℕ) (printed : ℕ) (tableExit outExit : List ℕ) : Type 0 where
+  pub leaves : tableExit ≡ changed .table
+  pub prints : outExit ≡ laid out 0 (changeText (changeTold (changed .answer)))
+  pub long : printed ≡ length (changeText (changeTold (changed .answer)))
+  pub short : printed ≤ mostText

@@ -1,0 +1,552 @@
+// The work on a line of the program, on slices: gathering a line from blocks of input, reading what it says, and serving it. No public
+// call has a `requires`: whatever it is lent, it answers (specs/Promise.antt).
+ghost use mathlib.Core.Path.{_≡_};
+ghost use mathlib.Core.Bool.{false, cond};
+ghost use mathlib.Core.List.{[], _∷_};
+ghost use Prim.Native.Nat.{_+_, _≤_, min};
+ghost use lib.ListN.{length};
+ghost use Rattle.octets.specs.Store.{stored};
+ghost use Rattle.table.specs.Walk.{records};
+ghost use Rattle.flowspec.specs.Announce.{announcing, withdrawing};
+ghost use Rattle.flowspec.specs.Told.{changeTold};
+ghost use Rattle.text.specs.Spelling.{spelled};
+ghost use Rattle.text.specs.Hex.{octetsIn};
+ghost use Rattle.text.specs.Print.{laid};
+ghost use Rattle.lines.specs.Line.{mostSigns, isAddress, isRule, said, lineOf};
+ghost use Rattle.lines.specs.Form.{behind, fieldBehind, numberAt, Says};
+ghost use Rattle.lines.specs.Answer.{placeText, answerText, unknownText, changeText, countText, ruleText, rulesText, listText, mostText};
+ghost use Rattle.lines.specs.Serve.{routeFits, Changes};
+ghost use Rattle.lines.specs.Gather.{beforeLf};
+ghost use Rattle.lines.specs.Promise.{Gathers, Serves};
+use flowspec::Change;
+use table::NextRecord;
+use table::Soundness;
+
+// The octets a line has at most.
+const MOST_SIGNS: usize = 16384;
+
+// The octets that a field of a line spells at most: two digits an octet.
+const MOST_OCTETS: usize = 8192;
+
+// The words of a route: address, length, originator and neighbour AS.
+const ROUTE_WORDS: usize = 4;
+
+// The words of routes at most: 4,096 routes.
+const MOST_WORDS: usize = 16384;
+
+// What serving a line answers: how long the printed text is, and how many words of the routes' buffer are in use.
+pub struct Served {
+    pub printed: usize,
+    pub used: usize,
+}
+
+// What gathering from a block answers: how many of its octets were taken, how many the line's buffer holds, and whether the line ended.
+pub struct Gathered {
+    pub taken: usize,
+    pub held: usize,
+    pub ended: bool,
+}
+
+// A field of a line, by the places where it begins and ends, or that there is none.
+pub enum Field {
+    Missing,
+    At { start: usize, end: usize },
+}
+
+// The number in a field with the place where the field ends, or that there is none.
+pub enum Number {
+    NoNumber,
+    Read { number: u32, end: usize },
+}
+
+// What a line says, by numbers and by places in it. The communities of an announcement and the rule of a withdrawal end with the line.
+pub enum Form {
+    Route {
+        address: u32,
+        size: u32,
+        originator: u32,
+        neighbour: u32,
+    },
+    Announce {
+        rule: usize,
+        rule_end: usize,
+        originator: u32,
+        communities: usize,
+    },
+    Withdraw(usize),
+    Listing,
+    Unknown,
+}
+
+// ---- Gathering a line ----
+
+// The lesser of two numbers.
+fn least(a: usize, b: usize) -> usize
+    ensures { λ r. ⌜ r ≡ min a b ⌝ }
+{
+    if a < b { a } else { b }
+}
+
+// How many octets of a block stand before its first LF.
+fn before_lf(block: &[u8]) -> usize
+    ensures { λ r. ⌜ (r ≡ beforeLf (now (block .entry))) × (r ≤ length (now (block .entry))) ⌝ }
+{
+    let mut i = 0;
+    while i < block.len() {
+        if block[i] == b'\n' {
+            return i;
+        }
+        i += 1;
+    }
+    i
+}
+
+// Gathers a line: lays the octets of a block before its first LF behind those that the line's buffer holds, as far as it reaches.
+pub fn gather(block: &[u8], line: &mut [u8], held: usize) -> Gathered
+    ensures { λ r. ⌜ Gathers (now (block .entry)) (now (line .entry)) held r (now (line .exit)) (now (block .exit) ∷ []) ⌝ }
+{
+    let size = before_lf(block);
+    let start = least(held, line.len());
+    let count = least(size, line.len() - start);
+    octets::store(line, start, &block[..count]);
+    let held = start + count;
+    if size < block.len() {
+        return Gathered {
+            taken: size + 1,
+            held,
+            ended: true,
+        };
+    }
+    Gathered {
+        taken: size,
+        held,
+        ended: false,
+    }
+}
+
+// ---- Reading a line ----
+
+// Whether a field is an address: exactly eight hex digits.
+fn is_address(field: &[u8]) -> bool
+    ensures { λ r. ⌜ r ≡ isAddress (now (field .entry)) ⌝ }
+{
+    if field.len() != 8 {
+        return false;
+    }
+    text::are_octets(field)
+}
+
+// Whether a field is a rule: octets in hex, and not empty.
+fn is_rule(field: &[u8]) -> bool
+    ensures { λ r. ⌜ r ≡ isRule (now (field .entry)) ⌝ }
+{
+    if field.len() == 0 {
+        return false;
+    }
+    text::are_octets(field)
+}
+
+// The field of a line behind the one that ends at a place.
+fn field_behind(line: &[u8], end: usize) -> Field
+    ensures { λ r. ⌜ r ≡ fieldBehind (now (line .entry)) end ⌝ }
+{
+    if line.len() <= end {
+        return Field::Missing;
+    }
+    let start = end + 1;
+    let stop = text::field_end(line, start);
+    Field::At { start, end: stop }
+}
+
+// The number in the field of a line behind the one that ends at a place.
+fn number_behind(line: &[u8], end: usize) -> Number
+    ensures { λ r. ⌜ r ≡ numberAt (now (line .entry)) (fieldBehind (now (line .entry)) end) ⌝ }
+{
+    match field_behind(line, end) {
+        Field::Missing => Number::NoNumber,
+        Field::At { start, end: stop } => {
+            let digits = &line[start..stop];
+            if !text::is_number(digits) {
+                return Number::NoNumber;
+            }
+            let number = text::number_in(digits);
+            Number::Read { number, end: stop }
+        }
+    }
+}
+
+// What a line says whose first field, which ends at a place, is `route`.
+fn read_route(line: &[u8], word: usize) -> Form
+    ensures { λ r. ⌜ Says (now (line .entry)) r (said (spelled "route" ∷ behind (now (line .entry)) word)) ⌝ }
+{
+    let Field::At { start, end } = field_behind(line, word) else {
+        return Form::Unknown;
+    };
+    if !is_address(&line[start..end]) {
+        return Form::Unknown;
+    }
+    let Number::Read {
+        number: size,
+        end: size_end,
+    } = number_behind(line, end)
+    else {
+        return Form::Unknown;
+    };
+    let Number::Read {
+        number: originator,
+        end: originator_end,
+    } = number_behind(line, size_end)
+    else {
+        return Form::Unknown;
+    };
+    let Number::Read {
+        number: neighbour,
+        end: last,
+    } = number_behind(line, originator_end)
+    else {
+        return Form::Unknown;
+    };
+    if last < line.len() {
+        return Form::Unknown;
+    }
+    let address = text::word_in(&line[start..end]);
+    Form::Route {
+        address,
+        size,
+        originator,
+        neighbour,
+    }
+}
+
+// What a line says whose first field is `announce`.
+fn read_announce(line: &[u8], word: usize) -> Form
+    ensures { λ r. ⌜ Says (now (line .entry)) r (said (spelled "announce" ∷ behind (now (line .entry)) word)) ⌝ }
+{
+    let Field::At { start, end } = field_behind(line, word) else {
+        return Form::Unknown;
+    };
+    if !is_rule(&line[start..end]) {
+        return Form::Unknown;
+    }
+    let Number::Read { number, end: stop } = number_behind(line, end) else {
+        return Form::Unknown;
+    };
+    let Field::At {
+        start: communities,
+        end: last,
+    } = field_behind(line, stop)
+    else {
+        return Form::Unknown;
+    };
+    if last < line.len() {
+        return Form::Unknown;
+    }
+    if !text::are_octets(&line[communities..]) {
+        return Form::Unknown;
+    }
+    Form::Announce {
+        rule: start,
+        rule_end: end,
+        originator: number,
+        communities,
+    }
+}
+
+// What a line says whose first field is `withdraw`.
+fn read_withdraw(line: &[u8], word: usize) -> Form
+    ensures { λ r. ⌜ Says (now (line .entry)) r (said (spelled "withdraw" ∷ behind (now (line .entry)) word)) ⌝ }
+{
+    let Field::At { start, end } = field_behind(line, word) else {
+        return Form::Unknown;
+    };
+    if end < line.len() {
+        return Form::Unknown;
+    }
+    if !is_rule(&line[start..]) {
+        return Form::Unknown;
+    }
+    Form::Withdraw(start)
+}
+
+// What a line says whose first field is `list`.
+fn read_list(line: &[u8], word: usize) -> Form
+    ensures { λ r. ⌜ Says (now (line .entry)) r (said (spelled "list" ∷ behind (now (line .entry)) word)) ⌝ }
+{
+    if word < line.len() {
+        return Form::Unknown;
+    }
+    Form::Listing
+}
+
+// What a line says, by its first field.
+fn read_line(line: &[u8]) -> Form
+    ensures { λ r. ⌜ Says (now (line .entry)) r (lineOf (now (line .entry))) ⌝ }
+{
+    if MOST_SIGNS < line.len() {
+        return Form::Unknown;
+    }
+    let end = text::field_end(line, 0);
+    let word = &line[..end];
+    if text::same_text(word, b"route") {
+        return read_route(line, end);
+    }
+    if text::same_text(word, b"announce") {
+        return read_announce(line, end);
+    }
+    if text::same_text(word, b"withdraw") {
+        return read_withdraw(line, end);
+    }
+    if text::same_text(word, b"list") {
+        return read_list(line, end);
+    }
+    Form::Unknown
+}
+
+// ---- Printing an answer ----
+
+// Prints the place of a refusal from 3 to 7: where to go on.
+fn put_place(out: &mut [u8], at: usize, number: u8, place: usize) -> usize
+    requires { ⌜ at ≤ 100 ⌝ }
+    ensures { λ r. ⌜ (now (out .exit) ≡ laid (now (out .entry)) at (placeText number place)) × (r ≡ at + length (placeText number place)) ⌝ }
+{
+    if number < 3 {
+        return at;
+    }
+    if 7 < number {
+        return at;
+    }
+    let next = text::put_octets(out, at, b"\t");
+    text::put_decimal(out, next, place as u64)
+}
+
+// Prints the answer of a call: how long the text is.
+fn put_answer(out: &mut [u8], number: u8, place: usize) -> usize
+    ensures { λ r. ⌜ (now (out .exit) ≡ laid (now (out .entry)) 0 (answerText number place)) × (r ≡ length (answerText number place)) × (r ≤ mostText) ⌝ }
+{
+    let start = text::put_octets(out, 0, b"answer\t");
+    let end = text::put_decimal(out, start, number as u64);
+    let stop = put_place(out, end, number, place);
+    text::put_octets(out, stop, b"\n")
+}
+
+// Prints the answer of a change of the table: how long the text is.
+fn put_change(out: &mut [u8], change: Change) -> usize
+    ensures { λ r. ⌜ (now (out .exit) ≡ laid (now (out .entry)) 0 (changeText (changeTold change))) × (r ≡ length (changeText (changeTold change))) × (r ≤ mostText) ⌝ }
+{
+    match change {
+        Change::Done => put_answer(out, 0, 0),
+        Change::Refused { number, place } => put_answer(out, number, place),
+    }
+}
+
+// Prints the answer to a line of another form: how long the text is.
+fn put_unknown(out: &mut [u8]) -> usize
+    ensures { λ r. ⌜ (now (out .exit) ≡ laid (now (out .entry)) 0 unknownText) × (r ≡ length unknownText) ⌝ }
+{
+    text::put_octets(out, 0, b"answer\t?\n")
+}
+
+// ---- Listing the table ----
+
+// How many records a table has.
+fn count_records(table: &[u8]) -> usize
+    ensures { λ r. ⌜ (r ≡ length (records (now (table .entry)))) × (r ≤ length (now (table .entry))) ⌝ }
+{
+    let mut at: usize = 0;
+    let mut count: usize = 0;
+    loop {
+        match table::record_at(table, at) {
+            NextRecord::Nothing => {
+                return count;
+            }
+            NextRecord::Unsound => {
+                return count;
+            }
+            NextRecord::Record(next) => {
+                count += 1;
+                at = next;
+            }
+        }
+    }
+}
+
+// Prints how many records there are: how long the text is.
+fn put_count(out: &mut [u8], count: usize) -> usize
+    ensures { λ r. ⌜ (now (out .exit) ≡ laid (now (out .entry)) 0 (countText count)) × (r ≡ length (countText count)) ⌝ }
+{
+    let start = text::put_octets(out, 0, b"rules\t");
+    let end = text::put_decimal(out, start, count as u64);
+    text::put_octets(out, end, b"\n")
+}
+
+// Prints a record from a place on: where to go on.
+fn put_record(out: &mut [u8], at: usize, held: &[u8]) -> usize
+    requires { ⌜ (at ≤ 1000000) × (length (now held) ≤ 65536) ⌝ }
+    ensures { λ r. ⌜ (now (out .exit) ≡ laid (now (out .entry)) at (ruleText (now (held .entry)))) × (r ≡ at + length (ruleText (now (held .entry)))) ⌝ }
+{
+    let start = text::put_octets(out, at, b"rule\t");
+    let end = text::put_hex(out, start, held);
+    text::put_octets(out, end, b"\n")
+}
+
+// Prints the records of a table from a place on: where to go on.
+fn put_records(table: &[u8], out: &mut [u8], at: usize) -> usize
+    requires { ⌜ (length (now table) ≤ 65536) × (at ≤ 100) ⌝ }
+    ensures { λ r. ⌜ (now (out .exit) ≡ laid (now (out .entry)) at (rulesText (records (now (table .entry))))) × (r ≡ at + length (rulesText (records (now (table .entry))))) ⌝ }
+{
+    let mut place: usize = 0;
+    let mut end = at;
+    loop {
+        match table::record_at(table, place) {
+            NextRecord::Nothing => {
+                return end;
+            }
+            NextRecord::Unsound => {
+                return end;
+            }
+            NextRecord::Record(next) => {
+                end = put_record(out, end, &table[place..next]);
+                place = next;
+            }
+        }
+    }
+}
+
+// Prints the table: how long the text is.
+fn put_list(out: &mut [u8], table: &[u8]) -> usize
+    ensures { λ r. ⌜ (now (out .exit) ≡ laid (now (out .entry)) 0 (listText (now (table .entry)))) × (r ≡ length (listText (now (table .entry)))) × (r ≤ mostText) ⌝ }
+{
+    match table::sound_table(table) {
+        Soundness::Unsound => put_answer(out, 10, 0),
+        Soundness::Sound(_) => {
+            let count = count_records(table);
+            let start = put_count(out, count);
+            put_records(table, out, start)
+        }
+    }
+}
+
+// ---- Serving a line ----
+
+// Adds a route behind the words in use and tells whether there was room for it.
+fn add_route(
+    routes: &mut [u32],
+    used: usize,
+    address: u32,
+    size: u32,
+    originator: u32,
+    neighbour: u32,
+) -> bool
+    ensures { λ r. ⌜ (r ≡ routeFits used (now (routes .entry))) × (now (routes .exit) ≡ cond (routeFits used (now (routes .entry))) (stored (now (routes .entry)) used (address ∷ size ∷ originator ∷ neighbour ∷ [])) (now (routes .entry))) ⌝ }
+{
+    if MOST_WORDS - ROUTE_WORDS < used {
+        return false;
+    }
+    if routes.len() < used + ROUTE_WORDS {
+        return false;
+    }
+    let second = used + 1;
+    let third = used + 2;
+    let fourth = used + 3;
+    routes[used] = address;
+    routes[second] = size;
+    routes[third] = originator;
+    routes[fourth] = neighbour;
+    true
+}
+
+// Announces the rule and the communities that two parts of a line spell, and prints the answer: how long the text is.
+fn serve_announce(
+    rule: &[u8],
+    originator: u32,
+    communities: &[u8],
+    routes: &[u32],
+    table: &mut [u8],
+    out: &mut [u8],
+) -> usize
+    requires { ⌜ (length (now rule) ≤ mostSigns) × (length (now communities) ≤ mostSigns) ⌝ }
+    ensures { λ r. ⌜ Changes (announcing false (now (routes .entry)) (octetsIn (now (rule .entry))) originator (octetsIn (now (communities .entry))) (now (table .entry))) (now (out .entry)) r (now (table .exit)) (now (out .exit)) ⌝ }
+{
+    let mut octets = [0u8; MOST_OCTETS];
+    let size = text::read_octets(rule, &mut octets);
+    let mut actions = [0u8; MOST_OCTETS];
+    let count = text::read_octets(communities, &mut actions);
+    let change = flowspec::announce(
+        table,
+        false,
+        routes,
+        &octets[..size],
+        originator,
+        &actions[..count],
+    );
+    put_change(out, change)
+}
+
+// Withdraws the rule that a part of a line spells, and prints the answer: how long the text is.
+fn serve_withdraw(rule: &[u8], table: &mut [u8], out: &mut [u8]) -> usize
+    requires { ⌜ length (now rule) ≤ mostSigns ⌝ }
+    ensures { λ r. ⌜ Changes (withdrawing (octetsIn (now (rule .entry))) (now (table .entry))) (now (out .entry)) r (now (table .exit)) (now (out .exit)) ⌝ }
+{
+    let mut octets = [0u8; MOST_OCTETS];
+    let size = text::read_octets(rule, &mut octets);
+    let change = flowspec::withdraw(table, &octets[..size]);
+    put_change(out, change)
+}
+
+// Serves a line: does what it says, and prints to the front of a buffer, as far as that reaches.
+pub fn serve(
+    line: &[u8],
+    routes: &mut [u32],
+    used: usize,
+    table: &mut [u8],
+    out: &mut [u8],
+) -> Served
+    ensures { λ r. ⌜ Serves (now (line .entry)) used (now (routes .entry)) (now (table .entry)) (now (out .entry)) r (now (routes .exit)) (now (table .exit)) (now (out .exit)) (now (line .exit) ∷ []) ⌝ }
+{
+    match read_line(line) {
+        Form::Route {
+            address,
+            size,
+            originator,
+            neighbour,
+        } => {
+            if add_route(routes, used, address, size, originator, neighbour) {
+                return Served {
+                    printed: 0,
+                    used: used + ROUTE_WORDS,
+                };
+            }
+            let printed = put_unknown(out);
+            Served { printed, used }
+        }
+        Form::Announce {
+            rule,
+            rule_end,
+            originator,
+            communities,
+        } => {
+            let count = least(used, routes.len());
+            let printed = serve_announce(
+                &line[rule..rule_end],
+                originator,
+                &line[communities..],
+                &routes[..count],
+                table,
+                out,
+            );
+            Served { printed, used }
+        }
+        Form::Withdraw(rule) => {
+            let printed = serve_withdraw(&line[rule..], table, out);
+            Served { printed, used }
+        }
+        Form::Listing => {
+            let printed = put_list(out, table);
+            Served { printed, used }
+        }
+        Form::Unknown => {
+            let printed = put_unknown(out);
+            Served { printed, used }
+        }
+    }
+}
