@@ -22,8 +22,8 @@ pub fn octet_at(s: &[u8], at: usize) -> u8
     if at < s.len() { s[at] } else { 0 }
 }
 
-// The number in the n octets that begin at a place, the highest first.
-pub fn number_at(n: usize, s: &[u8], at: usize) -> u64
+// The number in the n octets that begin at a place, the highest first, where some of them may lie past the end.
+fn number_past_end(n: usize, s: &[u8], at: usize) -> u64
     requires { ⌜ (n ≤ 8) × (at + n < 2 ^ 64) ⌝ }
     ensures { λ r. ⌜ (r ≡ numberAt n (now (s .entry)) at) × (r < 256 ^ n) ⌝ }
 {
@@ -32,6 +32,25 @@ pub fn number_at(n: usize, s: &[u8], at: usize) -> u64
     while i < n {
         let place = at + i;
         let octet = octet_at(s, place);
+        number = number * 256 + octet as u64;
+        i += 1;
+    }
+    number
+}
+
+// The number in the n octets that begin at a place, the highest first. Where all of them are there, none is tested against the end.
+pub fn number_at(n: usize, s: &[u8], at: usize) -> u64
+    requires { ⌜ (n ≤ 8) × (at + n < 2 ^ 64) ⌝ }
+    ensures { λ r. ⌜ (r ≡ numberAt n (now (s .entry)) at) × (r < 256 ^ n) ⌝ }
+{
+    if s.len() < at + n {
+        return number_past_end(n, s, at);
+    }
+    let mut number: u64 = 0;
+    let mut i = 0;
+    while i < n {
+        let place = at + i;
+        let octet = s[place];
         number = number * 256 + octet as u64;
         i += 1;
     }
