@@ -62,7 +62,7 @@ firstMatchAnswer table packet =
     let part = firstMatch table packet in
     record { number = t .number; place = t .place; values = part .start ∷ (part .end - part .start) ∷ [] }
 
--- What the code's helpers give: the values of actions, and the words of a verdict.
+-- What the code's smaller functions give: the values of actions, and the words of a verdict.
 abbrev pub valuesOf : Actions → List ℕ
 valuesOf a = flagsOf a ∷ a .marking .number ∷ a .bytes .number ∷ a .packets .number ∷ a .redirect .number ∷ []
 

@@ -1,25 +1,28 @@
 -- Values and entries that the table may hold: when two lists of octets are the same, the test for a plain value octet by octet, and what
 -- follows where an entry could be. Assumes nothing.
 use mathlib.Core.Path.{_≡_, refl, sym, _∙_}
-use mathlib.Core.Bool.{Bool, true, false, _&&_}
+use mathlib.Core.Bool.{Bool, true, false, _&&_, _||_}
 use mathlib.Core.List.{List, [], _∷_}
-use Prim.Native.Nat.{ℕ, _+_, _^_, _<_, _≤_}
+use Prim.Native.Nat.{ℕ, zero, suc, _+_, _-_, _*_, _/_, _^_, _<_, _≤_}
 use native.Mathlib.Omega.{arith}
 use native.Mathlib.Numerals.{add-one}
 use lib.Dec.{ltb, eqb}
-use lib.ListN.{length, getD, drop, drop-of-length-le}
-use lib.Seq.{drop-cons}
-use borrow.Author.Tests.{ltb-true, lt-ltb, eqb-true, eq-eqb, ne-eqb}
+use lib.ListN.{length, getD, drop, length-drop, drop-of-length-le}
+use lib.Seq.{drop-cons, drop-drop}
+use borrow.Author.Tests.{ltb-true, ltb-false, lt-ltb, lt-leb, eqb-true, eq-eqb, ne-eqb}
 use Rattle.octets.proofs.Cases.{apart, both}
 use Rattle.rule.specs.declared.Family.{Family}
 use Rattle.rule.specs.declared.Checked.{Checked}
 use Rattle.rule.specs.declared.Checked.the-variants.{Accepted, Refused}
 use Rattle.rule.specs.declared.Expected.{Expected}
-use Rattle.rule.specs.declared.Expected.the-variants.{Kind}
+use Rattle.rule.specs.declared.Expected.the-variants.{Kind, Address, Operand}
 use Rattle.rule.specs.Value.{checkValue}
-use Rattle.rule.specs.Plain.{after, cleared, plainFrom, plain}
+use Rattle.rule.specs.Plain.{operandAfter, after, plainOperand, cleared, plainFrom, plain}
+use Rattle.rule.proofs.PlainLaws.{whole-octet}
 use Rattle.rule.proofs.ValueLaws.{accepted-small, accepted-some}
 use Rattle.action.specs.Possible.{couldBe}
+use Rattle.entry.specs.declared.Passed.{Passed}
+use Rattle.entry.specs.Passing.{Passes}
 use Rattle.entry.specs.Entry.{Entry, sameOctets, isAccepted, plainValue, possible}
 
 -- the same octets are equal lists, both ways
@@ -58,6 +61,65 @@ module _ (v : List ℕ) (i : ℕ) (e : Expected) (x : ℕ) (t : Bool) (inside : 
   pub plain-not : (x ≡ getD v i 0 → ⊥) → false ≡ t
   unfolding plainFrom sameOctets
   plain-not other = sym (so-far ∙ rw (drop-cons v i 0 inside, plainFrom, sameOctets, ← is, ne-eqb x (getD v i 0) other))
+
+  -- and on behind what is passed over
+  module _ (next : Expected) (same : x ≡ getD v i 0) (then : next ≡ after e (getD v i 0)) (passed : Passed) (passes : Passes next passed) where
+    pub plain-past : length v - (i + 1) < passed .size → true ≡ t
+    unfolding plainFrom sameOctets
+    plain-past short =
+        let all : length (drop (i + 1) v) ≤ passed .size = simp length-drop (omega arith) in
+        let none : drop (passed .size) (drop (i + 1) v) ≡ [] = drop-of-length-le (drop (i + 1) v) all in
+        sym (plain-on next same then ∙ passes .same (drop (i + 1) v) ∙ rw none)
+
+    pub plain-behind : t ≡ plainFromHere (passed .expected) (drop (i + 1 + passed .size) v)
+    plain-behind = plain-on next same then ∙ passes .same (drop (i + 1) v) ∙ rw (drop-drop (passed .size) (i + 1) v)
+
+-- octets of a prefix before its last one
+pub address-passes : (n left : ℕ) → 8 * n < left → (s : List ℕ) → plainFromHere (Address left) s ≡ plainFromHere (Address (left - 8 * n)) (drop n s)
+unfolding plainFrom sameOctets after cleared
+address-passes zero left h s = let e : left - 8 * 0 ≡ left = omega arith in rw e
+address-passes (suc n) left h [] = refl
+address-passes (suc n) left h (x ∷ s) =
+    let e : left - 8 * suc n ≡ left - 8 - 8 * n = omega arith in
+    rw (plainFrom, sameOctets, ← whole-octet left x (omega arith), eq-eqb x x refl, lt-leb left 8 (omega arith), e) (address-passes n (left - 8) (omega arith) s)
+
+-- octets of a value
+pub operand-passes : (kind n : ℕ) (last : Bool) → eqb kind 11 ≡ false → eqb kind 12 ≡ false → (s : List ℕ)
+    → plainFromHere (Operand kind (suc n) last) s ≡ plainFromHere (operandAfter kind 1 last) (drop (suc n) s)
+unfolding plainFrom sameOctets after cleared plainOperand operandAfter
+operand-passes kind n last h k [] = refl
+operand-passes kind zero last h k (x ∷ s) = rw (plainFrom, sameOctets, h, k, eq-eqb x x refl)
+operand-passes kind (suc n) last h k (x ∷ s) =
+    let more : suc (suc n) - 1 ≡ suc n = omega arith in
+    rw (plainFrom, sameOctets, h, k, eq-eqb x x refl, lt-ltb 1 (suc (suc n)) (omega arith), more) (operand-passes kind n last h k s)
+
+neither : (a b : Bool) → a || b ≡ false → (a ≡ false) × (b ≡ false)
+neither true b e = apart (cc)
+neither false b e = (refl, e)
+
+pub passes-as : (e f : Expected) (passed : Passed) → e ≡ f → Passes f passed → Passes e passed
+passes-as e f passed same h = rw same h
+
+pub address-all : (left : ℕ) → (left ≡ 0 → ⊥) → (left - 1) / 8 ≤ 32
+    → Passes (Address left) (record { size = (left - 1) / 8; expected = Address (left - (left - 1) / 8 * 8) })
+address-all left some few =
+    let n : ℕ = (left - 1) / 8 in
+    let rest : left - 8 * n ≡ left - n * 8 = omega arith in
+    record { few = few; same = λ s. rw rest at (address-passes n left (omega arith) s) }
+
+pub operand-all : (kind left : ℕ) (last : Bool) (behind : Expected) → eqb kind 11 || eqb kind 12 || eqb left 0 || ltb 8 left ≡ false
+    → behind ≡ operandAfter kind 1 last → Passes (Operand kind left last) (record { size = left; expected = behind })
+operand-all kind left last behind f is =
+    let most = neither (eqb kind 11 || eqb kind 12 || eqb left 0) (ltb 8 left) f in
+    let some = neither (eqb kind 11 || eqb kind 12) (eqb left 0) (most .0) in
+    record { few = omega (arith, ltb-false 8 left (most .1)); same = λ s. rw is (go left (some .1) s) }
+  where
+    go : (n : ℕ) → eqb n 0 ≡ false → (s : List ℕ) → plainFromHere (Operand kind n last) s ≡ plainFromHere (operandAfter kind 1 last) (drop n s)
+    go zero z s = apart (cc)
+    go (suc n) z s =
+        let most = neither (eqb kind 11 || eqb kind 12 || eqb left 0) (ltb 8 left) f in
+        let kinds = neither (eqb kind 11) (eqb kind 12) (neither (eqb kind 11 || eqb kind 12) (eqb left 0) (most .0) .0) in
+        operand-passes kind n last (kinds .0) (kinds .1) s
 
 pub plain-all : (v : List ℕ) (i : ℕ) (e : Expected) (t : Bool) → length v ≤ i → t ≡ plainFromHere e (drop i v) → true ≡ t
 unfolding plainFrom sameOctets

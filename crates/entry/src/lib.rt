@@ -7,6 +7,7 @@ ghost use Rattle.rule.specs.Family.{ipv4};
 ghost use Rattle.rule.specs.Plain.{plain};
 ghost use Rattle.action.specs.Actions.{flag, flagsOf};
 ghost use Rattle.entry.specs.Entry.{sameOctets, plainValue};
+ghost use Rattle.entry.specs.Passing.{Passes};
 ghost use Rattle.entry.specs.Record.{headCost, writtenFields, recordOf, fieldIf, actionsIn, entryOf, goodRecord};
 use action::Actions;
 use action::Given;
@@ -20,6 +21,7 @@ use rule::Expected;
 use rule::check_value;
 use rule::cleared_octet;
 use rule::expected_after;
+use rule::operand_after;
 
 // The octets of a record's head.
 pub const HEAD_COST: usize = 32;
@@ -121,6 +123,56 @@ pub fn record_actions(octets: &[u8]) -> Actions
     actions_in(flags, dscp as u64, bytes, packets, redirect)
 }
 
+// How many octets are plain whatever they are, and what is expected behind them.
+pub struct Passed {
+    pub size: usize,
+    pub expected: Expected,
+}
+
+// The octets of a prefix that lie before its last one.
+fn passed_address(left: u8) -> Passed
+    ensures { λ r. ⌜ Passes (Expected.Address left) r ⌝ }
+{
+    if left == 0 {
+        return Passed {
+            size: 0,
+            expected: Expected::Address(left),
+        };
+    }
+    let size = (left - 1) / 8;
+    Passed {
+        size: size as usize,
+        expected: Expected::Address(left - size * 8),
+    }
+}
+
+// The octets of a value, none of whose bits are ignored but for a DSCP or a fragment value.
+fn passed_operand(kind: u8, left: usize, last: bool) -> Passed
+    ensures { λ r. ⌜ Passes (Expected.Operand kind left last) r ⌝ }
+{
+    if (kind == 11) | (kind == 12) | (left == 0) | (8 < left) {
+        return Passed {
+            size: 0,
+            expected: Expected::Operand { kind, left, last },
+        };
+    }
+    Passed {
+        size: left,
+        expected: operand_after(kind, 1, last),
+    }
+}
+
+// The octets that need not be looked at, where the next one is as expected.
+fn passed_over(expected: Expected) -> Passed
+    ensures { λ r. ⌜ Passes expected r ⌝ }
+{
+    match expected {
+        Expected::Address(left) => passed_address(left),
+        Expected::Operand { kind, left, last } => passed_operand(kind, left, last),
+        _ => Passed { size: 0, expected },
+    }
+}
+
 // Whether octets are their own plain spelling.
 fn is_plain(value: &[u8]) -> bool
     ensures { λ r. ⌜ r ≡ sameOctets (plain (now (value .entry))) (now (value .entry)) ⌝ }
@@ -132,8 +184,13 @@ fn is_plain(value: &[u8]) -> bool
         if cleared_octet(expected, x) != x {
             return false;
         }
-        expected = expected_after(expected, x);
+        let passed = passed_over(expected_after(expected, x));
         i += 1;
+        if value.len() - i < passed.size {
+            return true;
+        }
+        expected = passed.expected;
+        i += passed.size;
     }
     true
 }

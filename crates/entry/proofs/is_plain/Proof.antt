@@ -1,13 +1,19 @@
--- Every octet passed is cleared already, so that the answer for all of them is the answer for the rest.
+-- Every octet looked at is cleared already, and those passed over are so whatever they are.
 use borrow.Author.Needs.{needs}
 use Prim.Native.Nat.{_-_}
 use mathlib.Core.Path.{_≡_}
+use native.Mathlib.Omega.{arith}
 use lib.ListN.{length, drop}
 use Rattle.rule.specs.Plain.{plain}
 use Rattle.entry.specs.Entry.{sameOctets}
-use Rattle.entry.proofs.ValueLaws.{plainFromHere, plain-starts, plain-on, plain-not, plain-all}
+use Rattle.entry.proofs.ValueLaws.{plainFromHere, plain-starts, plain-not, plain-past, plain-behind, plain-all}
 use Rattle.entry.proofs.is_plain.Statement.{statement}
 use Rattle.entry.proofs.is_plain.Tie as tie
+use Rattle.entry.proofs.is_plain.Reads as reads
+use Rattle.entry.proofs.is_plain.Lts as lts
+use Rattle.entry.proofs.passed_over.Reads as passed-over-reads
+use Rattle.rule.proofs.cleared_octet.Reads as cleared-octet-reads
+use Rattle.rule.proofs.expected_after.Reads as expected-after-reads
 
 abbrev Inv-loop : tie.InvT-loop
 Inv-loop value expected₀ i₀ expected i = sameOctets (plain value) value ≡ plainFromHere expected (drop i value)
@@ -30,17 +36,29 @@ returns c = search (plain-not, needs)
 expected-after-requires : tie.Need-expected-after-requires Inv-loop μ-loop
 expected-after-requires c κs = search needs
 
+passed-over-requires : tie.Need-passed-over-requires Inv-loop μ-loop
+passed-over-requires c κs = search needs
+
 add-i : tie.Need-add-i Inv-loop μ-loop
 add-i c = search needs
+
+sub-if2 : tie.Need-sub-if2 Inv-loop μ-loop
+sub-if2 c = search needs
+
+returns-2 : tie.Need-returns-2 Inv-loop μ-loop
+returns-2 c = search (plain-past, needs)
+
+add-i-2 : tie.Need-add-i-2 Inv-loop μ-loop
+add-i-2 c = omega arith
 
 loop-less : tie.Need-loop-less Inv-loop μ-loop
 loop-less c = search needs
 
 loop-again : tie.Need-loop-again Inv-loop μ-loop
-loop-again c = search (plain-on, needs)
+loop-again c = search (plain-behind, needs)
 
-returns-2 : tie.Need-returns-2 Inv-loop μ-loop
-returns-2 c = search (plain-all, needs)
+returns-3 : tie.Need-returns-3 Inv-loop μ-loop
+returns-3 c = search (plain-all, needs)
 
 pub is-plain-spec : {M : Type 1} → statement M
 is-plain-spec =
@@ -53,7 +71,11 @@ is-plain-spec =
     cleared-octet-requires
     returns
     expected-after-requires
+    passed-over-requires
     add-i
+    sub-if2
+    returns-2
+    add-i-2
     loop-less
     loop-again
-    returns-2)
+    returns-3)
