@@ -56,7 +56,7 @@ pub enum Field {
 // The number in a field with the place where the field ends, or that there is none.
 pub enum Number {
     NoNumber,
-    Read { number: u32, end: usize },
+    Read(u32, usize),
 }
 
 // What a line says, by numbers and by places in it. The communities of an announcement and the rule of a withdrawal end with the line.
@@ -170,7 +170,7 @@ fn number_behind(line: &[u8], end: usize) -> Number
                 return Number::NoNumber;
             }
             let number = text::number_in(digits);
-            Number::Read { number, end: stop }
+            Number::Read(number, stop)
         }
     }
 }
@@ -185,25 +185,13 @@ fn read_route(line: &[u8], word: usize) -> Form
     if !is_address(&line[start..end]) {
         return Form::Unknown;
     }
-    let Number::Read {
-        number: size,
-        end: size_end,
-    } = number_behind(line, end)
-    else {
+    let Number::Read(size, size_end) = number_behind(line, end) else {
         return Form::Unknown;
     };
-    let Number::Read {
-        number: originator,
-        end: originator_end,
-    } = number_behind(line, size_end)
-    else {
+    let Number::Read(originator, originator_end) = number_behind(line, size_end) else {
         return Form::Unknown;
     };
-    let Number::Read {
-        number: neighbour,
-        end: last,
-    } = number_behind(line, originator_end)
-    else {
+    let Number::Read(neighbour, last) = number_behind(line, originator_end) else {
         return Form::Unknown;
     };
     if last < line.len() {
@@ -228,7 +216,7 @@ fn read_announce(line: &[u8], word: usize) -> Form
     if !is_rule(&line[start..end]) {
         return Form::Unknown;
     }
-    let Number::Read { number, end: stop } = number_behind(line, end) else {
+    let Number::Read(number, stop) = number_behind(line, end) else {
         return Form::Unknown;
     };
     let Field::At {
