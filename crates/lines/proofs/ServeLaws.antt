@@ -25,7 +25,7 @@ use Rattle.lines.specs.declared.Form.{Form}
 use Rattle.lines.specs.declared.Form.the-variants.{Route, Announce, Withdraw, Listing, Unknown}
 use Rattle.lines.specs.Line.{Line, other, lineOf, mostSigns}
 use Rattle.lines.specs.Form.{formSays, FormIn, Says}
-use Rattle.lines.specs.Serve.{Outcome, mostWords, routeFits, printing, changing, servedAs, served, Changes}
+use Rattle.lines.specs.Serve.{Outcome, mostWords, routeFits, printing, changing, adding, servedAs, served, Changes, Adds}
 use Rattle.lines.specs.Promise.{servedTold, Serves}
 use Rattle.lines.proofs.CutLaws.{too-long}
 use Rattle.lines.proofs.FormLaws.{no-and}
@@ -59,6 +59,30 @@ module _ (routes : List ℕ) (used address size originator neighbour : ℕ) wher
 pub route-fits : (routes : List ℕ) (used : ℕ) (fits : Bool) → fits ≡ routeFits used routes → fits ≡ true → used + 4 ≤ mostWords
 route-fits routes used fits e t =
     by-test (leb (used + 4) mostWords) (λ h. leb-true (used + 4) mostWords h) (λ h. let z : true ≡ false = sym t ∙ e ∙ rw h in apart (cc))
+
+-- a route line that was served
+module _ (routes : List ℕ) (used address size originator neighbour : ℕ) (fits : Bool) (exit : List ℕ)
+    (added : Added routes used address size originator neighbour fits exit) (out : List ℕ) where
+  pub route-added : fits ≡ true
+      → Adds (adding (address ∷ size ∷ originator ∷ neighbour ∷ []) used routes []) out (record { printed = 0; used = used + 4 }) exit out
+  route-added t =
+      let f : routeFits used routes ≡ true = sym (added .0) ∙ t in
+      let e = added .1 in
+      rw f (record { is = refl; leaves = rw f at e; prints = sym (laid-none out 0); short = omega arith })
+
+  pub route-not-added : fits ≡ false → (printed : ℕ) (x : List ℕ) → (x ≡ laid out 0 unknownText) × (printed ≡ length unknownText)
+      → Adds (adding (address ∷ size ∷ originator ∷ neighbour ∷ []) used routes []) out (record { printed = printed; used = used }) exit x
+  route-not-added t printed x p =
+      let f : routeFits used routes ≡ false = sym (added .0) ∙ t in
+      let e = added .1 in
+      rw f (record { is = λ i. record { printed = p .1 i; used = used }; leaves = rw f at e; prints = p .0; short = let n = p .1 in omega arith })
+
+-- and the table that it leaves alone
+abbrev with-table : Outcome → List ℕ → Outcome
+with-table o table = record { text = o .text; used = o .used; routes = o .routes; table = table }
+
+any-table : (words : List ℕ) (used : ℕ) (routes table : List ℕ) → adding words used routes table ≡ with-table (adding words used routes []) table
+any-table words used routes table = by-test (routeFits used routes) (λ e. rw e) (λ e. rw e)
 
 -- octets that were read into a room that is long enough
 module _ (room exit text : List ℕ) (count : ℕ) (reads : (exit ≡ laid room 0 (octetsIn text)) × (count ≡ length (octetsIn text))) (long : length text ≤ 2 * length room) where
@@ -118,20 +142,13 @@ module _ (line : List ℕ) (used : ℕ) (routes table out : List ℕ) (form : Fo
       → x ≡ laid out 0 (o .text) → answer .printed ≤ mostText → Serves line used routes table out answer r t x (line ∷ [])
   serves o e answer r t x a b c d s = record { is = rw e a; leavesRoutes = rw e b; leavesTable = rw e c; prints = rw e d; short = s; keeps = refl }
 
-  module _ (address size originator neighbour : ℕ) (is : form ≡ Route address size originator neighbour) (fits : Bool) (exit : List ℕ)
-      (added : Added routes used address size originator neighbour fits exit) where
-    pub serve-added : fits ≡ true → Serves line used routes table out (record { printed = 0; used = used + 4 }) exit table out (line ∷ [])
-    serve-added t =
-        let f : routeFits used routes ≡ true = sym (added .0) ∙ t in
-        serves (record { text = []; used = used + 4; routes = stored routes used (address ∷ size ∷ originator ∷ neighbour ∷ []); table = table })
-        (served-as (Route address size originator neighbour) is ∙ rw f) _ _ _ _ refl (added .1 ∙ rw f) refl (sym (laid-none out 0)) (omega arith)
-
-    pub serve-not-added : fits ≡ false → (printed : ℕ) (x : List ℕ) → (x ≡ laid out 0 unknownText) × (printed ≡ length unknownText)
-        → Serves line used routes table out (record { printed = printed; used = used }) exit table x (line ∷ [])
-    serve-not-added t printed x p =
-        let f : routeFits used routes ≡ false = sym (added .0) ∙ t in
-        serves (printing unknownText used routes table) (served-as (Route address size originator neighbour) is ∙ rw f) _ _ _ _
-        (λ i. record { printed = p .1 i; used = used }) (added .1 ∙ rw f) refl (p .0) (let e = p .1 in omega arith)
+  pub serve-routed : (address size originator neighbour : ℕ) → form ≡ Route address size originator neighbour → (answer : Served) (r x : List ℕ)
+      → Adds (adding (address ∷ size ∷ originator ∷ neighbour ∷ []) used routes []) out answer r x
+      → Serves line used routes table out answer r table x (line ∷ [])
+  serve-routed address size originator neighbour is answer r x a =
+      serves (with-table (adding (address ∷ size ∷ originator ∷ neighbour ∷ []) used routes []) table)
+      (served-as (Route address size originator neighbour) is ∙ any-table (address ∷ size ∷ originator ∷ neighbour ∷ []) used routes table) _ _ _ _
+      (a .is) (a .leaves) refl (a .prints) (a .short)
 
   module _ (rule ruleEnd originator communities : ℕ) (is : form ≡ Announce rule ruleEnd originator communities) where
     pub serve-announced : (count printed : ℕ) (t x : List ℕ) → count ≡ min used (length routes)

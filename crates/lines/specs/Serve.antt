@@ -9,6 +9,7 @@ use Rattle.octets.specs.Store.{stored}
 use Rattle.flowspec.specs.Announce.{announcing, withdrawing, Outcome as Changed}
 use Rattle.flowspec.specs.Told.{changeTold}
 use Rattle.text.specs.Print.{laid}
+use Rattle.lines.specs.declared.Served.{Served}
 use Rattle.lines.specs.Line.{Line, route, announce, withdraw, list, other, lineOf}
 use Rattle.lines.specs.Answer.{unknownText, changeText, listText, mostText}
 
@@ -64,3 +65,11 @@ pub record Changes (changed : Changed) (out : List ℕ) (printed : ℕ) (tableEx
   pub prints : outExit ≡ laid out 0 (changeText (changeTold (changed .answer)))
   pub long : printed ≡ length (changeText (changeTold (changed .answer)))
   pub short : printed ≤ mostText
+
+-- How the code holds what a route line leaves: the routes, the printed text, and the answer. The table, which it leaves alone, is not lent
+-- to it.
+pub record Adds (added : Outcome) (out : List ℕ) (answer : Served) (routesExit outExit : List ℕ) : Type 0 where
+  pub is : answer ≡ record { printed = length (added .text); used = added .used }
+  pub leaves : routesExit ≡ added .routes
+  pub prints : outExit ≡ laid out 0 (added .text)
+  pub short : answer .printed ≤ mostText

@@ -15,7 +15,7 @@ ghost use Rattle.text.specs.Print.{laid};
 ghost use Rattle.lines.specs.Line.{mostSigns, isAddress, isRule, said, lineOf};
 ghost use Rattle.lines.specs.Form.{behind, fieldBehind, numberAt, Says};
 ghost use Rattle.lines.specs.Answer.{placeText, answerText, unknownText, changeText, countText, ruleText, rulesText, listText, mostText};
-ghost use Rattle.lines.specs.Serve.{routeFits, Changes};
+ghost use Rattle.lines.specs.Serve.{routeFits, adding, Changes, Adds};
 ghost use Rattle.lines.specs.Gather.{beforeLf};
 ghost use Rattle.lines.specs.Promise.{Gathers, Serves};
 use flowspec::Change;
@@ -443,6 +443,28 @@ fn add_route(
     true
 }
 
+// Adds the route that a line says, or prints that there is no room for it: how long the text is, and how many words are in use.
+fn serve_route(
+    routes: &mut [u32],
+    used: usize,
+    address: u32,
+    size: u32,
+    originator: u32,
+    neighbour: u32,
+    out: &mut [u8],
+) -> Served
+    ensures { λ r. ⌜ Adds (adding (address ∷ size ∷ originator ∷ neighbour ∷ []) used (now (routes .entry)) []) (now (out .entry)) r (now (routes .exit)) (now (out .exit)) ⌝ }
+{
+    if add_route(routes, used, address, size, originator, neighbour) {
+        return Served {
+            printed: 0,
+            used: used + ROUTE_WORDS,
+        };
+    }
+    let printed = put_unknown(out);
+    Served { printed, used }
+}
+
 // Announces the rule and the communities that two parts of a line spell, and prints the answer: how long the text is.
 fn serve_announce(
     rule: &[u8],
@@ -491,21 +513,14 @@ pub fn serve(
 ) -> Served
     ensures { λ r. ⌜ Serves (now (line .entry)) used (now (routes .entry)) (now (table .entry)) (now (out .entry)) r (now (routes .exit)) (now (table .exit)) (now (out .exit)) (now (line .exit) ∷ []) ⌝ }
 {
-    match read_line(line) {
+    let printed = match read_line(line) {
         Form::Route {
             address,
             size,
             originator,
             neighbour,
         } => {
-            if add_route(routes, used, address, size, originator, neighbour) {
-                return Served {
-                    printed: 0,
-                    used: used + ROUTE_WORDS,
-                };
-            }
-            let printed = put_unknown(out);
-            Served { printed, used }
+            return serve_route(routes, used, address, size, originator, neighbour, out);
         }
         Form::Announce {
             rule,
@@ -514,27 +529,18 @@ pub fn serve(
             communities,
         } => {
             let count = least(used, routes.len());
-            let printed = serve_announce(
+            serve_announce(
                 &line[rule..rule_end],
                 originator,
                 &line[communities..],
                 &routes[..count],
                 table,
                 out,
-            );
-            Served { printed, used }
+            )
         }
-        Form::Withdraw(rule) => {
-            let printed = serve_withdraw(&line[rule..], table, out);
-            Served { printed, used }
-        }
-        Form::Listing => {
-            let printed = put_list(out, table);
-            Served { printed, used }
-        }
-        Form::Unknown => {
-            let printed = put_unknown(out);
-            Served { printed, used }
-        }
-    }
+        Form::Withdraw(rule) => serve_withdraw(&line[rule..], table, out),
+        Form::Listing => put_list(out, table),
+        Form::Unknown => put_unknown(out),
+    };
+    Served { printed, used }
 }

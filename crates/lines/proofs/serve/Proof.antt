@@ -1,21 +1,22 @@
+-- What the line was read as decides which case of the definition was served.
 use Prim.Native.Nat.{_≤_}
 use mathlib.Core.Path.{sym}
 use native.Mathlib.Omega.{arith}
 use lib.ListN.{length, length-take, length-drop}
 use lib.Seq.{length-take-le}
 use Rattle.lines.specs.Line.{mostSigns}
-use Rattle.lines.proofs.ServeLaws.{route-fits, serve-added, serve-not-added, serve-announced, serve-withdrawn, serve-listed, serve-unknown, announce-places, withdraw-places}
+use Rattle.lines.proofs.ServeLaws.{serve-routed, serve-announced, serve-withdrawn, serve-listed, serve-unknown, announce-places, withdraw-places}
 use borrow.Author.Needs.{needs}
 use Rattle.lines.proofs.serve.Statement.{statement}
 use Rattle.lines.proofs.serve.Tie as tie
 use Rattle.lines.proofs.serve.Reads as reads
 use Rattle.lines.proofs.serve.Lts as lts
-use Rattle.lines.proofs.add_route.Reads as add-route-reads
 use Rattle.lines.proofs.least.Reads as least-reads
 use Rattle.lines.proofs.put_list.Reads as put-list-reads
 use Rattle.lines.proofs.put_unknown.Reads as put-unknown-reads
 use Rattle.lines.proofs.read_line.Reads as read-line-reads
 use Rattle.lines.proofs.serve_announce.Reads as serve-announce-reads
+use Rattle.lines.proofs.serve_route.Reads as serve-route-reads
 use Rattle.lines.proofs.serve_withdraw.Reads as serve-withdraw-reads
 
 announced : (c : tie.After-known-told2) → (c .before .rule .given .0 .0 ≤ c .before .rule .given .0 .1 .0) × ((c .before .rule .given .0 .1 .0 ≤ length (c .before .before .before .before .before .before .before .before .args .line .now)) × ((c .before .rule .given .0 .1 .1 .1 .0 ≤ length (c .before .before .before .before .before .before .before .before .args .line .now)) × (length (c .before .before .before .before .before .before .before .before .args .line .now) ≤ mostSigns)))
@@ -30,20 +31,17 @@ read-line-requires c κs = search needs
 enum-known-address : tie.Need-enum-known-address
 enum-known-address c = search needs
 
-add-route-requires : tie.Need-add-route-requires
-add-route-requires c κs = search needs
-
-add-t26 : tie.Need-add-t26
-add-t26 c = let a = c .before .before .before .before .before .before .before .before .before .before .before .before .before .args in omega (arith, route-fits (a .routes .now) (a .used) _ (c .before .before .before .add-route .ensures .0) (c .if1 .taken))
+serve-route-requires : tie.Need-serve-route-requires
+serve-route-requires c κs = search needs
 
 same-length : tie.Need-same-length
 same-length c = search needs
 
-returns : tie.Need-returns
-returns c = serve-added _ _ _ _ _ _ (c .before .before .before .before .before .before .before .before .read-line .ensures) _ _ _ _ (c .before .before .before .before .before .before .address .given .1) _ _ (c .before .before .before .add-route .ensures) (c .if1 .taken)
+same-length-2 : tie.Need-same-length-2
+same-length-2 c = search needs
 
-put-unknown-requires : tie.Need-put-unknown-requires
-put-unknown-requires c κs = search needs
+returns : tie.Need-returns
+returns c = serve-routed _ _ _ _ _ _ (c .before .before .before .before .before .before .before .before .before .before .read-line .ensures) _ _ _ _ (c .before .before .before .before .before .before .before .before .address .given .1) _ _ _ (c .before .before .before .before .serve-route .ensures)
 
 enum-known-rule : tie.Need-enum-known-rule
 enum-known-rule c = search needs
@@ -102,18 +100,11 @@ put-list-requires c κs = search needs
 enum-told-2 : tie.Need-enum-told-2
 enum-told-2 c = search needs
 
-put-unknown-requires-2 : tie.Need-put-unknown-requires-2
-put-unknown-requires-2 c κs = search needs
-
-same-length-2 : tie.Need-same-length-2
-same-length-2 c = search needs
+put-unknown-requires : tie.Need-put-unknown-requires
+put-unknown-requires c κs = search needs
 
 same-length-3 : tie.Need-same-length-3
 same-length-3 c = search needs
-
-returns-2 : tie.Need-returns-2
-returns-2 c =
-    serve-not-added _ _ _ _ _ _ (c .before .before .before .before .before .before .before .before .before .before .before .before .read-line .ensures) _ _ _ _ (c .before .before .before .before .before .before .before .before .before .before .address .given .1) _ _ (c .before .before .before .before .before .before .before .add-route .ensures) (c .before .before .before .before .if1 .left) _ _ (c .before .before .put-unknown .ensures)
 
 same-length-4 : tie.Need-same-length-4
 same-length-4 c = search needs
@@ -121,35 +112,32 @@ same-length-4 c = search needs
 same-length-5 : tie.Need-same-length-5
 same-length-5 c = search needs
 
+returns-2 : tie.Need-returns-2
+returns-2 c = serve-announced _ _ _ _ _ _ (c .before .before .before .before .before .before .before .before .before .before .before .before .before .before .read-line .ensures) _ _ _ _ (c .before .before .before .before .before .before .before .before .before .before .before .before .rule .given .1) _ _ _ _ (c .before .before .before .before .before .before .before .before .before .before .least .ensures) (c .before .before .before .before .serve-announce .ensures)
+
 same-length-6 : tie.Need-same-length-6
 same-length-6 c = search needs
-
-returns-3 : tie.Need-returns-3
-returns-3 c = serve-announced _ _ _ _ _ _ (c .before .before .before .before .before .before .before .before .before .before .before .before .before .before .read-line .ensures) _ _ _ _ (c .before .before .before .before .before .before .before .before .before .before .before .before .rule .given .1) _ _ _ _ (c .before .before .before .before .before .before .before .before .before .before .least .ensures) (c .before .before .before .before .serve-announce .ensures)
 
 same-length-7 : tie.Need-same-length-7
 same-length-7 c = search needs
 
+returns-3 : tie.Need-returns-3
+returns-3 c = serve-withdrawn _ _ _ _ _ _ (c .before .before .before .before .before .before .before .before .before .before .before .read-line .ensures) _ (c .before .before .before .before .before .before .before .before .before .rule2 .given .1) _ _ _ (c .before .before .before .before .serve-withdraw .ensures)
+
 same-length-8 : tie.Need-same-length-8
 same-length-8 c = search needs
 
-returns-4 : tie.Need-returns-4
-returns-4 c = serve-withdrawn _ _ _ _ _ _ (c .before .before .before .before .before .before .before .before .before .before .before .read-line .ensures) _ (c .before .before .before .before .before .before .before .before .before .rule2 .given .1) _ _ _ (c .before .before .before .before .serve-withdraw .ensures)
-
 same-length-9 : tie.Need-same-length-9
 same-length-9 c = search needs
+
+returns-4 : tie.Need-returns-4
+returns-4 c = serve-listed _ _ _ _ _ _ (c .before .before .before .before .before .before .before .read-line .ensures) (c .before .before .before .before .before .enum-told .given .1) _ _ (c .before .before .put-list .ensures)
 
 same-length-10 : tie.Need-same-length-10
 same-length-10 c = search needs
 
 returns-5 : tie.Need-returns-5
-returns-5 c = serve-listed _ _ _ _ _ _ (c .before .before .before .before .before .before .before .read-line .ensures) (c .before .before .before .before .before .enum-told .given .1) _ _ (c .before .before .put-list .ensures)
-
-same-length-11 : tie.Need-same-length-11
-same-length-11 c = search needs
-
-returns-6 : tie.Need-returns-6
-returns-6 c = serve-unknown _ _ _ _ _ _ (c .before .before .before .before .before .before .read-line .ensures) (c .before .before .before .before .enum-told2 .given .1) _ _ (c .before .before .put-unknown2 .ensures)
+returns-5 c = serve-unknown _ _ _ _ _ _ (c .before .before .before .before .before .before .read-line .ensures) (c .before .before .before .before .enum-told2 .given .1) _ _ (c .before .before .put-unknown .ensures)
 
 pub serve-spec : {M : Type 1} → statement M
 serve-spec =
@@ -157,11 +145,10 @@ serve-spec =
     (tie.spec
     read-line-requires
     enum-known-address
-    add-route-requires
-    add-t26
+    serve-route-requires
     same-length
+    same-length-2
     returns
-    put-unknown-requires
     enum-known-rule
     least-requires
     sub-serve-announce
@@ -181,19 +168,16 @@ serve-spec =
     enum-told
     put-list-requires
     enum-told-2
-    put-unknown-requires-2
-    same-length-2
+    put-unknown-requires
     same-length-3
-    returns-2
     same-length-4
     same-length-5
+    returns-2
     same-length-6
-    returns-3
     same-length-7
+    returns-3
     same-length-8
-    returns-4
     same-length-9
+    returns-4
     same-length-10
-    returns-5
-    same-length-11
-    returns-6)
+    returns-5)
