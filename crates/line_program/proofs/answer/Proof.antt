@@ -1,3 +1,4 @@
+-- The text is no longer than its buffer, so that the part that is written lies in it.
 use mathlib.Core.Path.{sym}
 use native.Mathlib.Omega.{arith}
 use lib.Seq.{length-take-le}

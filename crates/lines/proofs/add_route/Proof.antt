@@ -1,3 +1,4 @@
+-- A route past the 4,096 or past the buffer's end is not added; any other is four words set in a row.
 use native.Mathlib.Omega.{arith}
 use lib.ListN.{length-set}
 use Rattle.lines.proofs.ServeLaws.{add-past, add-short, add-done}

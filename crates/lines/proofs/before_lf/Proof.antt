@@ -1,3 +1,4 @@
+-- No octet passed is an LF, so that what is before it is what was passed and what is before it in the rest.
 use borrow.Author.Needs.{needs}
 use Prim.Native.Nat.{_≤_, _-_, _+_}
 use mathlib.Core.Path.{_≡_, refl, sym}

@@ -1,3 +1,4 @@
+-- A line that ends at the place has no field behind it; any other has one from the octet behind the place on.
 use Rattle.lines.proofs.FormLaws.{field-none, field-some}
 use borrow.Author.Needs.{needs}
 use Rattle.lines.proofs.field_behind.Statement.{statement}

@@ -1,3 +1,4 @@
+-- What is laid is the part of the line's buffer and of the block that the definition names, whether or not an LF follows.
 use borrow.Author.Needs.{needs}
 use mathlib.Core.Path.{sym}
 use native.Mathlib.Omega.{arith}
@@ -12,52 +13,40 @@ use Rattle.lines.proofs.before_lf.Reads as before-lf-reads
 use Rattle.lines.proofs.least.Reads as least-reads
 use Rattle.octets.proofs.store.Reads as store-reads
 
--- src/lib.rt:49:9
 before-lf-requires : tie.Need-before-lf-requires
 before-lf-requires c κs = search needs
 
--- src/lib.rt:50:9
 least-requires : tie.Need-least-requires
 least-requires c κs = search needs
 
--- src/lib.rt:51:29
 sub-least : tie.Need-sub-least
 sub-least c = search needs
 
--- src/lib.rt:51:9
 least-requires-2 : tie.Need-least-requires-2
 least-requires-2 c κs = search needs
 
--- src/lib.rt:52:32
 slice-aggregate-store : tie.Need-slice-aggregate-store
 slice-aggregate-store c = sym (length-take-le _ _ (omega arith))
 
--- src/lib.rt:52:5
 store-requires : tie.Need-store-requires
 store-requires c κs = simp length-take (omega arith)
 
--- src/lib.rt:53:16
 add-held : tie.Need-add-held
 add-held c = search needs
 
--- src/lib.rt:56:20
 add-t16 : tie.Need-add-t16
 add-t16 c = search needs
 
--- src/lib.rt:55:9
 same-length : tie.Need-same-length
 same-length c = search needs
 
--- src/lib.rt:55:9
 returns : tie.Need-returns
 returns c =
     gathered-ended _ _ _ _ _ _ _ (c .before .before .before .before .before .before .before .before .before-lf .ensures .0) (c .before .before .before .before .before .before .before .least .ensures) (c .before .before .before .before .before .before .least2 .ensures) (c .before .before .before .store .ensures) (c .if1 .taken)
 
--- src/lib.rt:46:1
 same-length-2 : tie.Need-same-length-2
 same-length-2 c = search needs
 
--- src/lib.rt:46:1
 returns-2 : tie.Need-returns-2
 returns-2 c =
     gathered-on _ _ _ _ _ _ _ (c .before .before .before .before .before .before .before .before .before-lf .ensures .0) (c .before .before .before .before .before .before .before .least .ensures) (c .before .before .before .before .before .before .least2 .ensures) (c .before .before .before .store .ensures) (c .if1 .left)

@@ -1,3 +1,4 @@
+-- A field of another length than eight is none, and one of eight is asked for its digits.
 use lib.ListN.{length}
 use borrow.Author.Tests.{eq-eqb, ne-eqb}
 use borrow.Author.Needs.{needs}

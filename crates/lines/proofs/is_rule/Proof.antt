@@ -1,3 +1,4 @@
+-- An empty field is none, and any other is asked for its digits.
 use native.Mathlib.Omega.{arith}
 use lib.ListN.{length}
 use borrow.Author.Tests.{lt-ltb, le-ltb}

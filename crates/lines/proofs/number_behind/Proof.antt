@@ -1,3 +1,4 @@
+-- No field, a field that is no number and a number are the definition's three cases.
 use mathlib.Core.Path.{sym, _∙_}
 use native.Mathlib.Omega.{arith}
 use borrow.Author.Tests.{not-true, not-false}

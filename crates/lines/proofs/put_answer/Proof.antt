@@ -1,3 +1,4 @@
+-- The four parts of the text stand one behind the other, and each is short.
 use native.Mathlib.Omega.{arith}
 use Rattle.text.proofs.DecimalLaws.{decimal-short}
 use Rattle.lines.specs.Answer.{answerText}

@@ -1,3 +1,4 @@
+-- A change done is answer 0, and one refused is its number and place.
 use borrow.Author.Needs.{needs}
 use Rattle.lines.proofs.put_change.Statement.{statement}
 use Rattle.lines.proofs.put_change.Tie as tie

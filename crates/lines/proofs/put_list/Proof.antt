@@ -1,3 +1,4 @@
+-- An unsound table is answer 10; a sound one is its count with its records behind.
 use native.Mathlib.Omega.{arith}
 use Rattle.lines.proofs.PrintLaws.{count-short, printed-short, printed-from-front}
 use Rattle.lines.proofs.ListLaws.{list-unsound, list-sound, list-short, list-within}

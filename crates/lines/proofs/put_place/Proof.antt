@@ -1,3 +1,4 @@
+-- A number below 3 or past 7 has no place, and any other has a tab and the place.
 use native.Mathlib.Omega.{arith}
 use Rattle.text.proofs.DecimalLaws.{decimal-short}
 use Rattle.lines.proofs.PrintLaws.{printed-none, printed-then, place-low, place-high, place-told}

@@ -1,3 +1,4 @@
+-- The three parts of the text stand one behind the other.
 use native.Mathlib.Omega.{arith}
 use Rattle.text.proofs.HexLaws.{length-hexOf}
 use Rattle.lines.specs.Answer.{ruleText}

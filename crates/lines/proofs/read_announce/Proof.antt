@@ -1,3 +1,4 @@
+-- Each field read takes the definition one field on, and the first that fails makes it another line.
 use mathlib.Core.Bool.{true}
 use Rattle.rule.specs.Value.{between}
 use Rattle.lines.specs.Line.{isRule}

@@ -1,3 +1,4 @@
+-- A line that is too long is another line; any other is what the fields behind its first word say.
 use mathlib.Core.Path.{sym, _∙_}
 use native.Mathlib.Omega.{arith}
 use lib.Seq.{length-take-le}

@@ -1,3 +1,4 @@
+-- A line that ends with its first word is the listing, and one that goes on is another line.
 use Rattle.lines.proofs.ReadLaws.{list-more, list-read}
 use Rattle.lines.proofs.read_list.Statement.{statement}
 use Rattle.lines.proofs.read_list.Tie as tie

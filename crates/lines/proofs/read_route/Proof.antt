@@ -1,3 +1,4 @@
+-- Each field read takes the definition one field on, and the first that fails makes it another line.
 use mathlib.Core.Bool.{true}
 use mathlib.Core.Path.{_≡_, sym, _∙_}
 use native.Mathlib.Omega.{arith}

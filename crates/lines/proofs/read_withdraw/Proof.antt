@@ -1,3 +1,4 @@
+-- Each field read takes the definition one field on, and the first that fails makes it another line.
 use mathlib.Core.Path.{sym, _∙_}
 use native.Mathlib.Omega.{arith}
 use borrow.Author.Tests.{not-true, not-false}

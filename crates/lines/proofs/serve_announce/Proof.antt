@@ -1,3 +1,4 @@
+-- The two rooms are long enough, so that what was read into them are the octets that the two parts spell.
 use Rattle.lines.proofs.ServeLaws.{read-within, read-size, read-is, changes}
 use native.Mathlib.Omega.{arith}
 use borrow.Author.Needs.{needs}

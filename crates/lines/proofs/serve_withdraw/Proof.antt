@@ -1,3 +1,4 @@
+-- The room is long enough, so that what was read into it are the octets that the part spells.
 use Rattle.lines.proofs.ServeLaws.{read-within, read-size, read-is, changes}
 use native.Mathlib.Omega.{arith}
 use borrow.Author.Needs.{needs}
