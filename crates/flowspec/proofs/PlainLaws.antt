@@ -1,7 +1,7 @@
 -- Whether a rule is feasible hangs on its plain spelling alone, as its match does (packet/proofs/PlainLaws.antt): of the destination only
 -- the length and as many bits of the address are looked at. Assumes nothing but that the value is octets.
 use mathlib.Core.Path.{_≡_, refl, sym, ap, _∙_}
-use mathlib.Core.Bool.{Bool, true, false}
+use mathlib.Core.Bool.{Bool}
 use mathlib.Core.List.{List, [], _∷_, map}
 use Prim.Native.Nat.{ℕ, _≤_}
 use lib.Dec.{leb, eqb}

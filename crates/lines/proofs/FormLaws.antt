@@ -1,26 +1,23 @@
 -- Reading a line: the fields behind a place, one after the other, and what the fields say as soon as one of them decides. Assumes nothing.
 use mathlib.Core.Path.{_≡_, refl, ap, sym, subst, _∙_}
-use mathlib.Core.Bool.{Bool, true, false, cond, _&&_}
+use mathlib.Core.Bool.{Bool, true, false, _&&_}
 use mathlib.Core.List.{List, [], _∷_}
-use Prim.Native.Nat.{ℕ, zero, suc, _+_, _-_, _<_, _≤_}
+use Prim.Native.Nat.{ℕ, _+_, _-_, _<_, _≤_}
 use native.Mathlib.Omega.{arith}
 use lib.Dec.{ltb, eqb}
 use lib.ListN.{length, drop, length-drop}
-use borrow.Author.Tests.{ltb-true, ltb-false, lt-ltb, le-ltb, not-true, not-false}
-use Rattle.octets.proofs.Cases.{by-test, apart}
+use borrow.Author.Tests.{ltb-true, lt-ltb, le-ltb}
+use Rattle.octets.proofs.Cases.{by-test}
 use Rattle.rule.specs.Value.{between}
-use Rattle.text.specs.Spelling.{spelled}
-use Rattle.text.specs.Hex.{areOctets, octetsIn, wordIn}
 use Rattle.text.specs.Decimal.{startsWell, isNumber, numberIn}
-use Rattle.text.specs.Field.{fields, beforeTab, fieldEnd, sameText}
+use Rattle.text.specs.Field.{fields, beforeTab, fieldEnd}
 use Rattle.text.proofs.FieldLaws.{fields-from}
 use Rattle.lines.specs.declared.Field.{Field}
 use Rattle.lines.specs.declared.Field.the-variants.{Missing, At}
 use Rattle.lines.specs.declared.Number.{Number}
 use Rattle.lines.specs.declared.Number.the-variants.{NoNumber, Read}
-use Rattle.lines.specs.declared.Form.the-variants.{Route, Announce, Withdraw, Listing, Unknown}
-use Rattle.lines.specs.Line.{Line, route, announce, withdraw, list, other, field, isAddress, isRule, said}
-use Rattle.lines.specs.Form.{behind, fieldBehind, numberAt, formSays, FormIn, Says}
+use Rattle.lines.specs.Line.{field}
+use Rattle.lines.specs.Form.{behind, fieldBehind, numberAt}
 
 -- a tab stands within its text
 before-within : (t : List ℕ) → beforeTab t ≤ length t

@@ -1,8 +1,8 @@
 -- Going down a table to count its records and to print them: what was done and what is left give the whole. Assumes nothing.
 use mathlib.Core.Path.{_≡_, refl, ap, sym, _∙_}
-use mathlib.Core.Bool.{Bool, true, false, cond}
+use mathlib.Core.Bool.{Bool, true, false}
 use mathlib.Core.List.{List, [], _∷_, _++_}
-use Prim.Native.Nat.{ℕ, zero, suc, _+_, _-_, _*_, _^_, _<_, _≤_}
+use Prim.Native.Nat.{ℕ, _+_, _-_, _*_, _^_, _<_, _≤_}
 use native.Mathlib.Omega.{arith}
 use native.Mathlib.Nat.{add-zero}
 use lib.Dec.{leb}
@@ -11,7 +11,6 @@ use borrow.Author.Tests.{leb-true}
 use Rattle.octets.proofs.Cases.{by-test, apart}
 use Rattle.octets.specs.Walk.{Walk, before}
 use Rattle.rule.specs.Value.{between}
-use Rattle.table.specs.declared.NextRecord.{NextRecord}
 use Rattle.table.specs.declared.NextRecord.the-variants.{Nothing, Record, Unsound}
 use Rattle.rule.specs.Family.{ipv4}
 use Rattle.table.specs.declared.Soundness.{Soundness}
@@ -19,12 +18,11 @@ use Rattle.table.specs.declared.Soundness.the-variants.{Sound, Unsound as NotSo
 use Rattle.table.specs.Walk.{recordAt, recordsFrom, records}
 use Rattle.table.specs.Sound.{mostOctets, soundTable, soundness}
 use Rattle.flowspec.proofs.TableLaws.{was-sound, was-unsound}
-use Rattle.table.proofs.WalkLaws.{Found, was-found, records-more, records-end, records-unsound, records-ind}
+use Rattle.table.proofs.WalkLaws.{was-found, records-more, records-end, records-unsound, records-ind}
 use Rattle.table.proofs.EntryLaws.{length-there}
 use Rattle.text.specs.Spelling.{spelled}
 use Rattle.text.specs.Hex.{hexOf}
 use Rattle.text.specs.Print.{laid}
-use Rattle.text.specs.Decimal.{decimalOf}
 use Rattle.text.proofs.DecimalLaws.{length-decimal}
 use Rattle.text.proofs.HexLaws.{length-hexOf}
 use Rattle.text.proofs.PrintLaws.{laid-append, laid-none, length-laid}

@@ -1,23 +1,23 @@
 -- What a line says by its first field, as soon as a field behind it decides. Assumes nothing.
-use mathlib.Core.Path.{_≡_, refl, ap, sym, subst, _∙_}
-use mathlib.Core.Bool.{Bool, true, false, cond, _&&_, not}
+use mathlib.Core.Path.{_≡_, sym, _∙_}
+use mathlib.Core.Bool.{Bool, true, false}
 use mathlib.Core.List.{List, [], _∷_}
-use Prim.Native.Nat.{ℕ, zero, suc, _+_, _-_, _<_, _≤_}
+use Prim.Native.Nat.{ℕ, suc, _+_, _-_, _<_, _≤_}
 use native.Mathlib.Omega.{arith}
 use native.Mathlib.Nat.{sub-zero}
-use lib.Dec.{ltb, eqb}
-use lib.ListN.{length, drop, take}
-use borrow.Author.Tests.{ltb-true, ltb-false, lt-ltb, le-ltb, ne-eqb, not-true, not-false}
+use lib.Dec.{eqb}
+use lib.ListN.{length, take}
+use borrow.Author.Tests.{le-ltb, ne-eqb}
 use Rattle.rule.specs.Value.{between}
 use Rattle.text.specs.Spelling.{spelled}
-use Rattle.text.specs.Hex.{areOctets, octetsIn, wordIn}
-use Rattle.text.specs.Decimal.{isNumber, numberIn}
-use Rattle.text.specs.Field.{fields, fieldEnd, sameText}
+use Rattle.text.specs.Hex.{areOctets, wordIn}
+use Rattle.text.specs.Decimal.{isNumber}
+use Rattle.text.specs.Field.{fieldEnd, sameText}
 use Rattle.text.proofs.FieldLaws.{fields-from, same-text}
 use Rattle.lines.specs.declared.Form.{Form}
 use Rattle.lines.specs.declared.Form.the-variants.{Route, Announce, Withdraw, Listing, Unknown}
-use Rattle.lines.specs.Line.{Line, route, announce, withdraw, list, other, field, isAddress, isRule, said, lineOf, mostSigns}
-use Rattle.lines.specs.Form.{behind, formSays, FormIn, Says}
+use Rattle.lines.specs.Line.{Line, other, field, isAddress, isRule, said, lineOf, mostSigns}
+use Rattle.lines.specs.Form.{behind, Says}
 use Rattle.lines.proofs.CutLaws.{too-long}
 use Rattle.lines.proofs.FormLaws.{Fielded, Numbered, at-end, not-at-end, no-and}
 

@@ -1,13 +1,13 @@
 -- Serving a line: a route put behind the others, and what each form of a line leaves. Assumes nothing.
 use mathlib.Core.Path.{_≡_, refl, ap, sym, subst, _∙_}
-use mathlib.Core.Bool.{Bool, true, false, cond, _&&_}
-use mathlib.Core.List.{List, [], _∷_, _++_}
-use Prim.Native.Nat.{ℕ, zero, suc, _+_, _-_, _*_, _<_, _≤_, min}
+use mathlib.Core.Bool.{Bool, true, false, cond}
+use mathlib.Core.List.{List, [], _∷_}
+use Prim.Native.Nat.{ℕ, suc, _+_, _-_, _*_, _<_, _≤_, min}
 use native.Mathlib.Omega.{arith}
 use native.Mathlib.Decide.{decLt}
 use lib.Dec.{leb}
 use lib.ListN.{length, set, take, drop}
-use lib.Seq.{sets, sets-eq, take-at, take-all, length-take-le}
+use lib.Seq.{sets-eq, take-at, take-all, length-take-le}
 use borrow.Author.Tests.{le-leb, lt-leb, leb-true}
 use Rattle.octets.proofs.Cases.{by-test, apart}
 use Rattle.rule.specs.Value.{between}

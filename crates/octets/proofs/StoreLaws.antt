@@ -1,6 +1,6 @@
 -- What a change to a buffer leaves, as it is made octet by octet: what is still to be done gives the same at every turn. Assumes nothing.
 use mathlib.Core.Path.{_≡_, refl, ap, sym, _∙_}
-use mathlib.Core.Bool.{Bool, true, false, _&&_, and-true, and-assoc}
+use mathlib.Core.Bool.{Bool, true, _&&_, and-true, and-assoc}
 use mathlib.Core.List.{List, [], _∷_, _++_, append-assoc, append-nil}
 use Prim.Native.Nat.{ℕ, zero, suc, _+_, _-_, _<_, _≤_}
 use native.Mathlib.Omega.{arith}
@@ -10,7 +10,7 @@ use lib.Bits.{bitOr, and-le-l, and-le-r, or-add-and}
 use lib.Dec.{eqb}
 use lib.ListN.{length, getD, set, take, drop, replicate, length-set, length-append, length-take, length-drop, take-append-drop, drop-of-length-le}
 use lib.Seq.{paste, paste-suc, take-length, take-all, take-at, drop-at, take-suc, take-append-le, length-take-le, take-take, drop-cons, take-suc-set, take-set-le, drop-set-lt, drop-set-add, getD-set-same, getD-drop, lt-length-set, append-snoc, drop-length, drop-append-add, drop-drop}
-use borrow.Author.Tests.{eq-eqb, ne-eqb, eqb-true}
+use borrow.Author.Tests.{eqb-true}
 use Rattle.octets.specs.Store.{stored, cleared, movedDown, cutOut, gapOpened, allZero}
 use Rattle.octets.proofs.Cases.{by-test, apart, both, same-test}
 

@@ -1,16 +1,15 @@
 -- Comparing component by component: one law for each way in which the code comes to an answer. Assumes nothing.
-use mathlib.Core.Path.{_≡_, refl, sym, ap, ap₂, _∙_}
-use mathlib.Core.Bool.{Bool, true, false, cond}
+use mathlib.Core.Path.{_≡_, refl, sym, ap, _∙_}
+use mathlib.Core.Bool.{Bool, true, false}
 use mathlib.Core.List.{List, [], _∷_}
 use Prim.Native.Nat.{ℕ, _+_, _-_, _<_, _≤_, compare, Ordering, Ordering·lt, Ordering·eq, Ordering·gt}
 use native.Mathlib.Omega.{arith}
 use lib.ListN.{length}
 use Rattle.octets.specs.Order.{then, lex, ordered}
-use Rattle.octets.specs.Walk.{Walk, before}
+use Rattle.octets.specs.Walk.{Walk}
 use Rattle.octets.specs.declared.Order.{Order}
-use Rattle.octets.specs.declared.Order.the-variants.{First, Second, Same}
-use Rattle.octets.proofs.Cases.{apart}
-use Rattle.octets.proofs.OrderLaws.{IsOrder, lt-cmp, gt-cmp, eq-cmp, nat-order, then-eq}
+use Rattle.octets.specs.declared.Order.the-variants.{First, Second}
+use Rattle.octets.proofs.OrderLaws.{lt-cmp, gt-cmp, eq-cmp, nat-order, then-eq}
 use Rattle.prefix.specs.Prefix.{prefixOrder, prefixOf}
 use Rattle.rule.specs.declared.Family.{Family}
 use Rattle.rule.specs.declared.Next.{Next}
@@ -19,12 +18,12 @@ use Rattle.rule.specs.declared.Checked.{Checked}
 use Rattle.rule.specs.Family.{ipv4}
 use Rattle.rule.specs.Operator.{isPrefix}
 use Rattle.rule.specs.Component.{componentAt}
-use Rattle.rule.specs.Value.{Part, between, componentsFrom, components}
+use Rattle.rule.specs.Value.{Part, between}
 use Rattle.rule.proofs.ValueLaws.{Found, was-found, components-more, components-none, components-refused}
 use Rattle.order.specs.declared.Turn.{Turn}
 use Rattle.order.specs.declared.Turn.the-variants.{Decided, Tied}
 use Rattle.order.specs.Precedence.{bodyOrder, partOrder, partsOrder}
-use Rattle.order.specs.Turn.{partsFrom, runsOut, turnFor, settled, Turned}
+use Rattle.order.specs.Turn.{partsFrom, runsOut, turnFor, Turned}
 
 -- two bodies
 module _ (kind : ℕ) (a b : List ℕ) (says : Bool) (is : says ≡ isPrefix kind) (r : Order) where

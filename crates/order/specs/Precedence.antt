@@ -1,6 +1,6 @@
 -- Which of two rules comes first (RFC 8955 section 5.1). `lt` means the first of the two, `gt` the second, `eq`, of accepted
 -- values, that they are the same rule. Rules are compared in their plain spelling, component by component.
-use Prim.Native.Nat.{ℕ, compare, Ordering, Ordering·lt, Ordering·eq, Ordering·gt}
+use Prim.Native.Nat.{ℕ, compare, Ordering}
 use mathlib.Core.Bool.{cond}
 use mathlib.Core.List.{List}
 use Rattle.octets.specs.Order.{then, lex}

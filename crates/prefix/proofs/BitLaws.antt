@@ -1,6 +1,6 @@
 -- The first bits of an address, as a list and as a number. Assumes nothing.
 use mathlib.Core.Path.{_≡_, refl, ap, sym, subst, _∙_}
-use mathlib.Core.Bool.{true, false, _&&_}
+use mathlib.Core.Bool.{true, _&&_}
 use mathlib.Core.List.{List, [], _∷_}
 use Prim.Native.Nat.{ℕ, zero, suc, _+_, _-_, _*_, _/_, _%_, _^_, _≤_, _<_}
 use native.Mathlib.Omega.{arith}
@@ -8,11 +8,10 @@ use native.Mathlib.Decide.{decLt}
 use native.Mathlib.Nat.{mod-lt, mod-one, add-comm, add-suc}
 use native.Mathlib.Numerals.{add-one}
 use lib.Dec.{eqb}
-use lib.Bits.{bitAnd, and-mask}
 use lib.ListN.{length}
 use lib.Seq.{take-all}
 use lib.Pow.{pow-pos, high, low, mod-pow-add, shr-shr, shr-mod}
-use borrow.Author.Tests.{eq-eqb, ne-eqb, eqb-true}
+use borrow.Author.Tests.{eq-eqb, eqb-true}
 use Rattle.octets.proofs.Cases.{by-test, apart, both, same-test}
 use Rattle.prefix.specs.Prefix.{bits, firstBits, sameBits}
 

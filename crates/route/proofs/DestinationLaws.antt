@@ -1,13 +1,10 @@
 -- The destination of a value: types rise strictly, so only the first component can be of type 1. Assumes nothing.
 use mathlib.Core.Path.{_≡_, refl, sym, ap, _∙_}
-use mathlib.Core.Bool.{cond}
-use mathlib.Core.List.{List, [], _∷_}
-use Prim.Native.Nat.{ℕ, _+_, _-_, _<_, _≤_}
+use mathlib.Core.List.{List}
+use Prim.Native.Nat.{ℕ, _-_, _≤_}
 use native.Mathlib.Omega.{arith}
-use lib.Dec.{eqb}
 use borrow.Author.Tests.{eq-eqb, ne-eqb}
-use Rattle.octets.specs.Walk.{Walk, before}
-use Rattle.octets.proofs.Cases.{by-test}
+use Rattle.octets.specs.Walk.{Walk}
 use Rattle.prefix.specs.declared.Prefix.{Prefix}
 use Rattle.prefix.specs.Prefix.{prefixOf}
 use Rattle.rule.specs.declared.Family.{Family}

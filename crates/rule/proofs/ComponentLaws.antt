@@ -1,13 +1,13 @@
 -- The cursor's answers: one law for each way in which the code comes to one, and where an answer lies in the value. Assumes nothing.
 use mathlib.Core.Path.{_≡_, refl, sym, ap, subst, _∙_}
-use mathlib.Core.Bool.{Bool, true, false, not, cond}
+use mathlib.Core.Bool.{Bool, true, false, not}
 use mathlib.Core.List.{List, [], _∷_}
-use Prim.Native.Nat.{ℕ, zero, suc, _+_, _-_, _/_, _<_, _≤_}
+use Prim.Native.Nat.{ℕ, _+_, _-_, _/_, _<_, _≤_}
 use native.Mathlib.Omega.{arith}
-use lib.Dec.{leb, ltb, eqb}
+use lib.Dec.{leb, ltb}
 use lib.ListN.{length, getD}
 use borrow.Author.Tests.{le-leb, lt-leb, lt-ltb, le-ltb, leb-false, ltb-false, not-true, not-false, eq-eqb, ne-eqb}
-use Rattle.octets.specs.Walk.{Step, more, last, stop, Walk, before, walk}
+use Rattle.octets.specs.Walk.{more, last, stop, Walk, before}
 use Rattle.octets.proofs.Cases.{by-test, apart}
 use Rattle.octets.proofs.WalkLaws.{walk-stop, walk-last, walk-more, walk-ind}
 use Rattle.rule.specs.declared.Family.{Family}
@@ -15,10 +15,9 @@ use Rattle.rule.specs.declared.NextPair.{NextPair}
 use Rattle.rule.specs.declared.NextPair.the-variants.{More, Last, Refused as RefusedPair}
 use Rattle.rule.specs.declared.BodyEnd.{BodyEnd}
 use Rattle.rule.specs.declared.BodyEnd.the-variants.{At, Refused as RefusedBody}
-use Rattle.rule.specs.declared.Next.{Next}
 use Rattle.rule.specs.declared.Next.the-variants.{Nothing, Component, Refused}
 use Rattle.rule.specs.Operator.{endsList, sizeOf, isPrefix, sizeAllowed}
-use Rattle.rule.specs.Component.{pairAt, Pair, pairOf, pairStep, pairsFrom, prefixEnd, bodyEnd, found, componentAt}
+use Rattle.rule.specs.Component.{pairAt, Pair, pairOf, pairStep, pairsFrom, prefixEnd, bodyEnd, componentAt}
 
 -- how `pair_at` comes to each of its answers
 module _ (kind : ℕ) (v : List ℕ) (at : ℕ) where

@@ -1,6 +1,6 @@
 -- The operator octet and the kinds of lists: what the code's tests say of them, and what clearing ignored bits keeps. Assumes nothing.
-use mathlib.Core.Path.{_≡_, refl, sym}
-use mathlib.Core.Bool.{Bool, true, false}
+use mathlib.Core.Path.{_≡_, refl}
+use mathlib.Core.Bool.{true, false}
 use Prim.Native.Nat.{ℕ, _*_, _/_, _%_, _^_, _≤_, _<_}
 use native.Mathlib.Omega.{arith}
 use lib.Bits.{bitAnd}
@@ -8,7 +8,7 @@ use lib.Dec.{leb, ltb, eqb}
 use borrow.Author.Tests.{eqb-false, eq-eqb, ne-eqb, leb-true, ltb-true}
 use Rattle.octets.proofs.Cases.{by-test}
 use Rattle.octets.proofs.Facts.{below, octet}
-use Rattle.rule.specs.Operator.{endsList, sizeOf, isPrefix, isBitmask, sizeAllowed}
+use Rattle.rule.specs.Operator.{sizeOf, isPrefix, isBitmask, sizeAllowed}
 
 module _ (kind : ℕ) where
   pub prefix-kind : 1 ≤ kind → kind ≤ 2 → isPrefix kind ≡ true

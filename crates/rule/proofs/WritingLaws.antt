@@ -1,14 +1,13 @@
 -- Writing one rule: the length field in both forms, the stores in a row, and the writer's answers. Assumes nothing.
 use mathlib.Core.Path.{_≡_, refl, sym, ap, subst, _∙_}
-use mathlib.Core.Bool.{Bool, true, false, cond}
-use mathlib.Core.List.{List, [], _∷_, _++_, append-assoc}
+use mathlib.Core.List.{List, [], _∷_, _++_}
 use Prim.Native.Nat.{ℕ, _+_, _-_, _/_, _%_, _<_, _≤_}
 use native.Mathlib.Omega.{arith}
 use native.Mathlib.Decide.{decLt}
 use native.Mathlib.Nat.{zero-add}
 use lib.Dec.{ltb}
-use lib.ListN.{length, take, drop, set, replicate, length-append, length-replicate, length-drop}
-use lib.Seq.{take-at, drop-at, drop-append-le, drop-drop, drop-append-add}
+use lib.ListN.{length, take, drop, set, length-append}
+use lib.Seq.{take-at, drop-drop, drop-append-add}
 use borrow.Author.Tests.{lt-ltb, le-ltb}
 use Rattle.octets.specs.Store.{stored}
 use Rattle.octets.proofs.Cases.{by-test}

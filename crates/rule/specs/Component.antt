@@ -1,10 +1,10 @@
 -- One component of a value (RFC 8955 section 4.2): what stands at a place, where it ends, and why it is refused. A component is its
 -- type octet and its body, all that follows up to its end. A refusal is a number of 01's table and a place in the value.
 use Prim.Native.Nat.{ℕ, _+_, _-_, _/_}
-use mathlib.Core.Bool.{Bool, cond, _||_}
+use mathlib.Core.Bool.{cond}
 use mathlib.Core.List.{List}
 use lib.Dec.{leb, ltb, eqb}
-use lib.ListN.{length, getD, take, drop}
+use lib.ListN.{length, getD}
 use Rattle.octets.specs.Number.{numberAt}
 use Rattle.octets.specs.Walk.{Step, more, last, stop, Walk, walk}
 use Rattle.rule.specs.declared.Family.{Family}

@@ -1,16 +1,16 @@
 -- Reading one rule (RFC 8955 section 4.1): the length field, the value behind it, and nothing after that.
 use Prim.Native.Nat.{ℕ, _+_, _-_, _*_}
-use mathlib.Core.Bool.{Bool, cond}
+use mathlib.Core.Bool.{cond}
 use mathlib.Core.List.{List}
 use lib.Bits.{bitAnd}
-use lib.Dec.{leb, ltb, eqb}
+use lib.Dec.{ltb, eqb}
 use lib.ListN.{length, getD, take, drop}
 use Rattle.rule.specs.declared.Family.{Family}
 use Rattle.rule.specs.declared.Checked.{Checked}
 use Rattle.rule.specs.declared.Checked.the-variants.{Accepted, Refused as RefusedValue}
 use Rattle.rule.specs.declared.Reading.{Reading}
 use Rattle.rule.specs.declared.Reading.the-variants.{Rule, Refused}
-use Rattle.rule.specs.Value.{between, checkValue}
+use Rattle.rule.specs.Value.{checkValue}
 
 -- How many octets the length field has: one where the first octet is below 0xf0, otherwise two.
 unfoldable pub fieldSize : List ℕ → ℕ

@@ -1,10 +1,10 @@
 -- A value is one or more components of strictly rising types (RFC 8955 section 4.2). Reading goes left to right.
 use Prim.Native.Nat.{ℕ, _+_, _-_}
-use mathlib.Core.Bool.{Bool, cond}
+use mathlib.Core.Bool.{cond}
 use mathlib.Core.List.{List, [], _∷_, _++_}
 use lib.Dec.{ltb, eqb}
 use lib.ListN.{length, take, drop}
-use Rattle.octets.specs.Walk.{Step, more, last, stop, Walk, walk}
+use Rattle.octets.specs.Walk.{Step, more, stop, Walk, walk}
 use Rattle.rule.specs.declared.Family.{Family}
 use Rattle.rule.specs.declared.Next.{Next}
 use Rattle.rule.specs.declared.Next.the-variants.{Nothing, Component, Refused as RefusedNext}

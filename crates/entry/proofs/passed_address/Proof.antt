@@ -1,3 +1,4 @@
+-- All octets of a prefix but its last are plain: as many as whole octets stand before the last bit.
 use native.Mathlib.Omega.{arith}
 use Rattle.entry.proofs.ValueLaws.{address-all}
 use borrow.Author.Needs.{needs}

@@ -1,3 +1,4 @@
+-- No bit of a value is ignored but in a DSCP or a fragment value, so that its octets are passed over at once.
 use Rattle.entry.proofs.ValueLaws.{operand-all}
 use borrow.Author.Needs.{needs}
 use Rattle.entry.proofs.passed_operand.Statement.{statement}

@@ -1,3 +1,4 @@
+-- An address and a value are passed over as their own functions say, and nothing else is.
 use Rattle.entry.proofs.ValueLaws.{passes-as}
 use borrow.Author.Needs.{needs}
 use Rattle.entry.proofs.passed_over.Statement.{statement}

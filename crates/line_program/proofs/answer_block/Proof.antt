@@ -5,7 +5,7 @@ use mathlib.Core.Path.{_≡_, sym}
 use native.Mathlib.Omega.{arith}
 use lib.ListN.{length, take, drop, length-take, length-drop}
 use lib.Seq.{length-take-le}
-use Rattle.lines.proofs.GatherLaws.{Part, part-of}
+use Rattle.lines.proofs.GatherLaws.{part-of}
 use Rattle.line_program.proofs.answer_block.Statement.{statement}
 use Rattle.line_program.proofs.answer_block.Tie as tie
 use Rattle.line_program.proofs.answer_block.Reads as reads

@@ -6,7 +6,7 @@ use native.Mathlib.Omega.{arith}
 use lib.ListN.{length}
 use Rattle.table.specs.declared.NextRecord.the-variants.{Record}
 use Rattle.table.specs.Walk.{recordAt}
-use Rattle.table.proofs.WalkLaws.{Found, was-found}
+use Rattle.table.proofs.WalkLaws.{was-found}
 use Rattle.lines.proofs.ListLaws.{left-end, left-unsound, Counting, count-starts, count-done, count-more}
 use Rattle.lines.proofs.count_records.Statement.{statement}
 use Rattle.lines.proofs.count_records.Tie as tie

@@ -6,7 +6,7 @@ use native.Mathlib.Omega.{arith}
 use lib.ListN.{length}
 use Rattle.table.specs.declared.NextRecord.the-variants.{Record}
 use Rattle.table.specs.Walk.{recordAt}
-use Rattle.table.proofs.WalkLaws.{Found, was-found}
+use Rattle.table.proofs.WalkLaws.{was-found}
 use Rattle.table.proofs.EntryLaws.{length-there}
 use Rattle.lines.proofs.ListLaws.{left-end, left-unsound, Printing, print-starts, print-done, print-more}
 use Rattle.lines.proofs.put_records.Statement.{statement}

@@ -1,3 +1,4 @@
+-- The number of the octets read so far, which one more octet, or 0 past the end, takes to the next.
 use borrow.Author.Needs.{needs}
 use Prim.Native.Nat.{_≤_, _<_, _-_, _^_}
 use mathlib.Core.Path.{_≡_, sym, _∙_}

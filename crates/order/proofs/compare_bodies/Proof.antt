@@ -1,7 +1,7 @@
 -- Two prefixes are compared as prefixes, and other bodies octet by octet.
 use Rattle.octets.specs.Order.{ordered}
 use Rattle.prefix.specs.Prefix.{prefixOrder}
-use mathlib.Core.Path.{_≡_, _∙_, ap₂}
+use mathlib.Core.Path.{_∙_, ap₂}
 use Rattle.order.proofs.TurnLaws.{order-prefixes, order-octets}
 use borrow.Author.Needs.{needs}
 use Rattle.order.proofs.compare_bodies.Statement.{statement}

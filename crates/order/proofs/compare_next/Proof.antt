@@ -1,5 +1,4 @@
 -- Where both values have a component, its body lies in the value; then one law for each return.
-use Prim.Native.Nat.{_+_, _≤_}
 use native.Mathlib.Omega.{arith}
 use Rattle.rule.specs.Family.{ipv4}
 use Rattle.rule.proofs.ValueLaws.{Found}

@@ -1,6 +1,5 @@
 -- What is left of both addresses when the bits past the first n are shifted out is equal exactly where these n are.
 use borrow.Author.Needs.{needs}
-use native.Mathlib.Omega.{arith}
 use Rattle.prefix.proofs.BitLaws.{no-bits, same-first}
 use Rattle.prefix.proofs.same_bits.Statement.{statement}
 use Rattle.prefix.proofs.same_bits.Tie as tie

@@ -1,5 +1,4 @@
 -- A prefix's body ends as a prefix does, and any other as its list of pairs.
-use mathlib.Core.Path.{sym, _∙_}
 use Rattle.rule.proofs.ComponentLaws.{body-prefix, body-list}
 use borrow.Author.Needs.{needs}
 use Rattle.rule.proofs.body_end.Statement.{statement}

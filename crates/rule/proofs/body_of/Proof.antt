@@ -1,6 +1,4 @@
 -- A prefix begins with its length, a list with its first operator.
-use mathlib.Core.Path.{sym, _∙_}
-use borrow.Author.Tests.{not-false}
 use Rattle.rule.specs.Plain.{bodyOf}
 use borrow.Author.Needs.{needs}
 use Rattle.rule.proofs.body_of.Statement.{statement}

@@ -5,7 +5,7 @@ use mathlib.Core.Path.{_≡_, sym, _∙_}
 use native.Mathlib.Omega.{arith}
 use lib.ListN.{length}
 use Rattle.rule.specs.Value.{checkValue}
-use Rattle.rule.proofs.ValueLaws.{Found, was-found, accepts, check-on, check-accepted, check-refused, check-long, check-empty, check-walk}
+use Rattle.rule.proofs.ValueLaws.{was-found, accepts, check-on, check-accepted, check-refused, check-long, check-empty, check-walk}
 use Rattle.rule.proofs.check_value.Statement.{statement}
 use Rattle.rule.proofs.check_value.Tie as tie
 use Rattle.rule.proofs.check_value.Reads as reads

@@ -1,7 +1,6 @@
 -- The code's test is the definition's.
 use mathlib.Core.Path.{refl}
 use Rattle.rule.specs.Operator.{endsList}
-use borrow.Author.Needs.{needs}
 use Rattle.rule.proofs.ends_list.Statement.{statement}
 use Rattle.rule.proofs.ends_list.Tie as tie
 use Rattle.rule.proofs.ends_list.Reads as reads

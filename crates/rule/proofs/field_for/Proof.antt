@@ -1,5 +1,4 @@
 -- One return for each form of the field.
-use borrow.Author.Needs.{needs}
 use mathlib.Core.Path.{sym, ap}
 use native.Mathlib.Omega.{arith}
 use lib.ListN.{length}

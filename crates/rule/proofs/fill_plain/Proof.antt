@@ -1,7 +1,6 @@
 -- The invariant is that the octets passed so far are written and the rest is as it was.
 use borrow.Author.Needs.{needs}
 use Prim.Native.Nat.{_-_}
-use native.Mathlib.Omega.{arith}
 use lib.ListN.{length}
 use Rattle.rule.proofs.FillLaws.{Filling, filling-starts, filling-on, filled-front}
 use Rattle.rule.proofs.fill_plain.Statement.{statement}

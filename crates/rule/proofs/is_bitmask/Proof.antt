@@ -2,10 +2,8 @@
 use mathlib.Core.Logic.{inl, inr}
 use mathlib.Core.Path.{sym}
 use mathlib.Core.Logic.{⊎-elim}
-use native.Mathlib.Omega.{arith}
 use Rattle.rule.specs.Operator.{isBitmask}
 use Rattle.rule.proofs.OperatorLaws.{numeric-kind}
-use borrow.Author.Needs.{needs}
 use Rattle.rule.proofs.is_bitmask.Statement.{statement}
 use Rattle.rule.proofs.is_bitmask.Tie as tie
 use Rattle.rule.proofs.is_bitmask.Reads as reads

@@ -2,7 +2,6 @@
 use mathlib.Core.Path.{sym}
 use native.Mathlib.Omega.{arith}
 use Rattle.rule.proofs.OperatorLaws.{prefix-kind, list-kind}
-use borrow.Author.Needs.{needs}
 use Rattle.rule.proofs.is_prefix.Statement.{statement}
 use Rattle.rule.proofs.is_prefix.Tie as tie
 use Rattle.rule.proofs.is_prefix.Reads as reads

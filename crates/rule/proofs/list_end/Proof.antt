@@ -2,7 +2,7 @@
 use Rattle.rule.proofs.ComponentLaws.{list-on, list-last, list-refused, more-within}
 use borrow.Author.Needs.{needs}
 use Prim.Native.Nat.{_-_}
-use mathlib.Core.Path.{_≡_, refl, ap, sym, _∙_}
+use mathlib.Core.Path.{_≡_, refl, sym, _∙_}
 use native.Mathlib.Omega.{arith}
 use lib.ListN.{length}
 use Rattle.rule.specs.Component.{pairsFrom}

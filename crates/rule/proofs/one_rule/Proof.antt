@@ -1,7 +1,7 @@
 -- One law for each return: the rule is refused, octets follow it, or it is alone.
 use mathlib.Core.Path.{sym, _∙_}
 use native.Mathlib.Omega.{arith}
-use Rattle.rule.proofs.ReadingLaws.{ReadRule, rule-read, alone-whole, alone-more, alone-refused}
+use Rattle.rule.proofs.ReadingLaws.{rule-read, alone-whole, alone-more, alone-refused}
 use borrow.Author.Needs.{needs}
 use Rattle.rule.proofs.one_rule.Statement.{statement}
 use Rattle.rule.proofs.one_rule.Tie as tie

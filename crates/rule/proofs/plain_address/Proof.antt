@@ -1,5 +1,4 @@
 -- Shifted down and up again, an octet keeps its first bits.
-use mathlib.Core.Path.{_≡_, sym}
 use native.Mathlib.Omega.{arith}
 use Rattle.rule.specs.Plain.{plainAddress}
 use Rattle.rule.proofs.PlainLaws.{shifted, shifted-small, whole-octet}

@@ -1,7 +1,6 @@
 -- One arm for each type whose values have bits to be ignored.
 use borrow.Author.Tests.{ne-eqb}
 use Rattle.rule.specs.Plain.{plainOperand}
-use borrow.Author.Needs.{needs}
 use Rattle.rule.proofs.plain_operand.Statement.{statement}
 use Rattle.rule.proofs.plain_operand.Tie as tie
 use Rattle.rule.proofs.plain_operand.Reads as reads

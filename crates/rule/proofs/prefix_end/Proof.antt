@@ -1,5 +1,4 @@
 -- One law for each return.
-use native.Mathlib.Omega.{arith}
 use Rattle.rule.proofs.ComponentLaws.{prefix-missing, prefix-long, prefix-short, prefix-whole}
 use borrow.Author.Needs.{needs}
 use Rattle.rule.proofs.prefix_end.Statement.{statement}

@@ -3,7 +3,6 @@ use mathlib.Core.Path.{sym}
 use native.Mathlib.Omega.{arith}
 use Rattle.rule.specs.Operator.{sizeAllowed}
 use Rattle.rule.proofs.OperatorLaws.{one-octet, any-size}
-use borrow.Author.Needs.{needs}
 use Rattle.rule.proofs.size_allowed.Statement.{statement}
 use Rattle.rule.proofs.size_allowed.Tie as tie
 use Rattle.rule.proofs.size_allowed.Reads as reads

@@ -1,8 +1,6 @@
 -- The size bits, shifted down, are the exponent of the size: computed at each octet.
-use mathlib.Core.Path.{_≡_, subst, sym}
 use native.Mathlib.Omega.{arith}
 use Rattle.rule.proofs.OperatorLaws.{exponent-small, size-shift, size-small}
-use borrow.Author.Needs.{needs}
 use Rattle.rule.proofs.size_of.Statement.{statement}
 use Rattle.rule.proofs.size_of.Tie as tie
 use Rattle.rule.proofs.size_of.Reads as reads

@@ -1,8 +1,7 @@
 -- The plain spelling stands at the front of the working array; it is stored behind the length field where both fit.
 use Rattle.rule.proofs.WritingLaws.{front-length, no-room, room-left, write-in-a-row}
-use mathlib.Core.Path.{refl, sym, _∙_}
+use mathlib.Core.Path.{refl}
 use native.Mathlib.Omega.{arith}
-use lib.ListN.{length}
 use borrow.Author.Needs.{needs}
 use Rattle.rule.proofs.write_accepted.Statement.{statement}
 use Rattle.rule.proofs.write_accepted.Tie as tie

@@ -1,6 +1,5 @@
 -- A value that is refused is not written, and one that is accepted is.
 use mathlib.Core.Path.{sym, _∙_}
-use native.Mathlib.Omega.{arith}
 use Rattle.rule.proofs.ValueLaws.{accepted-small}
 use Rattle.rule.proofs.WritingLaws.{write-accepted, write-refused}
 use borrow.Author.Needs.{needs}
