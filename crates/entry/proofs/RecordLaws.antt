@@ -12,7 +12,7 @@ use lib.Seq.{take-add, drop-cons, drop-drop}
 use Rattle.octets.specs.Number.{numberAt, octetsOf}
 use Rattle.octets.specs.Store.{stored}
 use Rattle.octets.proofs.Facts.{Octets}
-use Rattle.octets.proofs.NumberLaws.{grows, length-octetsOf, number-octets, octets-number}
+use Rattle.octets.proofs.NumberLaws.{number-small, length-octetsOf, number-octets, octets-number}
 use Rattle.octets.proofs.StoreLaws.{stored-none, stored-then, length-stored}
 use Rattle.action.specs.Actions.{flagsOf}
 use Rattle.entry.specs.Entry.{Entry}
@@ -39,12 +39,6 @@ unfolding writtenFields
 length-written [] ns h = refl
 length-written (w ∷ ws) [] h = absurd (omega arith)
 length-written (w ∷ ws) (n ∷ ns) h = simp length-append (omega (arith, length-octetsOf w n, length-written ws ns (omega arith)))
-
--- a number of n octets is below 256 ^ n
-pub number-small : (n : ℕ) (s : List ℕ) (at : ℕ) → Octets s → numberAt n s at < 256 ^ n
-unfolding numberAt
-number-small zero s at o = lit< tt
-number-small (suc n) s at o = rw (add-one) at (grows n (numberAt n s at) (getD s (at + n) 0) (number-small n s at o) (o (at + n)))
 
 pub one-octet : (s : List ℕ) (at : ℕ) → numberAt 1 s at ≡ getD s at 0
 unfolding numberAt

@@ -1,4 +1,4 @@
--- Values and entries that the table may hold: when two lists of octets are the same, the test for a plain value octet by octet, and what
+-- Values and entries that the table may hold: the test for a plain value octet by octet, and what
 -- follows where an entry could be. Assumes nothing.
 use mathlib.Core.Path.{_≡_, refl, sym, _∙_}
 use mathlib.Core.Bool.{Bool, true, false, _&&_, _||_}
@@ -10,7 +10,9 @@ use lib.Dec.{ltb, eqb}
 use lib.ListN.{length, getD, drop, length-drop, drop-of-length-le}
 use lib.Seq.{drop-cons, drop-drop}
 use borrow.Author.Tests.{ltb-true, ltb-false, lt-ltb, lt-leb, eqb-true, eq-eqb, ne-eqb}
-use Rattle.octets.proofs.Cases.{apart, both}
+use Rattle.octets.specs.Test.{sameOctets}
+use Rattle.octets.proofs.Cases.{apart, both, neither}
+use Rattle.octets.proofs.TestLaws.{same-octets, octets-same}
 use Rattle.rule.specs.declared.Family.{Family}
 use Rattle.rule.specs.declared.Checked.{Checked}
 use Rattle.rule.specs.declared.Checked.the-variants.{Accepted, Refused}
@@ -23,24 +25,7 @@ use Rattle.rule.proofs.ValueLaws.{accepted-small, accepted-some}
 use Rattle.action.specs.Possible.{couldBe}
 use Rattle.entry.specs.declared.Passed.{Passed}
 use Rattle.entry.specs.Passing.{Passes}
-use Rattle.entry.specs.Entry.{Entry, sameOctets, isAccepted, plainValue, possible}
-
--- the same octets are equal lists, both ways
-pub same-octets : (a b : List ℕ) → sameOctets a b ≡ true → a ≡ b
-unfolding sameOctets
-same-octets [] [] e = refl
-same-octets [] (y ∷ b) e = apart (cc)
-same-octets (x ∷ a) [] e = apart (cc)
-same-octets (x ∷ a) (y ∷ b) e =
-    let t = both (eqb x y) (sameOctets a b) e in
-    let h = eqb-true x y (t .0) in
-    let r = same-octets a b (t .1) in
-    λ i. h i ∷ r i
-
-pub octets-same : (a : List ℕ) → sameOctets a a ≡ true
-unfolding sameOctets
-octets-same [] = refl
-octets-same (x ∷ a) = rw (eq-eqb x x refl) (octets-same a)
+use Rattle.entry.specs.Entry.{Entry, isAccepted, plainValue, possible}
 
 -- whether octets, the first of which is as expected, are their own plain spelling
 abbrev pub plainFromHere : Expected → List ℕ → Bool
@@ -92,10 +77,6 @@ operand-passes kind zero last h k (x ∷ s) = rw (plainFrom, sameOctets, h, k, e
 operand-passes kind (suc n) last h k (x ∷ s) =
     let more : suc (suc n) - 1 ≡ suc n = omega arith in
     rw (plainFrom, sameOctets, h, k, eq-eqb x x refl, lt-ltb 1 (suc (suc n)) (omega arith), more) (operand-passes kind n last h k s)
-
-neither : (a b : Bool) → a || b ≡ false → (a ≡ false) × (b ≡ false)
-neither true b e = apart (cc)
-neither false b e = (refl, e)
 
 pub passes-as : (e f : Expected) (passed : Passed) → e ≡ f → Passes f passed → Passes e passed
 passes-as e f passed same h = rw same h

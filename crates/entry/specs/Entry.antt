@@ -1,8 +1,9 @@
 -- A rule as the table holds it, and which rules with actions it could hold.
 use Prim.Native.Nat.{ℕ, _^_}
 use mathlib.Core.Bool.{Bool, true, false, _&&_}
-use mathlib.Core.List.{List, [], _∷_}
-use lib.Dec.{ltb, eqb}
+use mathlib.Core.List.{List}
+use lib.Dec.{ltb}
+use Rattle.octets.specs.Test.{sameOctets}
 use Rattle.rule.specs.declared.Family.{Family}
 use Rattle.rule.specs.declared.Checked.{Checked}
 use Rattle.rule.specs.declared.Checked.the-variants.{Accepted, Refused}
@@ -21,13 +22,6 @@ pub record Entry : Type 0 where
 -- Entries stand in precedence order, which is the order of these keys (RFC 8955 section 5.1).
 abbrev pub entryKey : Family → Entry → List (List ℕ)
 entryKey family e = keysOf family (e .value)
-
--- Whether two lists of octets are the same.
-unfoldable pub sameOctets : List ℕ → List ℕ → Bool
-sameOctets [] [] = true
-sameOctets [] (y ∷ ys) = false
-sameOctets (x ∷ xs) [] = false
-sameOctets (x ∷ xs) (y ∷ ys) = eqb x y && sameOctets xs ys
 
 -- Whether the check of a value ended in no refusal.
 abbrev pub isAccepted : Checked → Bool

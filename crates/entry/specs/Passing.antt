@@ -3,10 +3,10 @@ use Prim.Native.Nat.{ℕ, _≤_}
 use mathlib.Core.Path.{_≡_}
 use mathlib.Core.List.{List}
 use lib.ListN.{drop}
+use Rattle.octets.specs.Test.{sameOctets}
 use Rattle.rule.specs.declared.Expected.{Expected}
 use Rattle.rule.specs.Plain.{plainFrom}
 use Rattle.entry.specs.declared.Passed.{Passed}
-use Rattle.entry.specs.Entry.{sameOctets}
 
 -- What may be passed over: octets, the first of which is as expected, are plain exactly where those behind the passed ones are.
 pub record Passes (expected : Expected) (passed : Passed) : Type 0 where

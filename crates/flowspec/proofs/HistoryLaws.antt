@@ -15,6 +15,7 @@ use borrow.Author.Tests.{leb-true}
 use Rattle.octets.specs.Test.{every}
 use Rattle.octets.proofs.Cases.{by-test}
 use Rattle.octets.proofs.Facts.{Octets}
+use Rattle.octets.proofs.TestLaws.{every-both}
 use Rattle.sorted.specs.Table.{lookup, insert, remove, Sorted}
 use Rattle.sorted.specs.History.{Op, announce, withdraw, costs, isHeld, standing, apply, run}
 use Rattle.sorted.specs.History as S
@@ -40,7 +41,7 @@ use Rattle.table.specs.Walk.{entries}
 use Rattle.table.specs.Sound.{cost, tableOf, joined, Encodes, mostOctets}
 use Rattle.table.specs.Change.{holds, removed, hasRoom, inserted, announced, withdrawn}
 use Rattle.table.proofs.SpliceLaws.{length-table}
-use Rattle.table.proofs.EntryLaws.{every-both, octets-between}
+use Rattle.table.proofs.EntryLaws.{octets-between}
 use Rattle.table.proofs.SoundLaws.{encodes-sound, encodes-entries}
 use Rattle.table.proofs.CallLaws.{plain-held}
 use Rattle.flowspec.specs.declared.Change.{Change}

@@ -1,6 +1,6 @@
 -- Going by the outcome of a test and keeping what it says, tests put together of tests, and when two tests are the same. Assumes nothing.
 use mathlib.Core.Path.{_≡_, refl, sym}
-use mathlib.Core.Bool.{Bool, true, false, _&&_}
+use mathlib.Core.Bool.{Bool, true, false, _&&_, _||_}
 use Prim.Native.Nat.{ℕ}
 use native.Mathlib.Omega.{arith}
 
@@ -17,6 +17,16 @@ apart e = absurd (omega arith)
 pub both : (a b : Bool) → a && b ≡ true → (a ≡ true) × (b ≡ true)
 both true b e = (refl, e)
 both false b e = apart (cc)
+
+-- neither test of a disjunction holds where it does not
+pub neither : (a b : Bool) → a || b ≡ false → (a ≡ false) × (b ≡ false)
+neither true b e = apart (cc)
+neither false b e = (refl, e)
+
+-- a conjunction with a test that fails fails
+pub and-false : (b : Bool) → b && false ≡ false
+and-false true = refl
+and-false false = refl
 
 -- two tests that hold at the same places are the same test
 pub same-test : (a b : Bool) → (a ≡ true → b ≡ true) → (b ≡ true → a ≡ true) → a ≡ b

@@ -3,4 +3,5 @@ pub mod Facts
 pub mod NumberLaws
 pub mod OrderLaws
 pub mod StoreLaws
+pub mod TestLaws
 pub mod WalkLaws

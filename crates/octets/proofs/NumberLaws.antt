@@ -5,12 +5,12 @@ use mathlib.Core.List.{List, [], _∷_, _++_, append-assoc}
 use Prim.Native.Nat.{ℕ, zero, suc, _+_, _-_, _*_, _/_, _%_, _<_, _≤_, _^_}
 use native.Mathlib.Omega.{arith}
 use native.Mathlib.Numerals.{add-one}
-use native.Mathlib.Nat.{pow-suc, pow-le-pow-right, add-zero, mul-suc}
+use native.Mathlib.Nat.{pow-suc, pow-le-pow-right, add-zero, add-suc, zero-add, add-assoc, mul-suc, zero-mul, mul-one, mul-comm, mul-assoc, mod-eq-of-lt}
 use native.Mathlib.Decide.{decLt}
-use lib.Pow.{pow-add}
+use lib.Pow.{pow-add, pow-pos, shl-lt}
 use lib.Dec.{lit<}
-use lib.ListN.{length, getD, set, take, drop, length-append, length-drop}
-use lib.Seq.{getD-at, getD-drop, take-suc}
+use lib.ListN.{length, getD, set, take, drop, length-append, length-drop, List·getD-eq-default}
+use lib.Seq.{getD-at, getD-drop, getD-take, getD-append-add, take-suc, length-take-le}
 use Rattle.octets.specs.Number.{numberAt, octetsOf}
 use Rattle.octets.specs.Store.{stored}
 use Rattle.octets.proofs.Facts.{Octets, octets-append}
@@ -99,15 +99,30 @@ number-first (suc n) s at =
     let e : at + suc n ≡ at + 1 + n = omega arith in
     ap (λ x. x * 256 + getD s (at + suc n) 0) (number-first n s at) ∙ rw (e, pow-suc 256 n) (omega arith)
 
--- the octet before the number is no matter
-pub number-behind : (n x : ℕ) (s : List ℕ) (at : ℕ) → numberAt n (x ∷ s) (at + 1) ≡ numberAt n s at
+-- the octets before the number are no matter
+pub number-behind : (n : ℕ) (p s : List ℕ) (at : ℕ) → numberAt n (p ++ s) (length p + at) ≡ numberAt n s at
 unfolding numberAt
-number-behind zero x s at = refl
-number-behind (suc n) x s at = let e : at + 1 + n ≡ suc (at + n) = omega arith in rw (number-behind n x s at, e)
+number-behind zero p s at = refl
+number-behind (suc n) p s at = rw (number-behind n p s at, add-assoc, getD-append-add p s (at + n) 0)
 
 -- the number in an octet and those behind it
 pub first-octet : (n x : ℕ) (s : List ℕ) → numberAt (suc n) (x ∷ s) 0 ≡ x * 2 ^ (8 * n) + numberAt n s 0
-first-octet n x s = number-first n (x ∷ s) 0 ∙ rw (octets-bits n, number-behind n x s 0)
+first-octet n x s = number-first n (x ∷ s) 0 ∙ rw (octets-bits n, number-behind n (x ∷ []) s 0)
+
+-- a number in a part is the number at the part's place
+pub number-part : (n m at : ℕ) (s : List ℕ) → n ≤ m → numberAt n (take m (drop at s)) 0 ≡ numberAt n s at
+unfolding numberAt
+number-part zero m at s h = refl
+number-part (suc n) m at s h =
+    rw (number-part n m at s (omega arith), zero-add n, getD-take m (drop at s) n 0 (omega arith), getD-drop at s n 0)
+
+-- octets past the end add zeros
+pub number-past : (n j : ℕ) (s : List ℕ) (at : ℕ) → length s ≤ at + n → numberAt (n + j) s at ≡ numberAt n s at * 256 ^ j
+unfolding numberAt
+number-past n zero s at h = rw (add-zero n) (sym (mul-one (numberAt n s at)))
+number-past n (suc j) s at h =
+    let past = List·getD-eq-default s 0 {n = at + (n + j)} (omega arith) in
+    rw (add-suc n j, number-past n j s at h, past, pow-suc, ← mul-assoc (numberAt n s at) (256 ^ j) 256) (add-zero _)
 
 -- where there are no octets the number is 0
 pub number-none : (n at : ℕ) → numberAt n [] at ≡ 0
@@ -133,3 +148,30 @@ pub number-alike : (n : ℕ) (s t : List ℕ) (at : ℕ) → ((i : ℕ) → i < 
 unfolding numberAt
 number-alike zero s t at e = refl
 number-alike (suc n) s t at e = rw (number-alike n s t at (λ i h. e i (omega arith)), e n (omega arith))
+
+-- how `number_at` comes to each of its answers: the octets are all there, none is, or the last `missing` are not
+abbrev pub IsNumber : ℕ → List ℕ → ℕ → ℕ → Type 0
+IsNumber n s at number = (number ≡ numberAt n s at) × (number < 256 ^ n)
+
+pub number-there : (n m at number : ℕ) (s p : List ℕ) → at + n ≤ length s → m ≡ n → p ≡ take m (drop at s) → IsNumber (length p) p 0 number → IsNumber n s at number
+number-there n m at number s p h e part is =
+    let l : length p ≡ n = rw part (length-take-le m (drop at s) (simp length-drop (omega arith)) ∙ e) in
+    (is .0 ∙ rw (l, part) (number-part n m at s (omega arith)), rw l at (is .1))
+
+pub number-out : (n at : ℕ) (s : List ℕ) → length s ≤ at → IsNumber n s at 0
+unfolding numberAt
+number-out n at s h =
+    let e = number-past 0 n s at (omega arith) in
+    let z : 0 + n ≡ n = zero-add n in
+    (sym (rw z at e ∙ zero-mul (256 ^ n)), rw (octets-bits n) (pow-pos (8 * n)))
+
+pub number-cut : (n missing at number : ℕ) (s : List ℕ) → n ≤ 8 → length s + missing ≡ at + n → at < length s → IsNumber (length s - at) s at number
+    → IsNumber n s at (number * 2 ^ (missing * 8) % 2 ^ 64)
+number-cut n missing at number s few e inside is =
+    let m : ℕ = length s - at in
+    let k : m + missing ≡ n = omega arith in
+    let bits : 8 * n ≡ 8 * m + missing * 8 = omega arith in
+    let small : number * 2 ^ (missing * 8) < 256 ^ n = rw (octets-bits n, bits) (shl-lt (8 * m) (missing * 8) (rw (octets-bits m) at (is .1))) in
+    let most : 256 ^ n ≤ 256 ^ 8 = pow-le-pow-right {n = 256} (lit< tt) few in
+    let whole : number * 2 ^ (missing * 8) % 2 ^ 64 ≡ number * 2 ^ (missing * 8) = mod-eq-of-lt (omega arith) in
+    (whole ∙ rw (← k, number-past m missing s at (omega arith), ← is .0, octets-bits missing, mul-comm 8 missing), rw whole small)

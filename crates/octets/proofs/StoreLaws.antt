@@ -1,18 +1,13 @@
 -- What a change to a buffer leaves, as it is made octet by octet: what is still to be done gives the same at every turn. Assumes nothing.
 use mathlib.Core.Path.{_≡_, refl, ap, sym, _∙_}
-use mathlib.Core.Bool.{Bool, true, _&&_, and-true, and-assoc}
 use mathlib.Core.List.{List, [], _∷_, _++_, append-assoc, append-nil}
 use Prim.Native.Nat.{ℕ, zero, suc, _+_, _-_, _<_, _≤_}
 use native.Mathlib.Omega.{arith}
 use native.Mathlib.Nat.{add-zero}
 use native.Mathlib.Numerals.{add-one}
-use lib.Bits.{bitOr, and-le-l, and-le-r, or-add-and}
-use lib.Dec.{eqb}
 use lib.ListN.{length, getD, set, take, drop, replicate, length-set, length-append, length-take, length-drop, take-append-drop, drop-of-length-le}
 use lib.Seq.{paste, paste-suc, take-length, take-all, take-at, drop-at, take-suc, take-append-le, length-take-le, take-take, drop-cons, take-suc-set, take-set-le, drop-set-lt, drop-set-add, getD-set-same, getD-drop, lt-length-set, append-snoc, drop-length, drop-append-add, drop-drop}
-use borrow.Author.Tests.{eqb-true}
-use Rattle.octets.specs.Store.{stored, cleared, movedDown, cutOut, gapOpened, allZero}
-use Rattle.octets.proofs.Cases.{by-test, apart, both, same-test}
+use Rattle.octets.specs.Store.{stored, cleared, movedDown, cutOut, gapOpened}
 
 -- storing, from the first octet on
 pub paste-more : (b d : List ℕ) (at : ℕ) (s : List ℕ) (i v : ℕ) → at + i < length d → i < length s → b ≡ paste d at s i → v ≡ getD s i 0
@@ -139,39 +134,3 @@ stored-opened b at s h =
     let r : List ℕ = take (length b - (at + length s)) (drop at b) in
     let k : length (take (at + length s) b) ≡ at + length s = length-take-le (at + length s) b h in
     rw (take-append-le at (take (at + length s) b) r (omega arith), take-take at (at + length s) b (omega arith), drop-at (take (at + length s) b) r (at + length s) k, append-assoc)
-
--- two octets have no bit set where each has none
-zero-or : (a b : ℕ) → eqb (bitOr a b) 0 ≡ (eqb a 0 && eqb b 0)
-zero-or a b =
-    same-test (eqb (bitOr a b) 0) (eqb a 0 && eqb b 0)
-    (λ t.
-    let none = eqb-true (bitOr a b) 0 t in
-    let sum = or-add-and a b in
-    let x : a ≡ 0 = omega (arith, and-le-l a b, and-le-r a b) in
-    let y : b ≡ 0 = omega (arith, and-le-l a b, and-le-r a b) in
-    rw (x, y))
-    (λ t.
-    let ts = both (eqb a 0) (eqb b 0) t in
-    rw (eqb-true a 0 (ts .0), eqb-true b 0 (ts .1)))
-
--- looking for a bit that is set, in one octet after another
-pub zero-more : (s : List ℕ) (i seen : ℕ) (t : Bool) → i < length s → t ≡ (eqb seen 0 && allZero (drop i s))
-    → t ≡ (eqb (bitOr seen (getD s i 0)) 0 && allZero (drop (i + 1) s))
-unfolding allZero
-zero-more s i seen t h e =
-    e ∙ rw (drop-cons s i 0 h, allZero, zero-or seen (getD s i 0), add-one) (sym (and-assoc (eqb seen 0) (eqb (getD s i 0) 0) (allZero (drop (suc i) s))))
-
-pub zero-all : (s : List ℕ) (i seen : ℕ) (t : Bool) → length s ≤ i → t ≡ (eqb seen 0 && allZero (drop i s)) → eqb seen 0 ≡ t
-unfolding allZero
-zero-all s i seen t h e = sym (e ∙ rw (drop-of-length-le s h, allZero) (and-true (eqb seen 0)))
-
-pub all-zero : (s : List ℕ) → allZero s ≡ true → s ≡ replicate (length s) 0
-unfolding allZero
-all-zero [] e = refl
-all-zero (x ∷ s) e =
-    by-test (eqb x 0) (λ t. let z = eqb-true x 0 t in let r = all-zero s (rw t at e) in λ j. z j ∷ r j) (λ f. apart (cc))
-
-pub zeros-zero : (n : ℕ) → allZero (replicate n 0) ≡ true
-unfolding allZero
-zeros-zero zero = refl
-zeros-zero (suc n) = zeros-zero n

@@ -1,9 +1,7 @@
 -- What a buffer holds after a change to a part inside it, which keeps its length: octets stored at a place, the octets from a place on
 -- cleared, a part of the buffer cut out, a gap opened in it. `size` counts octets, and `at` and `from` are places counted from 0.
 use Prim.Native.Nat.{ℕ, _+_, _-_}
-use mathlib.Core.Bool.{Bool, true, _&&_}
-use mathlib.Core.List.{List, [], _∷_, _++_}
-use lib.Dec.{eqb}
+use mathlib.Core.List.{List, _++_}
 use lib.ListN.{length, take, drop, replicate}
 
 -- The buffer with s from a place on, and its other octets kept.
@@ -25,8 +23,3 @@ cutOut buffer at size = take at buffer ++ (drop (at + size) buffer ++ replicate 
 -- The buffer with all from a place on moved up, so that its last octets fall off; the gap's own octets are not yet changed.
 unfoldable pub gapOpened : List ℕ → ℕ → ℕ → List ℕ
 gapOpened buffer at size = take (at + size) buffer ++ take (length buffer - (at + size)) (drop at buffer)
-
--- Every octet is 0.
-unfoldable pub allZero : List ℕ → Bool
-allZero [] = true
-allZero (octet ∷ s) = eqb octet 0 && allZero s

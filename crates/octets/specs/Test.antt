@@ -1,8 +1,21 @@
--- A test of a list's elements.
-use mathlib.Core.Bool.{Bool, true, _&&_}
+-- Tests of lists, element by element.
+use Prim.Native.Nat.{ℕ}
+use mathlib.Core.Bool.{Bool, true, false, _&&_}
 use mathlib.Core.List.{List, [], _∷_}
+use lib.Dec.{eqb}
 
 -- Every element passes the test.
 unfoldable pub every : {A : Type 0} → (A → Bool) → List A → Bool
 every test [] = true
 every test (x ∷ xs) = test x && every test xs
+
+-- Every octet is 0.
+unfoldable pub allZero : List ℕ → Bool
+allZero s = every (λ octet. eqb octet 0) s
+
+-- The same octets: as many, and each equal to the other's at its place.
+unfoldable pub sameOctets : List ℕ → List ℕ → Bool
+sameOctets [] [] = true
+sameOctets [] (y ∷ ys) = false
+sameOctets (x ∷ xs) [] = false
+sameOctets (x ∷ xs) (y ∷ ys) = eqb x y && sameOctets xs ys

@@ -6,7 +6,8 @@ ghost use Prim.Native.Nat.{_+_, _<_, _≤_, _^_, compare};
 ghost use lib.ListN.{length, getD, take, drop};
 ghost use Rattle.octets.specs.Number.{numberAt, octetsOf};
 ghost use Rattle.octets.specs.Order.{lex, ordered};
-ghost use Rattle.octets.specs.Store.{stored, cleared, movedDown, cutOut, gapOpened, allZero};
+ghost use Rattle.octets.specs.Store.{stored, cleared, movedDown, cutOut, gapOpened};
+ghost use Rattle.octets.specs.Test.{allZero, sameOctets};
 
 // Which of two comes first.
 pub enum Order {
@@ -22,39 +23,35 @@ pub fn octet_at(s: &[u8], at: usize) -> u8
     if at < s.len() { s[at] } else { 0 }
 }
 
-// The number in the n octets that begin at a place, the highest first, where some of them may lie past the end.
-fn number_past_end(n: usize, s: &[u8], at: usize) -> u64
-    requires { ⌜ (n ≤ 8) × (at + n < 2 ^ 64) ⌝ }
-    ensures { λ r. ⌜ (r ≡ numberAt n (now (s .entry)) at) × (r < 256 ^ n) ⌝ }
+// The number in at most eight octets, the highest first.
+fn number_of(s: &[u8]) -> u64
+    requires { ⌜ length (now s) ≤ 8 ⌝ }
+    ensures { λ r. ⌜ (r ≡ numberAt (length (now (s .entry))) (now (s .entry)) 0) × (r < 256 ^ length (now (s .entry))) ⌝ }
 {
     let mut number: u64 = 0;
     let mut i = 0;
-    while i < n {
-        let place = at + i;
-        let octet = octet_at(s, place);
+    while i < s.len() {
+        let octet = s[i];
         number = number * 256 + octet as u64;
         i += 1;
     }
     number
 }
 
-// The number in the n octets that begin at a place, the highest first. Where all of them are there, none is tested against the end.
+// The number in the n octets that begin at a place, the highest first; each that lies past the end counts as 0.
 pub fn number_at(n: usize, s: &[u8], at: usize) -> u64
     requires { ⌜ (n ≤ 8) × (at + n < 2 ^ 64) ⌝ }
     ensures { λ r. ⌜ (r ≡ numberAt n (now (s .entry)) at) × (r < 256 ^ n) ⌝ }
 {
-    if s.len() < at + n {
-        return number_past_end(n, s, at);
+    let end = at + n;
+    if end <= s.len() {
+        return number_of(&s[at..end]);
     }
-    let mut number: u64 = 0;
-    let mut i = 0;
-    while i < n {
-        let place = at + i;
-        let octet = s[place];
-        number = number * 256 + octet as u64;
-        i += 1;
+    if s.len() <= at {
+        return 0;
     }
-    number
+    let missing = end - s.len();
+    number_of(&s[at..]) << (missing * 8)
 }
 
 // Which of two numbers comes first: the lower.
@@ -91,6 +88,17 @@ pub fn compare_octets(a: &[u8], b: &[u8]) -> Order
             return Order::Second;
         }
         i += 1;
+    }
+}
+
+// Whether two slices hold the same octets.
+pub fn same_octets(a: &[u8], b: &[u8]) -> bool
+    ensures { λ r. ⌜ r ≡ sameOctets (now (a .entry)) (now (b .entry)) ⌝ }
+{
+    match compare_octets(a, b) {
+        Order::First => false,
+        Order::Second => false,
+        Order::Same => true,
     }
 }
 

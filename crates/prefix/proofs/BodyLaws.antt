@@ -13,38 +13,9 @@ use lib.Pow.{pow-add, split}
 use lib.Seq.{ext-getD}
 use Rattle.octets.specs.Number.{numberAt}
 use Rattle.octets.proofs.Facts.{Octets}
-use Rattle.octets.proofs.NumberLaws.{number-more, grows}
+use Rattle.octets.proofs.NumberLaws.{number-more, number-small, number-only, number-past, octets-bits}
 use Rattle.prefix.specs.Prefix.{prefixOf, WellFormed}
 use Rattle.prefix.specs.declared.Prefix.{Prefix}
-
--- a number of n octets
-number-fits : (n : ℕ) (s : List ℕ) (at : ℕ) → Octets s → numberAt n s at < 256 ^ n
-unfolding numberAt
-number-fits zero s at o = omega arith
-number-fits (suc n) s at o = rw (← add-one n) (grows n (numberAt n s at) (getD s (at + n) 0) (number-fits n s at o) (o (at + n)))
-
--- equal numbers have equal octets
-number-only : (n : ℕ) (s t : List ℕ) (at : ℕ) → Octets s → Octets t → numberAt n s at ≡ numberAt n t at → (i : ℕ) → i < n
-    → getD s (at + i) 0 ≡ getD t (at + i) 0
-unfolding numberAt
-number-only zero s t at o p e i h = absurd (omega arith)
-number-only (suc n) s t at o p e i h =
-    let a = o (at + n) in
-    let b = p (at + n) in
-    let high : numberAt n s at ≡ numberAt n t at = omega arith in
-    let low : getD s (at + n) 0 ≡ getD t (at + n) 0 = omega arith in
-    elim (decLt i n) [
-      | yes l ↦ number-only n s t at o p high i l
-      | no l ↦ let f : i ≡ n = omega arith in rw f low
-    ]
-
--- octets past the end add zeros
-number-past : (n j : ℕ) (s : List ℕ) (at : ℕ) → length s ≤ at + n → numberAt (n + j) s at ≡ numberAt n s at * 256 ^ j
-unfolding numberAt
-number-past n zero s at h = rw (add-zero n) (sym (mul-one (numberAt n s at)))
-number-past n (suc j) s at h =
-    let past = List·getD-eq-default s 0 {n = at + (n + j)} (omega arith) in
-    rw (add-suc n j, number-past n j s at h, past, pow-suc, ← mul-assoc (numberAt n s at) (256 ^ j) 256) (add-zero _)
 
 -- bodies of one length that spell the same prefix are the same body
 pub body-only : (w : ℕ) (x y : List ℕ) → Octets x → Octets y → length x ≡ length y → length x ≤ 1 + w / 8 → prefixOf w x ≡ prefixOf w y → x ≡ y
@@ -56,11 +27,6 @@ body-only w x y o p l h e = ext-getD 0 x y l same
     same (suc i) k =
         let f : suc i ≡ 1 + i = omega arith in
         rw f (number-only (w / 8) x y 1 o p (ap (λ (q : Prefix). q .address) e) i (omega arith))
-
--- n octets are 8 n bits
-octets-bits : (n : ℕ) → 256 ^ n ≡ 2 ^ (8 * n)
-octets-bits zero = refl
-octets-bits (suc n) = rw (pow-suc 256 n, mul-suc 8 n, pow-add 2 (8 * n) 8, octets-bits n)
 
 -- a number whose last octet ends in d clear bits ends in d clear bits, and zeros after it are so many more
 last-clear : (n d : ℕ) (s : List ℕ) (at : ℕ) → d ≤ 8 → getD s (at + n) 0 % 2 ^ d ≡ 0 → numberAt (n + 1) s at % 2 ^ d ≡ 0
@@ -105,6 +71,6 @@ body-formed k n body o h m a b c =
     let e : 8 * k / 8 ≡ k = mul-div-right k (lit< tt) in
     record {
       within = omega arith;
-      fits = rw (e, ← octets-bits k) (number-fits k body 1 o);
+      fits = rw (e, ← octets-bits k) (number-small k body 1 o);
       clear = rw e (body-clear k n (getD body 0 0) body h m a b c);
     }

@@ -15,6 +15,7 @@ use Rattle.octets.specs.Test.{every}
 use Rattle.octets.specs.Store.{stored, cutOut, gapOpened}
 use Rattle.octets.proofs.Cases.{apart}
 use Rattle.octets.proofs.Facts.{Octets}
+use Rattle.octets.proofs.TestLaws.{every-both}
 use Rattle.sorted.specs.Table.{lookup, insert, remove}
 use Rattle.sorted.specs.Split.{front, rear, skip}
 use Rattle.sorted.specs.History.{costs, isHeld}
@@ -36,7 +37,7 @@ use Rattle.table.specs.Sound.{cost, tableOf, Encodes, soundTable}
 use Rattle.table.specs.Place.{placeIn}
 use Rattle.table.specs.Change.{holds, removed, hasRoom, inserted, announced}
 use Rattle.table.proofs.SpliceLaws.{cut-front, gap-front, table-rest, table-record, table-cut, table-over, table-put}
-use Rattle.table.proofs.EntryLaws.{every-both, octets-between}
+use Rattle.table.proofs.EntryLaws.{octets-between}
 use Rattle.table.proofs.FindLaws.{place-start, place-held, place-absent}
 use Rattle.table.proofs.SoundLaws.{sound-encodes}
 

@@ -33,10 +33,6 @@ use Rattle.table.proofs.WalkLaws.{was-found}
 abbrev pub entriesFrom : List ℕ → ℕ → List Entry
 entriesFrom t at = map entryOf (recordsFrom t at .items)
 
-pub every-both : {A : Type 0} (test : A → Bool) (x : A) (xs : List A) → every test (x ∷ xs) ≡ true → (test x ≡ true) × (every test xs ≡ true)
-unfolding every
-every-both test x xs e = both (test x) (every test xs) e
-
 drop-take : (m n : ℕ) (l : List ℕ) → drop m (take n l) ≡ take (n - m) (drop m l)
 drop-take zero n l = rw (sub-zero n)
 drop-take (suc m) zero l = let z : 0 - suc m ≡ 0 = omega arith in rw z

@@ -16,6 +16,7 @@ use Rattle.octets.specs.declared.Order.{Order}
 use Rattle.octets.specs.declared.Order.the-variants.{First, Second, Same}
 use Rattle.octets.proofs.Cases.{apart, both}
 use Rattle.octets.proofs.Facts.{Octets}
+use Rattle.octets.proofs.TestLaws.{every-both}
 use Rattle.sorted.specs.Table.{byOrder, lookup}
 use Rattle.sorted.specs.Split.{front}
 use Rattle.sorted.specs.History.{costs}
@@ -32,7 +33,7 @@ use Rattle.table.specs.Walk.{recordAt, recordsFrom, records, entries}
 use Rattle.table.specs.Sound.{mostOctets, cost, soundTable}
 use Rattle.table.specs.Place.{placeIn}
 use Rattle.table.proofs.WalkLaws.{was-found, records-more, records-end, records-unsound}
-use Rattle.table.proofs.EntryLaws.{entriesFrom, every-both, octets-between, value-there, cost-there, plain-order, good-value}
+use Rattle.table.proofs.EntryLaws.{entriesFrom, octets-between, value-there, cost-there, plain-order, good-value}
 
 items : Walk (List ℕ) Bool → List (List ℕ)
 items w = w .items

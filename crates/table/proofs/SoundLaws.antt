@@ -10,13 +10,13 @@ use lib.Dec.{leb}
 use lib.ListN.{length, getD, take, drop, replicate, length-append, length-drop, take-append-drop}
 use lib.Seq.{drop-drop, drop-at, take-at, getD-append-add, getD-take, getD-drop}
 use borrow.Author.Tests.{leb-true, le-leb}
-use Rattle.octets.specs.Test.{every}
+use Rattle.octets.specs.Test.{every, allZero}
 use Rattle.octets.specs.Number.{numberAt}
-use Rattle.octets.specs.Store.{allZero}
 use Rattle.octets.specs.Walk.{Walk, before}
 use Rattle.octets.proofs.Cases.{apart, both}
 use Rattle.octets.proofs.Facts.{Octets}
-use Rattle.octets.proofs.StoreLaws.{all-zero, zeros-zero}
+use Rattle.octets.proofs.NumberLaws.{number-behind, number-part}
+use Rattle.octets.proofs.TestLaws.{every-both, all-zero, zeros-zero}
 use Rattle.sorted.specs.History.{costs}
 use Rattle.sorted.proofs.TableLaws.{sorted-test, test-sorted}
 use Rattle.rule.specs.declared.Family.{Family}
@@ -30,21 +30,7 @@ use Rattle.table.specs.declared.NextRecord.the-variants.{Nothing, Record
 use Rattle.table.specs.Walk.{recordAt, recordsFrom, records, entries}
 use Rattle.table.specs.Sound.{mostOctets, cost, joined, tableOf, Encodes, soundTable}
 use Rattle.table.proofs.WalkLaws.{was-found, rest-zero, records-more, records-end, records-ind, at-end, at-record}
-use Rattle.table.proofs.EntryLaws.{every-both, octets-between, length-there, cost-there}
-
--- a number behind other octets, and in a part
-number-behind : (n : ℕ) (p s : List ℕ) (k : ℕ) → numberAt n (p ++ s) (length p + k) ≡ numberAt n s k
-unfolding numberAt
-number-behind zero p s k = refl
-number-behind (suc n) p s k =
-    let e : length p + k + n ≡ length p + (k + n) = omega arith in
-    rw (number-behind n p s k, e, getD-append-add p s (k + n) 0)
-
-number-part : (n m at : ℕ) (t : List ℕ) → n ≤ m → numberAt n (take m (drop at t)) 0 ≡ numberAt n t at
-unfolding numberAt
-number-part zero m at t h = refl
-number-part (suc n) m at t h =
-    rw (number-part n m at t (omega arith), zero-add n, getD-take m (drop at t) n 0 (omega arith), getD-drop at t n 0)
+use Rattle.table.proofs.EntryLaws.{octets-between, length-there, cost-there}
 
 number-zeros : (n m : ℕ) → numberAt n (replicate m 0) 0 ≡ 0
 unfolding numberAt

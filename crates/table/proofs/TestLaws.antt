@@ -12,7 +12,7 @@ use Rattle.octets.specs.Test.{every}
 use Rattle.octets.specs.Order.{ordered}
 use Rattle.octets.specs.declared.Order.{Order}
 use Rattle.octets.specs.declared.Order.the-variants.{First}
-use Rattle.octets.proofs.Cases.{by-test, apart}
+use Rattle.octets.proofs.Cases.{by-test, apart, and-false}
 use Rattle.octets.proofs.Facts.{Octets}
 use Rattle.sorted.specs.Table.{byOrder, below, sorted}
 use Rattle.sorted.specs.History.{costs}
@@ -90,10 +90,6 @@ test-starts t h =
 pub test-long : (t : List ℕ) → 65536 < length t → NotSound ≡ soundness ipv4 t
 unfolding soundness soundTable
 test-long t h = rw (lt-leb (length t) mostOctets h)
-
-and-false : (b : Bool) → b && false ≡ false
-and-false true = refl
-and-false false = refl
 
 module _ (t : List ℕ) (previous at : ℕ) (s : Testing t previous at) where
   pub test-end : (next : NextRecord) → next ≡ recordAt t at → next ≡ Nothing → Sound at ≡ soundness ipv4 t

@@ -9,7 +9,7 @@ use lib.Dec.{ltb, eqb}
 use lib.ListN.{length, drop}
 use borrow.Author.Tests.{eq-eqb, ne-eqb, lt-ltb, le-ltb, ltb-false, eqb-false}
 use Rattle.octets.specs.Number.{numberAt}
-use Rattle.octets.specs.Store.{allZero}
+use Rattle.octets.specs.Test.{allZero}
 use Rattle.octets.specs.Walk.{more, last, stop, Walk, before}
 use Rattle.octets.proofs.Cases.{by-test, apart}
 use Rattle.octets.proofs.WalkLaws.{walk-stop, walk-more, walk-ind}

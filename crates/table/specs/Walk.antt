@@ -6,7 +6,7 @@ use mathlib.Core.List.{List, map}
 use lib.Dec.{ltb, eqb}
 use lib.ListN.{length, drop}
 use Rattle.octets.specs.Number.{numberAt}
-use Rattle.octets.specs.Store.{allZero}
+use Rattle.octets.specs.Test.{allZero}
 use Rattle.octets.specs.Walk.{Step, more, stop, Walk, walk}
 use Rattle.rule.specs.Value.{between}
 use Rattle.table.specs.declared.NextRecord.{NextRecord}

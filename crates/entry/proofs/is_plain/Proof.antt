@@ -5,7 +5,7 @@ use mathlib.Core.Path.{_≡_}
 use native.Mathlib.Omega.{arith}
 use lib.ListN.{length, drop}
 use Rattle.rule.specs.Plain.{plain}
-use Rattle.entry.specs.Entry.{sameOctets}
+use Rattle.octets.specs.Test.{sameOctets}
 use Rattle.entry.proofs.ValueLaws.{plainFromHere, plain-starts, plain-not, plain-past, plain-behind, plain-all}
 use Rattle.entry.proofs.is_plain.Statement.{statement}
 use Rattle.entry.proofs.is_plain.Tie as tie

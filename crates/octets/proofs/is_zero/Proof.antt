@@ -5,8 +5,8 @@ use mathlib.Core.Path.{_≡_}
 use mathlib.Core.Bool.{_&&_}
 use lib.Dec.{eqb}
 use lib.ListN.{length, drop}
-use Rattle.octets.specs.Store.{allZero}
-use Rattle.octets.proofs.StoreLaws.{zero-more, zero-all}
+use Rattle.octets.specs.Test.{allZero}
+use Rattle.octets.proofs.TestLaws.{zero-more, zero-all}
 use Rattle.octets.proofs.is_zero.Statement.{statement}
 use Rattle.octets.proofs.is_zero.Tie as tie
 

@@ -1,93 +1,80 @@
--- The number of the octets read so far, which one more octet takes to the next.
+-- The octets are all there, none is, or the last of them are missing: one law for each.
 use borrow.Author.Needs.{needs}
-use Prim.Native.Nat.{_≤_, _<_, _+_, _-_, _*_, _^_}
-use mathlib.Core.Path.{_≡_, sym, _∙_}
+use mathlib.Core.Path.{refl}
+use Prim.Native.Nat.{_-_, _+_}
 use native.Mathlib.Omega.{arith}
-use lib.ListN.{getD}
-use Rattle.octets.specs.Number.{numberAt}
-use Rattle.octets.proofs.NumberLaws.{number-more, grows, fits}
+use lib.ListN.{length}
+use Rattle.octets.proofs.NumberLaws.{number-there, number-out, number-cut}
 use Rattle.octets.proofs.number_at.Statement.{statement}
 use Rattle.octets.proofs.number_at.Tie as tie
-use Rattle.octets.proofs.number_at.Reads as reads
-use Rattle.octets.proofs.number_at.Lts as lts
-use Rattle.octets.proofs.number_past_end.Reads as number-past-end-reads
 
-abbrev Inv-loop : tie.InvT-loop
-Inv-loop n s at number₀ i₀ number i = (i ≤ n) × (number ≡ numberAt i s at) × (number < 256 ^ i)
+add-end : tie.Need-add-end
+add-end c = search needs
 
-abbrev μ-loop : tie.MeasureT-loop
-μ-loop n s at number₀ i₀ number i = n - i
+sub-number-of : tie.Need-sub-number-of
+sub-number-of c = search needs
 
--- the octet that is read
-small : (c : tie.After-shared-slice-known2 Inv-loop μ-loop) → getD (c .before .before .before .before .before .args .s .now) (c .before .before .before .before .before .args .at + c .before .before .loop .i) 0 < 256
-small c = c .shared-slice-known2 .given (c .before .before .before .before .before .args .at + c .before .before .loop .i) .fits
+part-number-of-start : tie.Need-part-number-of-start
+part-number-of-start c = search needs
 
-room : (c : tie.After-shared-slice-known2 Inv-loop μ-loop) → c .before .before .loop .number * 256 + 255 < 2 ^ 64
-room c = fits (c .before .before .loop .i) (c .before .before .loop .number) (omega arith) (c .before .before .loop .inv .2)
+part-number-of-end : tie.Need-part-number-of-end
+part-number-of-end c = search needs
 
-add-if1 : tie.Need-add-if1 Inv-loop μ-loop
-add-if1 c = search needs
+number-of-requires : tie.Need-number-of-requires
+number-of-requires c κs = search needs
 
-number-past-end-requires : tie.Need-number-past-end-requires Inv-loop μ-loop
-number-past-end-requires c κs = search needs
+returns : tie.Need-returns
+returns c =
+    let a = c .before .before .before .before .args in
+    number-there (a .n) (a .at + a .n - a .at) (a .at) _ (a .s .now) _ (omega arith) (omega arith) refl (c .number-of .ensures)
 
-returns : tie.Need-returns Inv-loop μ-loop
-returns c = search needs
+returns-2 : tie.Need-returns-2
+returns-2 c = number-out _ _ _ (omega arith)
 
-loop-holds : tie.Need-loop-holds Inv-loop μ-loop
-unfolding numberAt
-loop-holds c = search needs
+sub-missing : tie.Need-sub-missing
+sub-missing c = search needs
 
-add-place : tie.Need-add-place Inv-loop μ-loop
-add-place c = search needs
+sub-number-of-2 : tie.Need-sub-number-of-2
+sub-number-of-2 c = search needs
 
-shared-slice-read-octet : tie.Need-shared-slice-read-octet Inv-loop μ-loop
-shared-slice-read-octet c = omega arith
+part-number-of-start-2 : tie.Need-part-number-of-start-2
+part-number-of-start-2 c = search needs
 
-mul-number : tie.Need-mul-number Inv-loop μ-loop
-mul-number c = omega (arith, room c)
+part-number-of-end-2 : tie.Need-part-number-of-end-2
+part-number-of-end-2 c = search needs
 
-cast-number : tie.Need-cast-number Inv-loop μ-loop
-cast-number c = omega (arith, small c)
+number-of-requires-2 : tie.Need-number-of-requires-2
+number-of-requires-2 c κs = search needs
 
-add-number : tie.Need-add-number Inv-loop μ-loop
-add-number c = omega (arith, room c, small c)
+mul-result : tie.Need-mul-result
+mul-result c = search needs
 
-add-i : tie.Need-add-i Inv-loop μ-loop
-add-i c = search needs
+shl-result : tie.Need-shl-result
+shl-result c = search needs
 
-loop-less : tie.Need-loop-less Inv-loop μ-loop
-loop-less c = search needs
-
-loop-again : tie.Need-loop-again Inv-loop μ-loop
-loop-again c = let l = c .before .before .loop in
-    let a = c .before .before .before .before .before .args in (
-      omega arith,
-      rw (l .inv .1) (sym (number-more (l .i) (a .s .now) (a .at))),
-      grows (l .i) (l .number) (getD (a .s .now) (a .at + l .i) 0) (l .inv .2) (small c),
-    )
-
-returns-2 : tie.Need-returns-2 Inv-loop μ-loop
-returns-2 c = let l = c .before .loop in
-    let e : l .i ≡ c .before .before .before .before .args .n = omega arith in
-    (l .inv .1 ∙ rw e, rw e at (l .inv .2))
+returns-3 : tie.Need-returns-3
+returns-3 c =
+    let a = c .before .before .before .before .before .args in
+    let s = a .s .now in
+    number-cut (a .n) (a .at + a .n - length s) (a .at) _ s (omega arith) (omega arith) (omega arith)
+    (number-there (length s - a .at) (length s - a .at) (a .at) _ s _ (omega arith) (omega arith) refl (c .number-of2 .ensures))
 
 pub number-at-spec : {M : Type 1} → statement M
 number-at-spec =
     tie.close
     (tie.spec
-    Inv-loop
-    μ-loop
-    add-if1
-    number-past-end-requires
+    add-end
+    sub-number-of
+    part-number-of-start
+    part-number-of-end
+    number-of-requires
     returns
-    loop-holds
-    add-place
-    shared-slice-read-octet
-    mul-number
-    cast-number
-    add-number
-    add-i
-    loop-less
-    loop-again
-    returns-2)
+    returns-2
+    sub-missing
+    sub-number-of-2
+    part-number-of-start-2
+    part-number-of-end-2
+    number-of-requires-2
+    mul-result
+    shl-result
+    returns-3)
