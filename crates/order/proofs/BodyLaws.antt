@@ -77,10 +77,10 @@ prefix-clear n (x ∷ r) h l =
     by-test (eqb x 0)
     (λ t.
     let z = eqb-true x 0 t in
-    rw (t, number-behind n x (plainFrom Kind r) 0, none-spelled n Kind r (omega arith)) (zero-mod (2 ^ (8 * n - x))))
+    rw (t, number-behind n (x ∷ []) (plainFrom Kind r) 0, none-spelled n Kind r (omega arith)) (zero-mod (2 ^ (8 * n - x))))
     (λ t.
     let z = eqb-false x 0 t in
-    rw (t, number-behind n x (plainFrom (Address x) r) 0) (address-clear n x r (omega arith) h (omega arith)))
+    rw (t, number-behind n (x ∷ []) (plainFrom (Address x) r) 0) (address-clear n x r (omega arith) h (omega arith)))
 
 -- a component in the plain spelling: octets, and a prefix's body is whole and spells a plain prefix
 pub record PlainBody (family : Family) (p : Part) : Type 0 where

@@ -170,8 +170,8 @@ first-kept n (x ∷ r) o h =
     let some = eqb-false x 0 t in
     rw (
       t,
-      number-behind n x (plainFrom (Address x) r) 0,
-      number-behind n x r 0,
+      number-behind n (x ∷ []) (plainFrom (Address x) r) 0,
+      number-behind n (x ∷ []) r 0,
       first-of (8 * n) x (numberAt n (plainFrom (Address x) r) 0) h,
       first-of (8 * n) x (numberAt n r 0) h,
       address-same n x r (λ i. o (suc i)) (omega arith) h,

@@ -1,14 +1,13 @@
 -- The prefix that a component's body spells: a plain body spells a well-formed prefix, and no two bodies of one length spell the same.
 -- Assumes nothing.
-use mathlib.Core.Path.{_≡_, refl, ap, sym, _∙_}
+use mathlib.Core.Path.{_≡_, ap, _∙_}
 use mathlib.Core.List.{List}
 use Prim.Native.Nat.{ℕ, zero, suc, _+_, _-_, _*_, _/_, _%_, _^_, _≤_, _<_}
 use native.Mathlib.Omega.{arith}
-use native.Mathlib.Decide.{decLt}
-use native.Mathlib.Nat.{pow-suc, mul-suc, add-suc, add-zero, mul-one, mul-assoc, mul-add-mod-self-right, mul-mod-left, mul-div-right, zero-mod}
+use native.Mathlib.Nat.{mul-assoc, mul-add-mod-self-right, mul-mod-left, mul-div-right, zero-mod}
 use native.Mathlib.Numerals.{add-one}
 use lib.Dec.{lit<}
-use lib.ListN.{length, getD, List·getD-eq-default}
+use lib.ListN.{length, getD}
 use lib.Pow.{pow-add, split}
 use lib.Seq.{ext-getD}
 use Rattle.octets.specs.Number.{numberAt}

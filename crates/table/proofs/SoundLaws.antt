@@ -8,7 +8,7 @@ use native.Mathlib.Omega.{arith}
 use native.Mathlib.Nat.{sub-zero, add-zero, zero-add}
 use lib.Dec.{leb}
 use lib.ListN.{length, getD, take, drop, replicate, length-append, length-drop, take-append-drop}
-use lib.Seq.{drop-drop, drop-at, take-at, getD-append-add, getD-take, getD-drop}
+use lib.Seq.{drop-drop, drop-at, take-at}
 use borrow.Author.Tests.{leb-true, le-leb}
 use Rattle.octets.specs.Test.{every, allZero}
 use Rattle.octets.specs.Number.{numberAt}
