@@ -1,12 +1,12 @@
 -- What an announcement asks: one law for each way in which the code comes to it. Assumes nothing.
-use mathlib.Core.Path.{_≡_, refl, sym, subst, _∙_}
+use mathlib.Core.Path.{_≡_, refl, sym, _∙_}
 use mathlib.Core.Bool.{Bool, true, false, not}
 use mathlib.Core.List.{List}
 use Prim.Native.Nat.{ℕ, _+_, _-_}
 use native.Mathlib.Nat.{add-sub-cancel-left}
 use lib.ListN.{take, drop}
 use borrow.Author.Tests.{not-true, not-false, eq-eqb, ne-eqb}
-use Rattle.octets.proofs.Cases.{by-test}
+use Rattle.octets.proofs.Cases.{by-test, apart}
 use Rattle.rule.specs.declared.Family.{Family}
 use Rattle.rule.specs.declared.Reading.{Reading}
 use Rattle.rule.specs.declared.Reading.the-variants.{Rule, Refused as NotRead}
@@ -21,11 +21,10 @@ use Rattle.action.specs.declared.Actions.{Actions}
 use Rattle.action.specs.declared.Reading.{Reading as ActionsReading}
 use Rattle.action.specs.declared.Reading.the-variants.{Read, Unsound}
 use Rattle.action.specs.Actions.{actionsOf}
-use Rattle.flowspec.specs.declared.Request.{Request}
 use Rattle.flowspec.specs.declared.Request.the-variants.{Announce, Refused}
 use Rattle.flowspec.specs.declared.Change.the-variants.{Done, Refused as NotChanged}
 use Rattle.flowspec.specs.Feasibility.{isFeasible}
-use Rattle.flowspec.specs.Announce.{changeOf, askedBy, asked}
+use Rattle.flowspec.specs.Announce.{changeOf, valueOf, askedBy, asked}
 
 -- how `change_of` comes to its answers
 pub change-done : (number : ℕ) → number ≡ 0 → Done ≡ changeOf number
@@ -66,21 +65,30 @@ module _ (relaxed : Bool) (words rule : List ℕ) (originator : ℕ) (communitie
             let where-to = rw (add-sub-cancel-left start size) at d in
             rw (← is, not-false sound ok, found, e, ← acts, h, j, where-to)
 
--- the rule of an announcement that asks for something was read
-abbrev Says : List ℕ → Request → Type 0
-Says rule (Announce start size actions feasible) = ReadRule ipv4 rule start size
-Says rule (Refused number place) = Unit {0}
+-- what an announcement that asks for an entry was read from, and how it was judged
+pub record Asked (relaxed : Bool) (words rule : List ℕ) (originator : ℕ) (communities : List ℕ) (start size : ℕ) (actions : Actions) (judged : Bool) : Type 0 where
+  pub read : oneRule ipv4 rule ≡ Rule start size
+  pub acts : actionsOf communities ≡ Read actions
+  pub is : judged ≡ isFeasible relaxed words (valueOf rule start size) originator
 
-module _ (relaxed : Bool) (words rule : List ℕ) (originator : ℕ) (communities : List ℕ) where
-  asked-says : Says rule (asked relaxed words rule originator communities)
+module _ (relaxed : Bool) (words rule : List ℕ) (originator : ℕ) (communities : List ℕ) (start size : ℕ) (actions : Actions) (judged : Bool) where
+  pub asked-from : asked relaxed words rule originator communities ≡ Announce start size actions judged
+      → Asked relaxed words rule originator communities start size actions judged
   unfolding asked
-  asked-says = by-test (soundRoutes 32 words) (λ h. rw h (go (oneRule ipv4 rule) refl (actionsOf communities))) (λ h. rw h tt)
+  asked-from e =
+      by-test (soundRoutes 32 words) (λ h. go (oneRule ipv4 rule) refl (actionsOf communities) refl (rw h at e)) (λ h. let z = rw h at e in apart (cc))
     where
-      go : (r : Reading) → oneRule ipv4 rule ≡ r → (a : ActionsReading) → Says rule (askedBy relaxed words rule originator r a)
-      go (Rule start size) e Unsound = tt
-      go (Rule start size) e (Read actions) = one-read ipv4 rule start size e
-      go (NotRead number place) e a = tt
+      go : (r : Reading) → oneRule ipv4 rule ≡ r → (a : ActionsReading) → actionsOf communities ≡ a
+          → askedBy relaxed words rule originator r a ≡ Announce start size actions judged
+          → Asked relaxed words rule originator communities start size actions judged
+      go (NotRead number place) f a g z = apart (cc)
+      go (Rule begin extent) f Unsound g z = apart (cc)
+      go (Rule begin extent) f (Read read) g z =
+          let starts : begin ≡ start = cc in
+          let sizes : extent ≡ size = cc in
+          let reads : read ≡ actions = cc in
+          let judges : isFeasible relaxed words (valueOf rule begin extent) originator ≡ judged = cc in
+          record { read = f ∙ rw (starts, sizes); acts = g ∙ rw reads; is = sym judges ∙ rw (starts, sizes) }
 
-  pub asked-rule : (start size : ℕ) (actions : Actions) (feasible : Bool) → asked relaxed words rule originator communities ≡ Announce start size actions feasible
-      → ReadRule ipv4 rule start size
-  asked-rule start size actions feasible e = subst (Says rule) e asked-says
+  pub asked-rule : asked relaxed words rule originator communities ≡ Announce start size actions judged → ReadRule ipv4 rule start size
+  asked-rule e = one-read ipv4 rule start size (asked-from e .read)

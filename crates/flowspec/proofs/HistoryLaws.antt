@@ -28,10 +28,6 @@ use Rattle.rule.specs.Family.{ipv4}
 use Rattle.rule.specs.Plain.{plain}
 use Rattle.rule.specs.Reading.{oneRule}
 use Rattle.rule.proofs.ReadingLaws.{one-read}
-use Rattle.route.specs.Route.{soundRoutes}
-use Rattle.action.specs.declared.Reading.{Reading as ActionsReading}
-use Rattle.action.specs.declared.Reading.the-variants.{Read, Unsound}
-use Rattle.action.specs.Actions.{actionsOf}
 use Rattle.action.proofs.PossibleLaws.{read-possible}
 use Rattle.order.specs.Key.{keysOf, keyOrder}
 use Rattle.order.proofs.KeyLaws.{key-order}
@@ -47,9 +43,10 @@ use Rattle.table.proofs.CallLaws.{plain-held}
 use Rattle.flowspec.specs.declared.Change.{Change}
 use Rattle.flowspec.specs.declared.Request.{Request}
 use Rattle.flowspec.specs.declared.Request.the-variants.{Announce, Refused as NotAsked}
-use Rattle.flowspec.specs.Announce.{Outcome, changeOf, outcome, valueOf, askedBy, asked, announcedBy, announcing, withdrawnBy, withdrawing}
+use Rattle.flowspec.specs.Announce.{Outcome, changeOf, outcome, valueOf, asked, announcedBy, announcing, withdrawnBy, withdrawing}
 use Rattle.flowspec.specs.History.{Call, announcement, withdrawal, Made, CanBe, EachCanBe, asksToAnnounce, asksToWithdraw, asks, Promised, Happened, isCounted, lastFrom, lastCounted, leavesInForce, inForceAfter, endOf, emptyTable}
 use Rattle.flowspec.specs.Told.{changeTold}
+use Rattle.flowspec.proofs.AskLaws.{asked-from}
 
 -- what holds of every entry and of a new one holds of every entry with it put in, and with one taken out
 pub every-insert : (test : Entry → Bool) (r : Entry) (es : List Entry) → test r ≡ true → every test es ≡ true
@@ -149,19 +146,17 @@ Could rule originator (Announce start size actions feasible) =
 
 pub asked-could : (relaxed : Bool) (routes rule : List ℕ) (originator : ℕ) (communities : List ℕ) → Octets rule → originator < 2 ^ 32
     → Could rule originator (asked relaxed routes rule originator communities)
-unfolding asked
 asked-could relaxed routes rule originator communities o small =
-    by-test (soundRoutes 32 routes) (λ h. rw h (go (oneRule ipv4 rule) refl (actionsOf communities) refl)) (λ h. rw h tt)
+    go (asked relaxed routes rule originator communities) refl
   where
-    go : (r : Reading) → oneRule ipv4 rule ≡ r → (a : ActionsReading) → actionsOf communities ≡ a
-        → Could rule originator (askedBy relaxed routes rule originator r a)
-    go (NotRead number place) e a f = tt
-    go (Rule start size) e Unsound f = tt
-    go (Rule start size) e (Read actions) f =
+    go : (r : Request) → asked relaxed routes rule originator communities ≡ r → Could rule originator r
+    go (NotAsked number place) e = tt
+    go (Announce start size actions feasible) e =
+        let from = asked-from relaxed routes rule originator communities start size actions feasible e in
         let octets = octets-value rule start size o in
         make-possible ipv4 (record { originator = originator; actions = actions; value = plain (valueOf rule start size) }) small
-        (read-possible communities actions f)
-        (plain-held (valueOf rule start size) octets (one-read ipv4 rule start size e .accepted))
+        (read-possible communities actions (from .acts))
+        (plain-held (valueOf rule start size) octets (one-read ipv4 rule start size (from .read) .accepted))
 
 -- one call
 module _ (relaxed : Bool) (routes : List ℕ) (t : List ℕ) (es : List Entry) (c : Encodes ipv4 t es) where

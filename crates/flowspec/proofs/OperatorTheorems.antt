@@ -13,19 +13,14 @@ use Rattle.octets.proofs.Facts.{Octets}
 use Rattle.sorted.specs.Table.{lookup, insert}
 use Rattle.sorted.specs.History.{costs, isHeld}
 use Rattle.sorted.proofs.TableLaws.{insert-sorted, insert-again, remove-insert, remove-absent, lookup-insert, insert-swap}
-use Rattle.rule.specs.declared.Reading.{Reading}
-use Rattle.rule.specs.declared.Reading.the-variants.{Rule, Refused as NotRead}
+use Rattle.rule.specs.declared.Reading.the-variants.{Rule}
 use Rattle.rule.specs.Family.{ipv4}
 use Rattle.rule.specs.Plain.{plain}
 use Rattle.rule.specs.Reading.{oneRule}
 use Rattle.order.specs.Precedence.{precedence}
 use Rattle.order.specs.Key.{keysOf, keyOrder}
 use Rattle.order.proofs.KeyLaws.{key-order, keys-plain, one-order}
-use Rattle.route.specs.Route.{soundRoutes}
 use Rattle.action.specs.declared.Actions.{Actions}
-use Rattle.action.specs.declared.Reading.{Reading as ActionsReading}
-use Rattle.action.specs.declared.Reading.the-variants.{Read, Unsound}
-use Rattle.action.specs.Actions.{actionsOf}
 use Rattle.entry.specs.Entry.{Entry, entryKey, possible}
 use Rattle.table.specs.Walk.{entries}
 use Rattle.table.specs.Sound.{cost, tableOf, soundTable, Encodes}
@@ -37,9 +32,10 @@ use Rattle.flowspec.specs.declared.Change.the-variants.{Done, Refused}
 use Rattle.flowspec.specs.declared.Comparison.the-variants.{Same}
 use Rattle.flowspec.specs.declared.Request.{Request}
 use Rattle.flowspec.specs.declared.Request.the-variants.{Announce, Refused as NotAsked}
-use Rattle.flowspec.specs.Announce.{Outcome, changeOf, valueOf, askedBy, asked, announcedBy, announcing, withdrawing}
+use Rattle.flowspec.specs.Announce.{Outcome, changeOf, valueOf, asked, announcedBy, announcing, withdrawing}
 use Rattle.flowspec.specs.Compare.{compareRules}
 use Rattle.flowspec.specs.Promise.{Announces, Withdraws}
+use Rattle.flowspec.proofs.AskLaws.{asked-from}
 use Rattle.flowspec.proofs.HistoryLaws.{every-insert, encoding, octets-value, asked-could}
 
 module _ (t : List ℕ) (c : Encodes ipv4 t (entries t)) where
@@ -90,22 +86,6 @@ module _ (t : List ℕ) (c : Encodes ipv4 t (entries t)) where
 -- the entry that an announcement asks for, by where its value stands in the rule and its actions as read
 abbrev announcedEntry : List ℕ → ℕ → ℕ → ℕ → Actions → Entry
 announcedEntry rule originator start size actions = record { originator = originator; actions = actions; value = plain (valueOf rule start size) }
-
--- an announcement that asks for an entry read its rule
-asked-read : (relaxed : Bool) (routes rule : List ℕ) (originator : ℕ) (communities : List ℕ) (start size : ℕ) (actions : Actions) (feasible : Bool)
-    → asked relaxed routes rule originator communities ≡ Announce start size actions feasible → oneRule ipv4 rule ≡ Rule start size
-unfolding asked
-asked-read relaxed routes rule originator communities start size actions feasible e =
-    by-test (soundRoutes 32 routes) (λ h. go (oneRule ipv4 rule) refl (actionsOf communities) (rw h at e)) (λ h. let z = rw h at e in apart (cc))
-  where
-    go : (r : Reading) → oneRule ipv4 rule ≡ r → (a : ActionsReading) → askedBy relaxed routes rule originator r a ≡ Announce start size actions feasible
-        → oneRule ipv4 rule ≡ Rule start size
-    go (NotRead number place) f a z = apart (cc)
-    go (Rule begin extent) f Unsound z = apart (cc)
-    go (Rule begin extent) f (Read read) z =
-        let starts : begin ≡ start = cc in
-        let sizes : extent ≡ size = cc in
-        f ∙ rw (starts, sizes)
 
 module _ (relaxed : Bool) (routes rule : List ℕ) (originator : ℕ) (communities : List ℕ) where
   -- what a done announcement asked, what it found, and what it left
@@ -174,7 +154,7 @@ module _ (relaxed : Bool) (routes rule : List ℕ) (originator : ℕ) (communiti
         )
 
     read : oneRule ipv4 rule ≡ Rule (stored .start) (stored .size)
-    read = asked-read relaxed routes rule originator communities (stored .start) (stored .size) (stored .actions) true (stored .asks)
+    read = asked-from relaxed routes rule originator communities (stored .start) (stored .size) (stored .actions) true (stored .asks) .read
 
     -- withdrawing from a table that holds the rule, and from any sound one
     withdraws : soundTable ipv4 (inserted ipv4 t entered) ≡ true → holds ipv4 (inserted ipv4 t entered) (entryKey ipv4 entered) ≡ true

@@ -59,19 +59,19 @@ abbrev pub EachCanBe : List Made → Type 0
 EachCanBe [] = Unit {0}
 EachCanBe (m ∷ h) = CanBe (m .call) × EachCanBe h
 
--- What two histories compare of a call: its kind and its answer and, of an announcement, the originator and the actions as read. The
--- rule's spelling and the communities' octets are not compared.
+-- What two histories compare of a call: its kind and, of an announcement, the originator and the actions as read. The rule's spelling,
+-- the communities' octets and the answer are not compared.
 pub data Deed : Type 0 where
-  announced : Change → ℕ → ActionsReading → Deed
-  withdrew : Change → Deed
+  announced : ℕ → ActionsReading → Deed
+  withdrew : Deed
 
-abbrev pub deed : Call → Change → Deed
-deed (announcement rule originator communities) answer = announced answer originator (actionsOf communities)
-deed (withdrawal rule) answer = withdrew answer
+abbrev pub deed : Call → Deed
+deed (announcement rule originator communities) = announced originator (actionsOf communities)
+deed (withdrawal rule) = withdrew
 
 abbrev pub deedOf : Option Made → Option Deed
 deedOf none = none
-deedOf (some m) = some (deed (m .call) (m .answer))
+deedOf (some m) = some (deed (m .call))
 
 module _ (relaxed : Bool) (routes : List ℕ) where
   abbrev pub asks : Call → Op (List (List ℕ)) Entry
