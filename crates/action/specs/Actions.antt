@@ -109,35 +109,17 @@ wrongLength octets = ltb (64 * 8) octets || not (eqb (octets % 8) 0)
 unfoldable pub actionsOf : List ℕ → Reading
 actionsOf s = cond (wrongLength (length s)) Unsound (withCommunities noActions (communitiesAt (length s / 8) s 0))
 
--- The answer's number and values: 0, or 13 and every value 0. Flags: 1 byte rate, 2 packet rate, 4 S, 8 T, 16 marking, 32 redirect.
-pub record Told : Type 0 where
-  pub number : ℕ
-  pub flags : ℕ
-  pub dscp : ℕ
-  pub byteRate : ℕ
-  pub packetRate : ℕ
-  pub redirect : ℕ
-
 -- A flag's value, if it is set.
 abbrev pub flag : Bool → ℕ → ℕ
 flag set value = cond set value 0
 
--- The flags of actions.
+-- 01: "flags (1: 1 byte rate, 2 packet rate, 4 S, 8 T, 16 marking, 32 redirect)".
 unfoldable pub flagsOf : Actions → ℕ
 flagsOf a =
     flag (a .bytes .present) 1 + flag (a .packets .present) 2 + flag (a .sample) 4 + flag (a .onward) 8
     + flag (a .marking .present) 16
     + flag (a .redirect .present) 32
 
--- The number and the values of an answer.
-unfoldable pub told : Reading → Told
-told (Read a) =
-    record {
-      number = 0;
-      flags = flagsOf a;
-      dscp = a .marking .number;
-      byteRate = a .bytes .number;
-      packetRate = a .packets .number;
-      redirect = a .redirect .number;
-    }
-told Unsound = record { number = 13; flags = 0; dscp = 0; byteRate = 0; packetRate = 0; redirect = 0 }
+-- The values of actions, in the order of a record: flags, DSCP, byte rate, packet rate, redirect community; an absent one is 0.
+abbrev pub valuesOf : Actions → List ℕ
+valuesOf a = flagsOf a ∷ a .marking .number ∷ a .bytes .number ∷ a .packets .number ∷ a .redirect .number ∷ []

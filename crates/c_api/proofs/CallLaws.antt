@@ -5,7 +5,6 @@ use Prim.Native.Nat.{ℕ, _-_, _≤_}
 use native.Mathlib.Omega.{arith}
 use lib.ListN.{getD}
 use borrow.Author.Tests.{eq-eqb, ne-eqb}
-use Rattle.octets.proofs.Cases.{by-test}
 use Rattle.rule.specs.Family.{ipv4}
 use Rattle.rule.specs.declared.Reading.{Reading}
 use Rattle.rule.specs.declared.Reading.the-variants.{Rule, Refused as NotRead}
@@ -14,22 +13,15 @@ use Rattle.rule.proofs.ReadingLaws.{one-refused}
 use Rattle.rule.proofs.Refusal.{Refusal, placeless}
 use Rattle.action.specs.declared.Actions.{Actions}
 use Rattle.action.specs.declared.Reading.the-variants.{Read, Unsound}
-use Rattle.action.specs.Actions.{told}
-use Rattle.packet.specs.declared.Sight.{Sight}
-use Rattle.packet.specs.declared.Sight.the-variants.{Usable, Unusable}
-use Rattle.packet.specs.Packet.{packetOf}
+use Rattle.action.specs.Actions.{valuesOf}
 use Rattle.table.specs.declared.Verdict.{Verdict}
 use Rattle.table.specs.declared.Verdict.the-variants.{Unmatched, Matched}
-use Rattle.table.specs.Walk.{entries}
-use Rattle.table.specs.Sound.{soundTable}
-use Rattle.table.specs.Lookup.{verdictFor}
 use Rattle.flowspec.specs.declared.Looked.the-variants.{Judged}
 use Rattle.flowspec.specs.declared.MatchPlace.{MatchPlace}
-use Rattle.flowspec.specs.Told.{verdictTold, lookupTold}
-use Rattle.flowspec.specs.Look.{lookedUp, lookingUp, matchPlace}
+use Rattle.flowspec.specs.Told.{Told, readingTold, actionsTold, verdictTold, lookupTold, matchPlaceTold}
+use Rattle.flowspec.specs.Look.{matchPlace}
 use Rattle.flowspec.specs.Promise.{ReadsOne, LocatesFirst}
-use Rattle.c_api.specs.Word.{Answer, word, wordOf}
-use Rattle.c_api.specs.Answer.{readAnswer, actionsAnswer, lookupAnswer, firstMatchAnswer, valuesOf, verdictWords}
+use Rattle.c_api.specs.Word.{word, wordOf}
 use Rattle.c_api.specs.Promise.{Returns}
 
 -- refused: `out` stays as it was
@@ -44,7 +36,7 @@ pub done : (values entry : List ℕ) → Returns (record { number = 0; place = 0
 done values entry = record { is = refl; out = refl }
 
 -- the door's answer x is what its definition d says, and it was found to be y
-module _ {X : Type 0} (answerOf : X → Answer) (d x : X) (is : x ≡ d) (y : X) (e : x ≡ y) where
+module _ {X : Type 0} (answerOf : X → Told) (d x : X) (is : x ≡ d) (y : X) (e : x ≡ y) where
   pub answered : (entry : List ℕ) (result : ℕ) (exit : List ℕ) → Returns (answerOf y) entry result exit → Returns (answerOf d) entry result exit
   answered entry result exit h = subst (λ z. Returns (answerOf z) entry result exit) (sym e ∙ is) h
 
@@ -60,59 +52,39 @@ module _ (rule : List ℕ) (r : Reading) (lent : List (List ℕ)) (kept : ReadsO
   read-near number place e = read-refusal number place e .near
 
   pub read-refused : (entry : List ℕ) (number place result : ℕ) → r ≡ NotRead number place → result ≡ word number place
-      → Returns (readAnswer (oneRule ipv4 rule)) entry result entry
+      → Returns (readingTold (oneRule ipv4 rule)) entry result entry
   read-refused entry number place result e h =
-      answered readAnswer (oneRule ipv4 rule) r (kept .is) (NotRead number place) e entry result entry
+      answered readingTold (oneRule ipv4 rule) r (kept .is) (NotRead number place) e entry result entry
       (refused number place (0 ∷ 0 ∷ []) entry (read-refusal number place e) result h)
 
-  pub read-done : (entry : List ℕ) (start size : ℕ) → r ≡ Rule start size → Returns (readAnswer (oneRule ipv4 rule)) entry 0 (start ∷ size ∷ [])
+  pub read-done : (entry : List ℕ) (start size : ℕ) → r ≡ Rule start size → Returns (readingTold (oneRule ipv4 rule)) entry 0 (start ∷ size ∷ [])
   read-done entry start size e =
-      answered readAnswer (oneRule ipv4 rule) r (kept .is) (Rule start size) e entry 0 (start ∷ size ∷ []) (done (start ∷ size ∷ []) entry)
+      answered readingTold (oneRule ipv4 rule) r (kept .is) (Rule start size) e entry 0 (start ∷ size ∷ []) (done (start ∷ size ∷ []) entry)
 
 -- reading actions: unsound ones, and those that are read
-pub actions-refused : (entry : List ℕ) (result : ℕ) → result ≡ word 13 0 → Returns (actionsAnswer Unsound) entry result entry
-unfolding told
+pub actions-refused : (entry : List ℕ) (result : ℕ) → result ≡ word 13 0 → Returns (actionsTold Unsound) entry result entry
 actions-refused entry result h = refused 13 0 _ entry (placeless 13 (omega arith) (omega arith)) result h
 
-pub actions-done : (actions : Actions) (values entry : List ℕ) → values ≡ valuesOf actions → Returns (actionsAnswer (Read actions)) entry 0 values
-unfolding told
+pub actions-done : (actions : Actions) (values entry : List ℕ) → values ≡ valuesOf actions → Returns (actionsTold (Read actions)) entry 0 values
 actions-done actions values entry h = rw h (done (valuesOf actions) entry)
 
 -- looking up: a packet that is judged
-pub lookup-done : (verdict : Verdict) (values entry : List ℕ) → values ≡ verdictWords verdict → Returns (lookupAnswer (Judged verdict)) entry 0 values
-lookup-done Unmatched values entry h = rw h (done (verdictWords Unmatched) entry)
-lookup-done (Matched actions count) values entry h = rw h (done (verdictWords (Matched actions count)) entry)
+pub lookup-done : (verdict : Verdict) (values entry : List ℕ) → values ≡ verdictTold verdict .values → Returns (lookupTold (Judged verdict)) entry 0 values
+lookup-done Unmatched values entry h = rw h (done (verdictTold Unmatched .values) entry)
+lookup-done (Matched actions count) values entry h = rw h (done (verdictTold (Matched actions count) .values) entry)
 
 -- the words of a verdict
-pub unmatched-words : (v : Verdict) → v ≡ Unmatched → 0 ∷ 0 ∷ 0 ∷ 0 ∷ 0 ∷ 0 ∷ [] ≡ verdictWords v
+pub unmatched-words : (v : Verdict) → v ≡ Unmatched → 0 ∷ 0 ∷ 0 ∷ 0 ∷ 0 ∷ 0 ∷ [] ≡ verdictTold v .values
 unmatched-words v e = rw e
 
 pub matched-words : (v : Verdict) (actions : Actions) (count : ℕ) (values : List ℕ) → v ≡ Matched actions count → values ≡ valuesOf actions
-    → count ∷ getD values 0 0 ∷ getD values 1 0 ∷ getD values 2 0 ∷ getD values 3 0 ∷ getD values 4 0 ∷ [] ≡ verdictWords v
+    → count ∷ getD values 0 0 ∷ getD values 1 0 ∷ getD values 2 0 ∷ getD values 3 0 ∷ getD values 4 0 ∷ [] ≡ verdictTold v .values
 matched-words v actions count values e h = rw (e, h)
-
--- a lookup that is refused carries place 0
-no-place : (t octets : List ℕ) → lookupTold (lookingUp t octets) .place ≡ 0
-unfolding lookingUp
-no-place t octets = by-test (soundTable ipv4 t) (λ s. rw s (go (packetOf octets))) (λ s. rw s)
-  where
-    judged : (v : Verdict) → verdictTold v .place ≡ 0
-    judged Unmatched = refl
-    judged (Matched actions count) = refl
-
-    go : (s : Sight) → lookupTold (lookedUp t s) .place ≡ 0
-    go Unusable = refl
-    go (Usable packet) = judged (verdictFor ipv4 packet (entries t))
 
 -- the first match, by its place with the lookup's number
 module _ (t octets entry : List ℕ) (place : MatchPlace) (lent : List (List ℕ)) (kept : LocatesFirst t octets place lent) where
-  number-is : lookupTold (lookingUp t octets) .number ≡ place .number
-  unfolding matchPlace
-  number-is = rw (kept .is)
+  pub first-refused : (place .number ≡ 0 → ⊥) → (result : ℕ) → result ≡ word (place .number) 0 → Returns (matchPlaceTold (matchPlace t octets)) entry result entry
+  first-refused n result h = rw (← kept .is) (record { is = h; out = rw (ne-eqb (place .number) 0 n) })
 
-  pub first-refused : (place .number ≡ 0 → ⊥) → (result : ℕ) → result ≡ word (place .number) 0 → Returns (firstMatchAnswer t octets) entry result entry
-  first-refused n result h = record { is = rw (number-is, no-place t octets) h; out = rw (number-is, ne-eqb (place .number) 0 n) }
-
-  pub first-done : place .number ≡ 0 → Returns (firstMatchAnswer t octets) entry 0 (place .start ∷ (place .end - place .start) ∷ [])
-  unfolding matchPlace
-  first-done z = record { is = rw (number-is, no-place t octets, z); out = rw (number-is, eq-eqb (place .number) 0 z, kept .is) }
+  pub first-done : place .number ≡ 0 → Returns (matchPlaceTold (matchPlace t octets)) entry 0 (place .start ∷ (place .end - place .start) ∷ [])
+  first-done z = rw (← kept .is) (record { is = rw z; out = rw (eq-eqb (place .number) 0 z) })

@@ -2,15 +2,15 @@
 use mathlib.Core.Path.{_≡_, sym, _∙_}
 use mathlib.Core.List.{List}
 use Prim.Native.Nat.{ℕ}
-use Rattle.c_api.specs.Word.{Answer}
+use Rattle.flowspec.specs.Told.{Told}
 use Rattle.c_api.specs.Promise.{Returns, ReturnsKeeping, ReadCall, WriteCall, CompareCall, FeasibleCall, ActionsCall, AnnounceCall, WithdrawCall, LookupCall, FirstMatchCall}
 
 module _ (k l : List (List ℕ)) where
   -- one word and one `out` for each answer, and what was lent to be read
-  one-return : {answer : Answer} {entry : List ℕ} {a b : ℕ} {x y : List ℕ} → Returns answer entry a x → Returns answer entry b y → (a ≡ b) × (x ≡ y)
+  one-return : {answer : Told} {entry : List ℕ} {a b : ℕ} {x y : List ℕ} → Returns answer entry a x → Returns answer entry b y → (a ≡ b) × (x ≡ y)
   one-return p q = (p .is ∙ sym (q .is), p .out ∙ sym (q .out))
 
-  one-keeping : {answer : Answer} {lent : List (List ℕ)} {entry : List ℕ} {a b : ℕ} {x y : List ℕ} → ReturnsKeeping answer lent entry a x k
+  one-keeping : {answer : Told} {lent : List (List ℕ)} {entry : List ℕ} {a b : ℕ} {x y : List ℕ} → ReturnsKeeping answer lent entry a x k
       → ReturnsKeeping answer lent entry b y l → (a ≡ b) × ((x ≡ y) × (k ≡ l))
   one-keeping p q = let r = one-return (p .returns) (q .returns) in (r .0, (r .1, p .keeps ∙ sym (q .keeps)))
 

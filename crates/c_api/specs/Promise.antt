@@ -12,65 +12,65 @@ use Rattle.action.specs.Actions.{actionsOf}
 use Rattle.flowspec.specs.Compare.{compareRules}
 use Rattle.flowspec.specs.Feasibility.{judgement}
 use Rattle.flowspec.specs.Announce.{announcing, withdrawing}
-use Rattle.flowspec.specs.Look.{lookingUp}
-use Rattle.c_api.specs.Word.{Answer, wordOf, outAfter}
-use Rattle.c_api.specs.Answer.{isOn, readAnswer, writeAnswer, compareAnswer, feasibleAnswer, changeAnswer, actionsAnswer, lookupAnswer, firstMatchAnswer}
+use Rattle.flowspec.specs.Look.{lookingUp, matchPlace}
+use Rattle.flowspec.specs.Told.{Told, readingTold, writingTold, comparisonTold, feasibilityTold, actionsTold, changeTold, lookupTold, matchPlaceTold}
+use Rattle.c_api.specs.Word.{wordOf, outAfter, isOn}
 
 -- What a call returns, and what `out` holds when the call begins and when it ends.
-pub record Returns (answer : Answer) (entry : List ℕ) (result : ℕ) (exit : List ℕ) : Type 0 where
+pub record Returns (answer : Told) (entry : List ℕ) (result : ℕ) (exit : List ℕ) : Type 0 where
   pub is : result ≡ wordOf answer
   pub out : exit ≡ outAfter answer entry
 
 -- The same of a call that is lent slices to be read, and leaves them as they were.
-pub record ReturnsKeeping (answer : Answer) (lent : List (List ℕ)) (entry : List ℕ) (result : ℕ) (exit : List ℕ) (kept : List (List ℕ)) : Type 0 where
+pub record ReturnsKeeping (answer : Told) (lent : List (List ℕ)) (entry : List ℕ) (result : ℕ) (exit : List ℕ) (kept : List (List ℕ)) : Type 0 where
   pub returns : Returns answer entry result exit
   pub keeps : kept ≡ lent
 
 -- flowspec4_read: refusals 1 to 7, then 15.
 abbrev pub ReadCall : List ℕ → List ℕ → ℕ → List ℕ → List (List ℕ) → Type 0
-ReadCall rule entry result exit kept = ReturnsKeeping (readAnswer (oneRule ipv4 rule)) (rule ∷ []) entry result exit kept
+ReadCall rule entry result exit kept = ReturnsKeeping (readingTold (oneRule ipv4 rule)) (rule ∷ []) entry result exit kept
 
 -- flowspec4_write: refusals 1 to 7, then 16; on success the front of the buffer is filled and the rest kept, and a refusal changes no
 -- octet.
 pub record WriteCall (value buffer entry : List ℕ) (result : ℕ) (left exit : List ℕ) (kept : List (List ℕ)) : Type 0 where
-  pub returns : Returns (writeAnswer (writing ipv4 value (length buffer))) entry result exit
+  pub returns : Returns (writingTold (writing ipv4 value (length buffer))) entry result exit
   pub leaves : left ≡ afterWriting ipv4 value buffer
   pub keeps : kept ≡ value ∷ []
 
 -- flowspec4_compare: refusals 1 to 7 and 15 of the first rule, then of the second.
 abbrev pub CompareCall : List ℕ → List ℕ → List ℕ → ℕ → List ℕ → List (List ℕ) → Type 0
 CompareCall first second entry result exit kept =
-    ReturnsKeeping (compareAnswer (compareRules first second)) (first ∷ second ∷ []) entry result exit kept
+    ReturnsKeeping (comparisonTold (compareRules first second)) (first ∷ second ∷ []) entry result exit kept
 
 -- flowspec4_feasible: refusals 9, 1 to 7, 15, 8.
 pub record FeasibleCall (routes : List ℕ) (setting : ℕ) (rule : List ℕ) (originator result : ℕ) (kept : List (List ℕ)) : Type 0 where
-  pub is : result ≡ wordOf (feasibleAnswer (judgement (isOn setting) routes rule originator))
+  pub is : result ≡ wordOf (feasibilityTold (judgement (isOn setting) routes rule originator))
   pub keeps : kept ≡ routes ∷ rule ∷ []
 
 -- flowspec4_actions: refusal 13.
 abbrev pub ActionsCall : List ℕ → List ℕ → ℕ → List ℕ → List (List ℕ) → Type 0
 ActionsCall communities entry result exit kept =
-    ReturnsKeeping (actionsAnswer (actionsOf communities)) (communities ∷ []) entry result exit kept
+    ReturnsKeeping (actionsTold (actionsOf communities)) (communities ∷ []) entry result exit kept
 
 -- flowspec4_announce: refusals 10, 9, 1 to 7, 15, 13, 8, 11; of these 8 alone changes the table, where the rule was held.
 pub record AnnounceCall (table routes : List ℕ) (setting : ℕ) (rule : List ℕ) (originator : ℕ) (communities : List ℕ) (result : ℕ) (left : List ℕ)
     (kept : List (List ℕ)) : Type 0 where
-  pub is : result ≡ wordOf (changeAnswer (announcing (isOn setting) routes rule originator communities table .answer))
+  pub is : result ≡ wordOf (changeTold (announcing (isOn setting) routes rule originator communities table .answer))
   pub leaves : left ≡ announcing (isOn setting) routes rule originator communities table .table
   pub keeps : kept ≡ routes ∷ rule ∷ communities ∷ []
 
 -- flowspec4_withdraw: refusals 10, 1 to 7, 15, 14, none of which changes an octet.
 pub record WithdrawCall (table rule : List ℕ) (result : ℕ) (left : List ℕ) (kept : List (List ℕ)) : Type 0 where
-  pub is : result ≡ wordOf (changeAnswer (withdrawing rule table .answer))
+  pub is : result ≡ wordOf (changeTold (withdrawing rule table .answer))
   pub leaves : left ≡ withdrawing rule table .table
   pub keeps : kept ≡ rule ∷ []
 
 -- flowspec4_lookup: refusals 10, 12.
 abbrev pub LookupCall : List ℕ → List ℕ → List ℕ → ℕ → List ℕ → List (List ℕ) → Type 0
 LookupCall table packet entry result exit kept =
-    ReturnsKeeping (lookupAnswer (lookingUp table packet)) (table ∷ packet ∷ []) entry result exit kept
+    ReturnsKeeping (lookupTold (lookingUp table packet)) (table ∷ packet ∷ []) entry result exit kept
 
 -- flowspec4_first_match: refusals 10, 12.
 abbrev pub FirstMatchCall : List ℕ → List ℕ → List ℕ → ℕ → List ℕ → List (List ℕ) → Type 0
 FirstMatchCall table packet entry result exit kept =
-    ReturnsKeeping (firstMatchAnswer table packet) (table ∷ packet ∷ []) entry result exit kept
+    ReturnsKeeping (matchPlaceTold (matchPlace table packet)) (table ∷ packet ∷ []) entry result exit kept

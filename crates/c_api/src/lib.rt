@@ -3,8 +3,9 @@
 ghost use mathlib.Core.Path.{_≡_};
 ghost use mathlib.Core.List.{[], _∷_};
 ghost use Prim.Native.Nat.{_≤_};
-ghost use Rattle.c_api.specs.Word.{word};
-ghost use Rattle.c_api.specs.Answer.{isOn, valuesOf, verdictWords};
+ghost use Rattle.action.specs.Actions.{valuesOf};
+ghost use Rattle.flowspec.specs.Told.{verdictTold};
+ghost use Rattle.c_api.specs.Word.{word, isOn};
 ghost use Rattle.c_api.specs.Promise.{ReadCall, WriteCall, CompareCall, FeasibleCall, ActionsCall, AnnounceCall, WithdrawCall, LookupCall, FirstMatchCall};
 use action::Actions;
 use flowspec::Change;
@@ -46,7 +47,7 @@ fn values_of(actions: Actions) -> [u64; 5]
 
 // The words of a verdict: the count and the merged actions' values, all 0 where no rule matches.
 fn words_of(verdict: Verdict) -> [u64; 6]
-    ensures { λ r. ⌜ r ≡ verdictWords verdict ⌝ }
+    ensures { λ r. ⌜ r ≡ verdictTold verdict .values ⌝ }
 {
     match verdict {
         Verdict::Unmatched => [0; 6],

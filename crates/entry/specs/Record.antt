@@ -10,7 +10,7 @@ use Rattle.octets.specs.Number.{numberAt, octetsOf}
 use Rattle.rule.specs.declared.Family.{Family}
 use Rattle.action.specs.declared.Actions.{Actions}
 use Rattle.action.specs.declared.Given.{Given}
-use Rattle.action.specs.Actions.{flagsOf}
+use Rattle.action.specs.Actions.{valuesOf}
 use Rattle.entry.specs.Entry.{Entry, possible}
 
 -- How many octets each field of a head has.
@@ -35,10 +35,7 @@ readFields (width ∷ widths) s at = numberAt width s at ∷ readFields widths s
 -- The fields of a head, in order: value length, originator, flags, DSCP, byte rate, packet rate, redirect community.
 unfoldable pub fieldsOf : Entry → List ℕ
 fieldsOf e =
-    length (e .value) ∷ e .originator ∷ flagsOf (e .actions) ∷ e .actions .marking .number ∷ e .actions .bytes .number
-    ∷ e .actions .packets .number
-    ∷ e .actions .redirect .number
-    ∷ []
+    length (e .value) ∷ e .originator ∷ valuesOf (e .actions)
 
 -- The record of an entry.
 unfoldable pub recordOf : Entry → List ℕ

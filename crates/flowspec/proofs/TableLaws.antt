@@ -41,7 +41,7 @@ use Rattle.flowspec.specs.declared.Looked.the-variants.{Judged, Refused 
 use Rattle.flowspec.specs.declared.MatchPlace.{MatchPlace}
 use Rattle.flowspec.specs.Announce.{Outcome, changeOf, outcome, refusal, valueOf, asked, announcing, withdrawing}
 use Rattle.flowspec.specs.Look.{lookingUp, firstMatch, matchPlace}
-use Rattle.flowspec.specs.Told.{changeTold, verdictTold, lookupTold}
+use Rattle.flowspec.specs.Told.{changeTold, verdictTold, lookupTold, matchPlaceTold}
 use Rattle.flowspec.specs.Promise.{Announces, Withdraws, LooksUp, LocatesFirst}
 use Rattle.flowspec.proofs.AskLaws.{asked-rule}
 
@@ -142,6 +142,9 @@ module _ (t octets : List ℕ) where
   look-kept : (answer : Looked) → answer ≡ lookingUp t octets → LooksUp t octets answer (t ∷ octets ∷ [])
   look-kept answer e = record { is = e; says = ap lookupTold e; keeps = refl }
 
+  located : (answer : MatchPlace) → answer ≡ matchPlace t octets → answer .start ≤ answer .end → answer .end ≤ length t → LocatesFirst t octets answer (t ∷ octets ∷ [])
+  located answer e ordered inside = record { is = e; says = ap matchPlaceTold e; ordered = ordered; inside = inside; keeps = refl }
+
   module _ (s : Soundness) (is : s ≡ soundness ipv4 t) where
     pub look-unsound : s ≡ Unsound → LooksUp t octets (NotLookedUp 10 0) (t ∷ octets ∷ [])
     unfolding lookingUp
@@ -149,7 +152,7 @@ module _ (t octets : List ℕ) where
 
     pub locate-unsound : s ≡ Unsound → (answer : MatchPlace) → answer ≡ record { number = 10; start = 0; end = 0 } → LocatesFirst t octets answer (t ∷ octets ∷ [])
     unfolding matchPlace lookingUp firstMatch
-    locate-unsound e answer a = rw a (record { is = rw (was-unsound t s is e); ordered = omega arith; inside = omega arith; keeps = refl })
+    locate-unsound e answer a = rw a (located _ (rw (was-unsound t s is e)) (omega arith) (omega arith))
 
     module _ (used : ℕ) (e : s ≡ Sound used) (sight : Sight) (seen : sight ≡ packetOf octets) where
       pub look-sound : soundTable ipv4 t ≡ true
@@ -165,7 +168,7 @@ module _ (t octets : List ℕ) where
 
       pub locate-unusable : sight ≡ Unusable → (answer : MatchPlace) → answer ≡ record { number = 12; start = 0; end = 0 } → LocatesFirst t octets answer (t ∷ octets ∷ [])
       unfolding matchPlace lookingUp firstMatch
-      locate-unusable f answer a = rw a (record { is = rw (look-sound, ← seen, f); ordered = omega arith; inside = omega arith; keeps = refl })
+      locate-unusable f answer a = rw a (located _ (rw (look-sound, ← seen, f)) (omega arith) (omega arith))
 
       -- a lookup that judges a packet is not refused
       judged-done : (verdict : Verdict) → 0 ≡ verdictTold verdict .number
@@ -177,12 +180,7 @@ module _ (t octets : List ℕ) where
           → LocatesFirst t octets (record { number = 0; start = place .start; end = place .end }) (t ∷ octets ∷ [])
       unfolding matchPlace lookingUp firstMatch
       locate-found packet place f v =
-          record {
-            is = rw (look-sound, ← seen, f, ← v .0, ← judged-done (verdictFor ipv4 packet (entries t)));
-            ordered = v .1 .0;
-            inside = v .1 .1;
-            keeps = refl;
-          }
+          located _ (rw (look-sound, ← seen, f, ← v .0, ← judged-done (verdictFor ipv4 packet (entries t)))) (v .1 .0) (v .1 .1)
 
 -- where a first match was located is where it stands
 pub located-at : {t octets : List ℕ} {answer : MatchPlace} {kept : List (List ℕ)} → LocatesFirst t octets answer kept

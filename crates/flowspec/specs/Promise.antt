@@ -1,4 +1,4 @@
--- What each public call promises, whatever octets it is lent: its answer (`is`), what that answer says in 01's terms (`says`), what each
+-- What each public call promises, whatever octets it is lent: its answer (`is`), what that answer says in 01's terms (`says`, Told.antt), what each
 -- buffer lent to be changed holds at exit (`leaves`), and that what is lent to be read alone is as it was (`keeps`; `kept` is what those
 -- slices hold at exit). No call has a `requires`. That no second result satisfies a promise is shown in proofs/Unique.antt.
 use Prim.Native.Nat.{ℕ, _+_, _≤_}
@@ -13,7 +13,7 @@ use Rattle.rule.specs.Reading.{oneRule}
 use Rattle.rule.specs.Writing.{writing, afterWriting}
 use Rattle.flowspec.specs.declared.Comparison.{Comparison}
 use Rattle.action.specs.declared.Reading.{Reading as ActionsReading}
-use Rattle.action.specs.Actions.{actionsOf, told}
+use Rattle.action.specs.Actions.{actionsOf}
 use Rattle.flowspec.specs.declared.Feasibility.{Feasibility}
 use Rattle.flowspec.specs.declared.Change.{Change}
 use Rattle.flowspec.specs.declared.Looked.{Looked}
@@ -23,7 +23,7 @@ use Rattle.flowspec.specs.Look.{lookingUp, firstMatch, matchPlace}
 use Rattle.rule.specs.Value.{between}
 use Rattle.flowspec.specs.Compare.{compareRules}
 use Rattle.flowspec.specs.Feasibility.{judgement}
-use Rattle.flowspec.specs.Told.{readingTold, writingTold, comparisonTold, feasibilityTold, changeTold, lookupTold}
+use Rattle.flowspec.specs.Told.{readingTold, writingTold, comparisonTold, feasibilityTold, actionsTold, changeTold, lookupTold, matchPlaceTold}
 
 -- Reading one rule: refusals 1 to 7, then 15.
 pub record ReadsOne (rule : List ℕ) (answer : Reading) (kept : List (List ℕ)) : Type 0 where
@@ -51,10 +51,10 @@ pub record JudgesOne (relaxed : Bool) (routes rule : List ℕ) (originator : ℕ
   pub says : feasibilityTold answer ≡ feasibilityTold (judgement relaxed routes rule originator)
   pub keeps : kept ≡ routes ∷ rule ∷ []
 
--- Reading actions: refusal 13; `told` gives the number, and the values with absent ones 0.
+-- Reading actions: refusal 13.
 pub record ReadsActions (communities : List ℕ) (answer : ActionsReading) (kept : List (List ℕ)) : Type 0 where
   pub is : answer ≡ actionsOf communities
-  pub says : told answer ≡ told (actionsOf communities)
+  pub says : actionsTold answer ≡ actionsTold (actionsOf communities)
   pub keeps : kept ≡ communities ∷ []
 
 -- Announcing: refusals 10, 9, 1 to 7, 15, 13, 8, 11. The table at exit is the outcome's: changed where done and, at 8, where the rule was
@@ -82,6 +82,7 @@ pub record LooksUp (table packet : List ℕ) (answer : Looked) (kept : List (Lis
 -- refused.
 pub record LocatesFirst (table packet : List ℕ) (answer : MatchPlace) (kept : List (List ℕ)) : Type 0 where
   pub is : answer ≡ matchPlace table packet
+  pub says : matchPlaceTold answer ≡ matchPlaceTold (matchPlace table packet)
   pub ordered : answer .start ≤ answer .end
   pub inside : answer .end ≤ length table
   pub keeps : kept ≡ table ∷ packet ∷ []

@@ -1,102 +1,83 @@
--- What each answer says in 01's terms: the refusal's number, 0 where the call is done; its place; and the values of the answer, which
--- are 0 where the call is refused.
-use Prim.Native.Nat.{ℕ}
+-- What each answer says in 01's terms: the refusal's number, 0 where the call is done; its place; and the values of the answer, in the
+-- order that the comment above each definition names.
+use Prim.Native.Nat.{ℕ, _-_}
+use mathlib.Core.List.{List, [], _∷_}
+use lib.ListN.{replicate}
 use Rattle.rule.specs.declared.Reading.{Reading}
 use Rattle.rule.specs.declared.Reading.the-variants.{Rule, Refused as NotRead}
 use Rattle.rule.specs.declared.Writing.{Writing}
 use Rattle.rule.specs.declared.Writing.the-variants.{Written, Refused as NotWritten}
-use Rattle.flowspec.specs.declared.Comparison.{Comparison}
-use Rattle.flowspec.specs.declared.Comparison.the-variants.{First, Second, Same, Refused as NotCompared}
-use Rattle.action.specs.Actions.{flagsOf}
+use Rattle.action.specs.declared.Reading.{Reading as ActionsReading}
+use Rattle.action.specs.declared.Reading.the-variants.{Read, Unsound}
+use Rattle.action.specs.Actions.{valuesOf}
 use Rattle.table.specs.declared.Verdict.{Verdict}
 use Rattle.table.specs.declared.Verdict.the-variants.{Unmatched, Matched}
+use Rattle.flowspec.specs.declared.Comparison.{Comparison}
+use Rattle.flowspec.specs.declared.Comparison.the-variants.{First, Second, Same, Refused as NotCompared}
+use Rattle.flowspec.specs.declared.Feasibility.{Feasibility}
+use Rattle.flowspec.specs.declared.Feasibility.the-variants.{Feasible, Refused as NotFeasible}
 use Rattle.flowspec.specs.declared.Change.{Change}
 use Rattle.flowspec.specs.declared.Change.the-variants.{Done, Refused as NotChanged}
 use Rattle.flowspec.specs.declared.Looked.{Looked}
 use Rattle.flowspec.specs.declared.Looked.the-variants.{Judged, Refused as NotLookedUp}
-use Rattle.flowspec.specs.declared.Feasibility.{Feasibility}
-use Rattle.flowspec.specs.declared.Feasibility.the-variants.{Feasible, Refused as NotFeasible}
+use Rattle.flowspec.specs.declared.MatchPlace.{MatchPlace}
 
--- "Reading one rule answers the start and length of its value, 0 and 0 if refused."
-pub record ReadingTold : Type 0 where
+-- What an answer says.
+pub record Told : Type 0 where
   pub number : ℕ
   pub place : ℕ
-  pub start : ℕ
-  pub size : ℕ
+  pub values : List ℕ
 
-abbrev pub readingTold : Reading → ReadingTold
-readingTold (Rule start size) = record { number = 0; place = 0; start = start; size = size }
-readingTold (NotRead number place) = record { number = number; place = place; start = 0; size = 0 }
+-- A call that is done, with its values.
+abbrev pub done : List ℕ → Told
+done values = record { number = 0; place = 0; values = values }
 
--- "... and answers how many octets it wrote (0 if refused)."
-pub record WritingTold : Type 0 where
-  pub number : ℕ
-  pub place : ℕ
-  pub octets : ℕ
+-- A call that is refused: its values, so many, are 0.
+abbrev pub refused : ℕ → ℕ → ℕ → Told
+refused number place many = record { number = number; place = place; values = replicate many 0 }
 
-abbrev pub writingTold : Writing → WritingTold
-writingTold (Written octets) = record { number = 0; place = 0; octets = octets }
-writingTold (NotWritten number place) = record { number = number; place = place; octets = 0 }
+-- 01: "Reading one rule answers the start and length of its value, 0 and 0 if refused."
+abbrev pub readingTold : Reading → Told
+readingTold (Rule start size) = done (start ∷ size ∷ [])
+readingTold (NotRead number place) = refused number place 2
+
+-- 01: "... and answers how many octets it wrote (0 if refused)."
+abbrev pub writingTold : Writing → Told
+writingTold (Written octets) = done (octets ∷ [])
+writingTold (NotWritten number place) = refused number place 1
 
 -- 1 where the first rule comes first, 2 where the second does, 3 where they are the same rule.
-pub record ComparisonTold : Type 0 where
-  pub number : ℕ
-  pub place : ℕ
-  pub order : ℕ
+abbrev pub comparisonTold : Comparison → Told
+comparisonTold First = done (1 ∷ [])
+comparisonTold Second = done (2 ∷ [])
+comparisonTold Same = done (3 ∷ [])
+comparisonTold (NotCompared number place) = refused number place 1
 
-abbrev pub comparisonTold : Comparison → ComparisonTold
-comparisonTold First = record { number = 0; place = 0; order = 1 }
-comparisonTold Second = record { number = 0; place = 0; order = 2 }
-comparisonTold Same = record { number = 0; place = 0; order = 3 }
-comparisonTold (NotCompared number place) = record { number = number; place = place; order = 0 }
+-- No value: 0 says that the rule is feasible.
+abbrev pub feasibilityTold : Feasibility → Told
+feasibilityTold Feasible = done []
+feasibilityTold (NotFeasible number place) = refused number place 0
 
--- 0 where the rule is feasible.
-pub record FeasibilityTold : Type 0 where
-  pub number : ℕ
-  pub place : ℕ
+-- The values of the actions; unsound actions are 13.
+abbrev pub actionsTold : ActionsReading → Told
+actionsTold (Read actions) = done (valuesOf actions)
+actionsTold Unsound = refused 13 0 5
 
-abbrev pub feasibilityTold : Feasibility → FeasibilityTold
-feasibilityTold Feasible = record { number = 0; place = 0 }
-feasibilityTold (NotFeasible number place) = record { number = number; place = place }
+-- No value: what announcing and withdrawing leave is the table.
+abbrev pub changeTold : Change → Told
+changeTold Done = done []
+changeTold (NotChanged number place) = refused number place 0
 
--- What announcing and withdrawing answer.
-pub record ChangeTold : Type 0 where
-  pub number : ℕ
-  pub place : ℕ
+-- The count and the values of the merged actions, in which T is never set; each is 0 where no rule matches.
+abbrev pub verdictTold : Verdict → Told
+verdictTold Unmatched = done (replicate 6 0)
+verdictTold (Matched actions count) = done (count ∷ valuesOf actions)
 
-abbrev pub changeTold : Change → ChangeTold
-changeTold Done = record { number = 0; place = 0 }
-changeTold (NotChanged number place) = record { number = number; place = place }
-
--- A verdict: the count, 0 where unmatched, and the merged actions as in a record, all 0 where unmatched; T is never set.
-pub record LookupTold : Type 0 where
-  pub number : ℕ
-  pub place : ℕ
-  pub count : ℕ
-  pub flags : ℕ
-  pub dscp : ℕ
-  pub byteRate : ℕ
-  pub packetRate : ℕ
-  pub redirect : ℕ
-
-abbrev pub nothingTold : ℕ → ℕ → LookupTold
-nothingTold number place =
-    record { number = number; place = place; count = 0; flags = 0; dscp = 0; byteRate = 0; packetRate = 0; redirect = 0 }
-
-abbrev pub verdictTold : Verdict → LookupTold
-verdictTold Unmatched = nothingTold 0 0
-verdictTold (Matched actions count) =
-    record {
-      number = 0;
-      place = 0;
-      count = count;
-      flags = flagsOf actions;
-      dscp = actions .marking .number;
-      byteRate = actions .bytes .number;
-      packetRate = actions .packets .number;
-      redirect = actions .redirect .number;
-    }
-
-abbrev pub lookupTold : Looked → LookupTold
+-- The verdict's, where the packet was judged.
+abbrev pub lookupTold : Looked → Told
 lookupTold (Judged verdict) = verdictTold verdict
-lookupTold (NotLookedUp number place) = nothingTold number place
+lookupTold (NotLookedUp number place) = refused number place 6
+
+-- The start and length of the first match's record in the table, 0 and 0 where there is none.
+abbrev pub matchPlaceTold : MatchPlace → Told
+matchPlaceTold found = record { number = found .number; place = 0; values = found .start ∷ (found .end - found .start) ∷ [] }

@@ -7,7 +7,7 @@ use lib.ListN.{length}
 use Rattle.rule.specs.Family.{ipv4}
 use Rattle.table.specs.Walk.{records}
 use Rattle.table.specs.Sound.{soundTable}
-use Rattle.flowspec.specs.Told.{ChangeTold}
+use Rattle.flowspec.specs.Told.{Told}
 use Rattle.text.specs.Hex.{hexOf}
 use Rattle.text.specs.Decimal.{decimalOf}
 use Rattle.text.specs.Spelling.{spelled}
@@ -25,7 +25,7 @@ abbrev pub unknownText : List ℕ
 unknownText = spelled "answer\t?\n"
 
 -- What announcing and withdrawing answer.
-abbrev pub changeText : ChangeTold → List ℕ
+abbrev pub changeText : Told → List ℕ
 changeText told = answerText (told .number) (told .place)
 
 -- A record of the table: its octets in hex.

@@ -1,6 +1,6 @@
 -- The actions that the communities tell; unsound ones are 13.
 use mathlib.Core.Path.{refl}
-use Rattle.c_api.specs.Answer.{actionsAnswer}
+use Rattle.flowspec.specs.Told.{actionsTold}
 use Rattle.c_api.proofs.CallLaws.{answered, actions-refused, actions-done}
 use borrow.Author.Needs.{needs}
 use Rattle.c_api.proofs.flowspec4_actions.Statement.{statement}
@@ -27,10 +27,10 @@ values-of-requires : tie.Need-values-of-requires
 values-of-requires c κs = search needs
 
 returns : tie.Need-returns
-returns c = record { returns = answered actionsAnswer _ _ (c .before .before .before .read-actions .ensures .is) _ (c .before .enum-told .given .1) _ _ _ (actions-refused _ _ (c .word-of .ensures)); keeps = refl }
+returns c = record { returns = answered actionsTold _ _ (c .before .before .before .read-actions .ensures .is) _ (c .before .enum-told .given .1) _ _ _ (actions-refused _ _ (c .word-of .ensures)); keeps = refl }
 
 returns-2 : tie.Need-returns-2
-returns-2 c = record { returns = answered actionsAnswer _ _ (c .before .before .before .before .read-actions .ensures .is) _ (c .before .before .actions .given .1) _ _ _ (actions-done _ _ _ (c .values-of .ensures)); keeps = refl }
+returns-2 c = record { returns = answered actionsTold _ _ (c .before .before .before .before .read-actions .ensures .is) _ (c .before .before .actions .given .1) _ _ _ (actions-done _ _ _ (c .values-of .ensures)); keeps = refl }
 
 pub flowspec4-actions-spec : {M : Type 1} → statement M
 flowspec4-actions-spec =

@@ -1,7 +1,7 @@
 -- The door's answer as a word; a refusal is one of 01's table.
 use mathlib.Core.Path.{refl, sym, _∙_}
 use Rattle.rule.proofs.Refusal.{Refusal}
-use Rattle.c_api.specs.Answer.{changeAnswer}
+use Rattle.flowspec.specs.Told.{changeTold}
 use Rattle.c_api.proofs.Places.{not-announced}
 use Rattle.c_api.proofs.CallLaws.{word-is}
 use borrow.Author.Needs.{needs}
@@ -37,7 +37,7 @@ same-length c = search needs
 returns : tie.Need-returns
 returns c =
     let kept = rw (c .before .before .before .before .before .before .before .before .is-on .ensures) at (c .before .before .before .before .before .before .announce .ensures) in
-    record { is = word-is changeAnswer _ _ (kept .is) _ (c .before .before .number .given .1) _ (c .word-of .ensures); leaves = kept .leaves; keeps = refl }
+    record { is = word-is changeTold _ _ (kept .is) _ (c .before .before .number .given .1) _ (c .word-of .ensures); leaves = kept .leaves; keeps = refl }
 
 same-length-2 : tie.Need-same-length-2
 same-length-2 c = search needs
@@ -45,7 +45,7 @@ same-length-2 c = search needs
 returns-2 : tie.Need-returns-2
 returns-2 c =
     let kept = rw (c .before .before .before .before .before .before .is-on .ensures) at (c .before .before .before .before .announce .ensures) in
-    record { is = word-is changeAnswer _ _ (kept .is) _ (c .enum-told .given .1) _ refl; leaves = kept .leaves; keeps = refl }
+    record { is = word-is changeTold _ _ (kept .is) _ (c .enum-told .given .1) _ refl; leaves = kept .leaves; keeps = refl }
 
 pub flowspec4-announce-spec : {M : Type 1} → statement M
 flowspec4-announce-spec =

@@ -1,7 +1,7 @@
 -- The door's answer as a word and in `out`; a refusal is one of 01's table.
 use mathlib.Core.Path.{sym, _∙_, refl}
 use Rattle.rule.proofs.Refusal.{Refusal}
-use Rattle.c_api.specs.Answer.{compareAnswer}
+use Rattle.flowspec.specs.Told.{comparisonTold}
 use Rattle.c_api.proofs.Places.{not-compared}
 use Rattle.c_api.proofs.CallLaws.{refused, done, answered}
 use borrow.Author.Needs.{needs}
@@ -34,16 +34,16 @@ enum-told-3 : tie.Need-enum-told-3
 enum-told-3 c = search needs
 
 returns : tie.Need-returns
-returns c = record { returns = answered compareAnswer _ _ (c .before .before .before .before .compare-rules .ensures .is) _ (c .before .before .number .given .1) _ _ _ (refused _ _ _ _ (refusal (c .before)) _ (c .word-of .ensures)); keeps = refl }
+returns c = record { returns = answered comparisonTold _ _ (c .before .before .before .before .compare-rules .ensures .is) _ (c .before .before .number .given .1) _ _ _ (refused _ _ _ _ (refusal (c .before)) _ (c .word-of .ensures)); keeps = refl }
 
 returns-2 : tie.Need-returns-2
-returns-2 c = record { returns = answered compareAnswer _ _ (c .before .before .before .compare-rules .ensures .is) _ (c .before .enum-told .given .1) _ _ _ (done _ _); keeps = refl }
+returns-2 c = record { returns = answered comparisonTold _ _ (c .before .before .before .compare-rules .ensures .is) _ (c .before .enum-told .given .1) _ _ _ (done _ _); keeps = refl }
 
 returns-3 : tie.Need-returns-3
-returns-3 c = record { returns = answered compareAnswer _ _ (c .before .before .before .compare-rules .ensures .is) _ (c .before .enum-told2 .given .1) _ _ _ (done _ _); keeps = refl }
+returns-3 c = record { returns = answered comparisonTold _ _ (c .before .before .before .compare-rules .ensures .is) _ (c .before .enum-told2 .given .1) _ _ _ (done _ _); keeps = refl }
 
 returns-4 : tie.Need-returns-4
-returns-4 c = record { returns = answered compareAnswer _ _ (c .before .before .before .compare-rules .ensures .is) _ (c .before .enum-told3 .given .1) _ _ _ (done _ _); keeps = refl }
+returns-4 c = record { returns = answered comparisonTold _ _ (c .before .before .before .compare-rules .ensures .is) _ (c .before .enum-told3 .given .1) _ _ _ (done _ _); keeps = refl }
 
 pub flowspec4-compare-spec : {M : Type 1} → statement M
 flowspec4-compare-spec =

@@ -1,7 +1,7 @@
 -- The door's answer as a word; a refusal is one of 01's table.
 use mathlib.Core.Path.{refl, sym, _∙_}
 use Rattle.rule.proofs.Refusal.{Refusal}
-use Rattle.c_api.specs.Answer.{feasibleAnswer}
+use Rattle.flowspec.specs.Told.{feasibilityTold}
 use Rattle.c_api.proofs.Places.{not-feasible}
 use Rattle.c_api.proofs.CallLaws.{word-is}
 use borrow.Author.Needs.{needs}
@@ -34,12 +34,12 @@ enum-told c = search needs
 returns : tie.Need-returns
 returns c =
     let kept = rw (c .before .before .before .before .before .is-on .ensures) at (c .before .before .before .before .judge-rule .ensures) in
-    record { is = word-is feasibleAnswer _ _ (kept .is) _ (c .before .before .number .given .1) _ (c .word-of .ensures); keeps = refl }
+    record { is = word-is feasibilityTold _ _ (kept .is) _ (c .before .before .number .given .1) _ (c .word-of .ensures); keeps = refl }
 
 returns-2 : tie.Need-returns-2
 returns-2 c =
     let kept = rw (c .before .before .before .is-on .ensures) at (c .before .before .judge-rule .ensures) in
-    record { is = word-is feasibleAnswer _ _ (kept .is) _ (c .enum-told .given .1) _ refl; keeps = refl }
+    record { is = word-is feasibilityTold _ _ (kept .is) _ (c .enum-told .given .1) _ refl; keeps = refl }
 
 pub flowspec4-feasible-spec : {M : Type 1} → statement M
 flowspec4-feasible-spec =

@@ -1,7 +1,7 @@
 -- The door's answer as a word and in `out`; a refusal is one of 01's table.
 use mathlib.Core.Path.{sym, _∙_, refl}
 use Rattle.rule.proofs.Refusal.{Refusal}
-use Rattle.c_api.specs.Answer.{lookupAnswer}
+use Rattle.flowspec.specs.Told.{lookupTold}
 use Rattle.c_api.proofs.Places.{not-looked-up}
 use Rattle.c_api.proofs.CallLaws.{refused, answered, lookup-done}
 use borrow.Author.Needs.{needs}
@@ -32,10 +32,10 @@ words-of-requires : tie.Need-words-of-requires
 words-of-requires c κs = search needs
 
 returns : tie.Need-returns
-returns c = record { returns = answered lookupAnswer _ _ (c .before .before .before .before .lookup .ensures .is) _ (c .before .before .number .given .1) _ _ _ (refused _ _ _ _ (refusal (c .before)) _ (c .word-of .ensures)); keeps = refl }
+returns c = record { returns = answered lookupTold _ _ (c .before .before .before .before .lookup .ensures .is) _ (c .before .before .number .given .1) _ _ _ (refused _ _ _ _ (refusal (c .before)) _ (c .word-of .ensures)); keeps = refl }
 
 returns-2 : tie.Need-returns-2
-returns-2 c = record { returns = answered lookupAnswer _ _ (c .before .before .before .before .lookup .ensures .is) _ (c .before .before .verdict .given .1) _ _ _ (lookup-done (c .before .before .verdict .given .0 .0) _ _ (c .words-of .ensures)); keeps = refl }
+returns-2 c = record { returns = answered lookupTold _ _ (c .before .before .before .before .lookup .ensures .is) _ (c .before .before .verdict .given .1) _ _ _ (lookup-done (c .before .before .verdict .given .0 .0) _ _ (c .words-of .ensures)); keeps = refl }
 
 pub flowspec4-lookup-spec : {M : Type 1} → statement M
 flowspec4-lookup-spec =

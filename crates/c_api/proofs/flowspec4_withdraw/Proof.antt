@@ -1,7 +1,7 @@
 -- The door's answer as a word; a refusal is one of 01's table.
 use mathlib.Core.Path.{refl, sym, _∙_}
 use Rattle.rule.proofs.Refusal.{Refusal}
-use Rattle.c_api.specs.Answer.{changeAnswer}
+use Rattle.flowspec.specs.Told.{changeTold}
 use Rattle.c_api.proofs.Places.{not-withdrawn}
 use Rattle.c_api.proofs.CallLaws.{word-is}
 use borrow.Author.Needs.{needs}
@@ -31,13 +31,13 @@ same-length : tie.Need-same-length
 same-length c = search needs
 
 returns : tie.Need-returns
-returns c = record { is = word-is changeAnswer _ _ (c .before .before .before .before .before .before .withdraw .ensures .is) _ (c .before .before .number .given .1) _ (c .word-of .ensures); leaves = c .before .before .before .before .before .before .withdraw .ensures .leaves; keeps = refl }
+returns c = record { is = word-is changeTold _ _ (c .before .before .before .before .before .before .withdraw .ensures .is) _ (c .before .before .number .given .1) _ (c .word-of .ensures); leaves = c .before .before .before .before .before .before .withdraw .ensures .leaves; keeps = refl }
 
 same-length-2 : tie.Need-same-length-2
 same-length-2 c = search needs
 
 returns-2 : tie.Need-returns-2
-returns-2 c = record { is = word-is changeAnswer _ _ (c .before .before .before .before .withdraw .ensures .is) _ (c .enum-told .given .1) _ refl; leaves = c .before .before .before .before .withdraw .ensures .leaves; keeps = refl }
+returns-2 c = record { is = word-is changeTold _ _ (c .before .before .before .before .withdraw .ensures .is) _ (c .enum-told .given .1) _ refl; leaves = c .before .before .before .before .withdraw .ensures .leaves; keeps = refl }
 
 pub flowspec4-withdraw-spec : {M : Type 1} → statement M
 flowspec4-withdraw-spec =

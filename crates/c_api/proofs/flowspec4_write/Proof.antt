@@ -3,7 +3,7 @@ use mathlib.Core.Path.{sym, _∙_, refl}
 use Rattle.rule.specs.Family.{ipv4}
 use Rattle.rule.proofs.Refusal.{Refusal}
 use Rattle.rule.proofs.WritingLaws.{not-written}
-use Rattle.c_api.specs.Answer.{writeAnswer}
+use Rattle.flowspec.specs.Told.{writingTold}
 use Rattle.c_api.proofs.CallLaws.{refused, done, answered}
 use borrow.Author.Needs.{needs}
 use Rattle.c_api.proofs.flowspec4_write.Statement.{statement}
@@ -32,13 +32,13 @@ same-length : tie.Need-same-length
 same-length c = search needs
 
 returns : tie.Need-returns
-returns c = record { returns = answered writeAnswer _ _ (c .before .before .before .before .before .before .write-rule .ensures .is) _ (c .before .before .number .given .1) _ _ _ (refused _ _ _ _ (refusal (c .before)) _ (c .word-of .ensures)); leaves = c .before .before .before .before .before .before .write-rule .ensures .leaves; keeps = refl }
+returns c = record { returns = answered writingTold _ _ (c .before .before .before .before .before .before .write-rule .ensures .is) _ (c .before .before .number .given .1) _ _ _ (refused _ _ _ _ (refusal (c .before)) _ (c .word-of .ensures)); leaves = c .before .before .before .before .before .before .write-rule .ensures .leaves; keeps = refl }
 
 same-length-2 : tie.Need-same-length-2
 same-length-2 c = search needs
 
 returns-2 : tie.Need-returns-2
-returns-2 c = record { returns = answered writeAnswer _ _ (c .before .before .before .before .before .before .write-rule .ensures .is) _ (c .before .before .octets .given .1) _ _ _ (done _ _); leaves = c .before .before .before .before .before .before .write-rule .ensures .leaves; keeps = refl }
+returns-2 c = record { returns = answered writingTold _ _ (c .before .before .before .before .before .before .write-rule .ensures .is) _ (c .before .before .octets .given .1) _ _ _ (done _ _); leaves = c .before .before .before .before .before .before .write-rule .ensures .leaves; keeps = refl }
 
 pub flowspec4-write-spec : {M : Type 1} → statement M
 flowspec4-write-spec =
