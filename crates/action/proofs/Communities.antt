@@ -1,11 +1,12 @@
 -- Laws of communities: the kind of each type, what a community of each kind adds, and what one community more adds.
 use Prim.Native.Nat.{ℕ, suc, _+_, _-_, _/_, _%_, _^_, _<_, _≤_}
-use mathlib.Core.Path.{_≡_, refl, sym, ap, _∙_}
+use mathlib.Core.Path.{_≡_, refl}
 use mathlib.Core.Bool.{Bool, true, false, true≢false, cond, not, _||_}
 use mathlib.Core.List.{List}
 use native.Mathlib.Nat.{sub-zero}
 use native.Mathlib.Omega.{arith}
 use borrow.Author.Tests.{ne-eqb, ltb-false, eqb-true, not-false}
+use lib.Bits.{bitAnd, and-mask}
 use lib.Dec.{ltb, eqb}
 use lib.ListN.{length}
 use Rattle.action.specs.declared.Actions.{Actions}
@@ -16,11 +17,10 @@ use Rattle.action.specs.declared.Rate.{Rate}
 use Rattle.action.specs.declared.Rate.the-variants.{Number, NotANumber}
 use Rattle.action.specs.declared.Reading.{Reading}
 use Rattle.action.specs.declared.Reading.the-variants.{Read, Unsound}
-use Rattle.action.specs.declared.Whole.{Whole}
-use Rattle.action.specs.Given.{given, smallerOf, firstOf}
+use Rattle.action.specs.Given.{smallerOf}
 use Rattle.action.specs.Rate.{rateOf}
 use Rattle.octets.specs.Number.{numberAt}
-use Rattle.action.specs.Actions.{noActions, isRedirect, kindOf, withRate, withKind, withCommunity, withCommunities, communitiesAt, andThen, wrongLength, actionsOf}
+use Rattle.action.specs.Actions.{noActions, isRedirect, kindOf, rateIn, smallestRate, withRate, withKind, withCommunity, withCommunities, communitiesAt, andThen, wrongLength, actionsOf}
 
 -- A type that is none of the four single ones is a redirect or is skipped.
 pub last-kind : (type : ℕ) (r : Bool) → (type ≡ 0x8006 → ⊥) → (type ≡ 0x800c → ⊥) → (type ≡ 0x8007 → ⊥) → (type ≡ 0x8009 → ⊥)
@@ -29,25 +29,32 @@ unfolding kindOf
 last-kind type r b p t m h =
     rw (ne-eqb type 0x8006 b, ne-eqb type 0x800c p, ne-eqb type 0x8007 t, ne-eqb type 0x8009 m, h)
 
--- What a community adds is what its kind adds.
-pub known : (kind found : Kind) (a : Actions) (c : ℕ) → found ≡ kindOf (c / 2 ^ 48) → found ≡ kind → withKind kind a c ≡ withCommunity a c
-unfolding withCommunity
-known kind found a c h k = ap (λ t. withKind t a c) (sym k ∙ h)
+module _ (before : Given) (c : ℕ) (r : Rate) (read : r ≡ rateOf (bitAnd c 0xffff_ffff)) where
+  -- A rate in a community that is a number counts with the one before it.
+  pub smaller-rate : (g s : Given) → r ≡ Number g → s ≡ smallerOf before g → Number s ≡ smallestRate before (rateIn c)
+  unfolding smallestRate
+  smaller-rate g s h k = rw (← (and-mask c 32), ← read, h, k)
 
-module _ (change : Given → Actions) (before : Given) (single : ℕ) where
-  -- A rate that is a number counts with the one before it.
-  pub rate-read : (r : Rate) (w : Whole) (g s : Given) → r ≡ rateOf single → r ≡ Number w → g ≡ given (w .number)
-      → s ≡ smallerOf before g → Read (change s) ≡ withRate change before (rateOf single)
-  rate-read r w g s h k e f = rw (← h, k, f, e)
+  -- A rate in a community that is not a number stays so.
+  pub no-rate : r ≡ NotANumber → NotANumber ≡ smallestRate before (rateIn c)
+  unfolding smallestRate
+  no-rate h = rw (← (and-mask c 32), ← read, h)
+
+-- What a community adds is what its kind adds.
+pub known : (kind : Kind) (a : Actions) (c : ℕ) (r : Reading) → kindOf (c / 2 ^ 48) ≡ kind → r ≡ withKind kind a c → r ≡ withCommunity a c
+unfolding withCommunity
+known kind a c r h e = rw h e
+
+module _ (change : Given → Actions) (r : Rate) where
+  -- A rate that is a number changes its field.
+  pub rate-read : (g : Given) → r ≡ Number g → Read (change g) ≡ withRate change r
+  unfolding withRate
+  rate-read g h = rw h
 
   -- A rate that is not a number is refused.
-  pub rate-refused : (r : Rate) → r ≡ rateOf single → r ≡ NotANumber → Unsound ≡ withRate change before (rateOf single)
-  rate-refused r h k = rw (← h, k)
-
--- A marking or a redirect counts if it is the first.
-pub first-read : (change : Given → Actions) (before g f : Given) (n m : ℕ) → m ≡ n → g ≡ given m → f ≡ firstOf before g
-    → Read (change f) ≡ Read (change (firstOf before (given n)))
-first-read change before g f n m e h k = rw (k, h, e)
+  pub rate-refused : r ≡ NotANumber → Unsound ≡ withRate change r
+  unfolding withRate
+  rate-refused h = rw h
 
 neither : (a b : Bool) → a || b ≡ false → (a ≡ false) × (b ≡ false)
 neither true b h = absurd (true≢false h)

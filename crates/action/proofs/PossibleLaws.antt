@@ -17,8 +17,8 @@ use Rattle.action.specs.declared.Rate.the-variants.{Number, NotANumber}
 use Rattle.action.specs.declared.Reading.{Reading}
 use Rattle.action.specs.declared.Reading.the-variants.{Read, Unsound}
 use Rattle.action.specs.Given.{given, allowed}
-use Rattle.action.specs.Rate.{rateOf, rateGiven, number}
-use Rattle.action.specs.Actions.{noActions, withByteRate, withPacketRate, isRedirect, kindOf, withRate, withKind, withCommunity, withCommunities, andThen, wrongLength, communitiesAt, actionsOf}
+use Rattle.action.specs.Rate.{rateGiven}
+use Rattle.action.specs.Actions.{noActions, withByteRate, withPacketRate, isRedirect, kindOf, rateIn, smallestRate, withRate, withKind, withCommunity, withCommunities, andThen, wrongLength, communitiesAt, actionsOf}
 use Rattle.action.specs.Possible.{couldBe}
 use Rattle.action.proofs.GivenLaws.{Fine, fine-absent, fine-given, fine-first, fine-smaller}
 use Rattle.action.proofs.RatesGiven.{complete}
@@ -59,11 +59,11 @@ Sound (Read a) = Could a
 Sound Unsound = Unit {0}
 
 -- A rate read keeps actions possible, whichever of the two rates it changes.
-rate-could : (change : Given → Actions) (before : Given) (single : ℕ) → ((g : Given) → Fine rateGiven g → Could (change g))
-    → Fine rateGiven before → (r : Rate) → rateOf single ≡ r → Sound (withRate change before r)
-rate-could change before single keeps p (Number w) h =
-    keeps _ (fine-smaller rateGiven before (given (w .number)) p (fine-given rateGiven (w .number) (complete single (w .number) h)))
-rate-could change before single keeps p NotANumber h = tt
+rate-could : (change : Given → Actions) (before : Given) (c : ℕ) → ((g : Given) → Fine rateGiven g → Could (change g))
+    → Fine rateGiven before → (r : Rate) → rateIn c ≡ r → Sound (withRate change (smallestRate before r))
+unfolding smallestRate withRate
+rate-could change before c keeps p (Number g) h = keeps _ (fine-smaller rateGiven before g p (complete (c % 2 ^ 32) g h))
+rate-could change before c keeps p NotANumber h = tt
 
 -- Only the redirect types are of the kind redirect.
 redirect-only : (b p t m r : Bool)
@@ -83,13 +83,13 @@ redirect-type type h = redirect-only (eqb type 0x8006) (eqb type 0x800c) (eqb ty
 kind-could : (k : Kind) (a : Actions) (c : ℕ) → Could a → kindOf (c / 2 ^ 48) ≡ k → Sound (withKind k a c)
 unfolding withKind
 kind-could ByteRate a c p h =
-    rate-could (withByteRate a) (a .bytes) (c % 2 ^ 32)
+    rate-could (withByteRate a) (a .bytes) c
     (λ g q. record { bytes = q; packets = p .packets; marks = p .marks; redirects = p .redirects })
-    (p .bytes) (rateOf (c % 2 ^ 32)) refl
+    (p .bytes) (rateIn c) refl
 kind-could PacketRate a c p h =
-    rate-could (withPacketRate a) (a .packets) (c % 2 ^ 32)
+    rate-could (withPacketRate a) (a .packets) c
     (λ g q. record { bytes = p .bytes; packets = q; marks = p .marks; redirects = p .redirects })
-    (p .packets) (rateOf (c % 2 ^ 32)) refl
+    (p .packets) (rateIn c) refl
 kind-could TrafficAction a c p h = record { bytes = p .bytes; packets = p .packets; marks = p .marks; redirects = p .redirects }
 kind-could Redirect a c p h =
     let here = fine-given redirectType c (redirect-type (c / 2 ^ 48) h) in

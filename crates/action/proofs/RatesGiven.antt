@@ -9,9 +9,12 @@ use native.Mathlib.Omega.{arith}
 use borrow.Author.Tests.{ltb-true, leb-true, lt-ltb, le-ltb, le-leb, lt-leb, eq-eqb, ne-eqb}
 use lib.Dec.{leb, eqb, lit<, lit≤}
 use lib.Pow.{shl-lt, shl-exact, pow-mono, pow-pos, high, low}
-use Rattle.action.specs.Rate.{fitsFraction, rateGiven, wholeOf, rateOf, rateOfParts, number, isNotANumber}
-use Rattle.action.specs.declared.Rate.{Rate}
+use Rattle.octets.proofs.Cases.{apart}
+use Rattle.action.specs.declared.Given.{Given}
 use Rattle.action.specs.declared.Rate.the-variants.{Number, NotANumber}
+use Rattle.action.specs.Given.{given}
+use Rattle.action.specs.Rate.{fitsFraction, rateGiven, wholeOf, rateOf, rateOfParts, number, isNotANumber}
+use Rattle.action.proofs.GivenLaws.{Fine, fine-given}
 use Rattle.action.proofs.Rates.{whole-zero, whole-below-one, whole-past-limit, whole-up, whole-down}
 
 -- Above 2^63 nothing passes, and up to it the halvings decide.
@@ -102,23 +105,19 @@ whole-given e f b =
         (given-small ((2 ^ 23 + f) / 2 ^ (150 - e)) (let d = div-le-self (2 ^ 23 + f) (2 ^ (150 - e)) in omega arith))
     middle (no h) l m = rw (← (whole-up e f b (omega arith) m)) (given-times (2 ^ 23 + f) (e - 150) (omega arith) (omega arith))
 
-abbrev number-in : Rate → ℕ
-number-in (Number w) = w .number
-number-in NotANumber = 0
-
-given-number : (nan positive : Bool) (w n : ℕ) → rateGiven w ≡ true
-    → cond nan NotANumber (cond positive (number w) (number 0)) ≡ number n → rateGiven n ≡ true
-given-number true positive w n g h = let z : _≡_ {A = ℕ} 0 1 = cc in absurd (omega arith)
-given-number false true w n g h = rw (← (ap number-in h)) g
-given-number false false w n g h = rw (← (ap number-in h)) (given-small 0 (lit< tt))
+given-number : (nan positive : Bool) (n : ℕ) (g : Given) → rateGiven n ≡ true
+    → cond nan NotANumber (cond positive (number n) (number 0)) ≡ Number g → Fine rateGiven g
+given-number true positive n g p h = apart (cc)
+given-number false true n g p h = let e : given n ≡ g = cc in rw (← e) (fine-given rateGiven n p)
+given-number false false n g p h = let e : given 0 ≡ g = cc in rw (← e) (fine-given rateGiven 0 (given-small 0 (lit< tt)))
 
 -- Every rate read passes.
-pub complete : (single n : ℕ) → rateOf single ≡ number n → rateGiven n ≡ true
+pub complete : (single : ℕ) (g : Given) → rateOf single ≡ Number g → Fine rateGiven g
 unfolding rateOf rateOfParts
-complete single n h =
+complete single g h =
     let e = single / 2 ^ 23 % 2 ^ 8 in
     let f = single % 2 ^ 23 in
-    given-number (isNotANumber e f) (eqb (single / 2 ^ 31) 0) (wholeOf e f) n (whole-given e f (mod-lt single (lit< tt))) h
+    given-number (isNotANumber e f) (eqb (single / 2 ^ 31) 0) (wholeOf e f) g (whole-given e f (mod-lt single (lit< tt))) h
 
 -- A single with no sign, by its exponent and fraction.
 joined : (e f : ℕ) → e < 255 → f < 2 ^ 23 → rateOf (e * 2 ^ 23 + f) ≡ number (wholeOf e f)

@@ -1,5 +1,5 @@
 -- When actions are unsound (`unsound-exactly`): at a wrong length, or where some community, wherever it stands, is a rate that is not a number.
-use Prim.Native.Nat.{ℕ, _/_, _%_, _^_}
+use Prim.Native.Nat.{ℕ, _/_, _^_}
 use mathlib.Core.Path.{_≡_, refl}
 use mathlib.Core.Bool.{Bool, true, false, _&&_, _||_}
 use mathlib.Core.List.{List, [], _∷_}
@@ -13,8 +13,7 @@ use Rattle.action.specs.declared.Rate.{Rate}
 use Rattle.action.specs.declared.Rate.the-variants.{Number, NotANumber}
 use Rattle.action.specs.declared.Reading.{Reading}
 use Rattle.action.specs.declared.Reading.the-variants.{Read, Unsound}
-use Rattle.action.specs.Rate.{rateOf}
-use Rattle.action.specs.Actions.{noActions, withByteRate, withPacketRate, kindOf, withRate, withKind, withCommunity, withCommunities, andThen, communitiesAt, wrongLength, actionsOf}
+use Rattle.action.specs.Actions.{noActions, withByteRate, withPacketRate, kindOf, rateIn, smallestRate, withRate, withKind, withCommunity, withCommunities, andThen, communitiesAt, wrongLength, actionsOf}
 
 abbrev pub isUnsound : Reading → Bool
 isUnsound (Read a) = false
@@ -29,12 +28,12 @@ isRate Marking = false
 isRate Other = false
 
 abbrev pub givesNoNumber : Rate → Bool
-givesNoNumber (Number w) = false
+givesNoNumber (Number g) = false
 givesNoNumber NotANumber = true
 
 -- Is a community a rate that is not a number?
 abbrev pub refuses : ℕ → Bool
-refuses c = isRate (kindOf (c / 2 ^ 48)) && givesNoNumber (rateOf (c % 2 ^ 32))
+refuses c = isRate (kindOf (c / 2 ^ 48)) && givesNoNumber (rateIn c)
 
 abbrev pub some : (ℕ → Bool) → List ℕ → Bool
 some test [] = false
@@ -42,15 +41,16 @@ some test (c ∷ cs) = test c || some test cs
 
 module _ (next : Actions → Reading) (rest : Bool) (later : (b : Actions) → isUnsound (next b) ≡ rest) where
   rate-refuses : (change : Given → Actions) (before : Given) (r : Rate)
-      → isUnsound (andThen (withRate change before r) next) ≡ givesNoNumber r || rest
-  rate-refuses change before (Number w) = later _
+      → isUnsound (andThen (withRate change (smallestRate before r)) next) ≡ givesNoNumber r || rest
+  unfolding smallestRate withRate
+  rate-refuses change before (Number g) = later _
   rate-refuses change before NotANumber = refl
 
   kind-refuses : (k : Kind) (a : Actions) (c : ℕ)
-      → isUnsound (andThen (withKind k a c) next) ≡ isRate k && givesNoNumber (rateOf (c % 2 ^ 32)) || rest
+      → isUnsound (andThen (withKind k a c) next) ≡ isRate k && givesNoNumber (rateIn c) || rest
   unfolding withKind
-  kind-refuses ByteRate a c = rate-refuses (withByteRate a) (a .bytes) (rateOf (c % 2 ^ 32))
-  kind-refuses PacketRate a c = rate-refuses (withPacketRate a) (a .packets) (rateOf (c % 2 ^ 32))
+  kind-refuses ByteRate a c = rate-refuses (withByteRate a) (a .bytes) (rateIn c)
+  kind-refuses PacketRate a c = rate-refuses (withPacketRate a) (a .packets) (rateIn c)
   kind-refuses TrafficAction a c = later _
   kind-refuses Redirect a c = later _
   kind-refuses Marking a c = later _

@@ -21,8 +21,8 @@ use Rattle.action.specs.declared.Kind.{Kind}
 use Rattle.action.specs.declared.Kind.the-variants.{ByteRate, PacketRate, TrafficAction, Redirect, Marking}
 use Rattle.action.specs.declared.Reading.the-variants.{Read}
 use Rattle.action.specs.Given.{absent, given, smallerOf, firstOf}
-use Rattle.action.specs.Rate.{rateOf, rateGiven}
-use Rattle.action.specs.Actions.{noActions, withByteRate, withPacketRate, withFlags, withMarking, withRedirect, isRedirect, kindOf, withRate, withKind, withCommunity, withCommunities, wrongLength, communitiesAt, actionsOf}
+use Rattle.action.specs.Rate.{rateGiven}
+use Rattle.action.specs.Actions.{noActions, withByteRate, withPacketRate, withFlags, withMarking, withRedirect, isRedirect, kindOf, rateIn, smallestRate, withRate, withKind, withCommunity, withCommunities, wrongLength, communitiesAt, actionsOf}
 use Rattle.action.specs.Possible.{couldBe}
 use Rattle.action.proofs.GivenLaws.{Fine, by-fine}
 use Rattle.action.proofs.RatesGiven.{sound}
@@ -113,9 +113,9 @@ adds-kind kind type low a b p q h k =
 
 -- A rate that some single gives, of either kind.
 adds-rate : (kind : Kind) (type : ℕ) (change : Given → Actions) → type < 2 ^ 16 → kindOf type ≡ kind
-    → ((c : ℕ) → withKind kind (change absent) c ≡ withRate change absent (rateOf (c % 2 ^ 32)))
+    → ((c : ℕ) → withKind kind (change absent) c ≡ withRate change (smallestRate absent (rateIn c)))
     → (m : ℕ) → rateGiven m ≡ true → Adds (change absent) (change (given m))
-unfolding smallerOf
+unfolding smallestRate smallerOf withRate
 adds-rate kind type change p h same m g =
     let s = sound m g in
     let below = s .1 in

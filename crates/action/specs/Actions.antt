@@ -65,18 +65,26 @@ kindOf type =
 abbrev pub hasBit : ℕ → ℕ → Bool
 hasBit community bit = not (eqb (bitAnd community bit) 0)
 
--- A rate counts with those of its kind before it: the smallest stands, and not-a-number makes the actions unsound;
--- both are 01's choices, since section 7.7 leaves the first open and the RFC is silent on the second.
-abbrev pub withRate : (Given → Actions) → Given → Rate → Reading
-withRate change before (Number w) = Read (change (smallerOf before (given (w .number))))
-withRate change before NotANumber = Unsound
+-- The rate in a community: its last four octets (sections 7.1 and 7.2).
+abbrev pub rateIn : ℕ → Rate
+rateIn c = rateOf (c % 2 ^ 32)
 
--- What a community of a kind adds to the actions told so far: a rate is the last four octets; 0x02 is S and 0x01 is T; a marking is the low
--- six bits of the last octet; a redirect is the community itself. The layouts are those of sections 7.1 to 7.5; that the
--- first marking and the first redirect stand is 01's choice.
+-- A rate counts with those of its kind before it: the smallest stands, which is 01's choice, since section 7.7 leaves it open.
+unfoldable pub smallestRate : Given → Rate → Rate
+smallestRate before (Number rate) = Number (smallerOf before rate)
+smallestRate before NotANumber = NotANumber
+
+-- The actions with another rate; that not-a-number makes them unsound is 01's choice, since the RFC is silent on it.
+unfoldable pub withRate : (Given → Actions) → Rate → Reading
+withRate change (Number rate) = Read (change rate)
+withRate change NotANumber = Unsound
+
+-- What a community of a kind adds to the actions told so far: 0x02 is S and 0x01 is T; a marking is the low six bits of the last octet; a
+-- redirect is the community itself. The layouts are those of sections 7.3 to 7.5; that the first marking and the first redirect stand is
+-- 01's choice.
 unfoldable pub withKind : Kind → Actions → ℕ → Reading
-withKind ByteRate a c = withRate (withByteRate a) (a .bytes) (rateOf (c % 2 ^ 32))
-withKind PacketRate a c = withRate (withPacketRate a) (a .packets) (rateOf (c % 2 ^ 32))
+withKind ByteRate a c = withRate (withByteRate a) (smallestRate (a .bytes) (rateIn c))
+withKind PacketRate a c = withRate (withPacketRate a) (smallestRate (a .packets) (rateIn c))
 withKind TrafficAction a c = Read (withFlags a (a .sample || hasBit c 0x02) (a .onward || hasBit c 0x01))
 withKind Marking a c = Read (withMarking a (firstOf (a .marking) (given (c % 2 ^ 6))))
 withKind Redirect a c = Read (withRedirect a (firstOf (a .redirect) (given c)))

@@ -6,6 +6,7 @@ use mathlib.Core.Bool.{Bool, cond, not, _&&_, _||_}
 use lib.Dec.{leb, ltb, eqb}
 use Rattle.action.specs.declared.Rate.{Rate}
 use Rattle.action.specs.declared.Rate.the-variants.{Number, NotANumber}
+use Rattle.action.specs.Given.{given}
 
 -- The value of a single without its sign, times 2^149 (IEEE 754-1985 section 3.2.1). Infinity, exponent 255 with no fraction, comes out
 -- above 2^63 and so needs no case.
@@ -22,7 +23,7 @@ wholeOf exponent fraction = wholePart (scaled exponent fraction)
 
 -- A number as the answer to a rate.
 abbrev pub number : ℕ → Rate
-number n = Number (record { number = n })
+number n = Number (given n)
 
 -- Exponent 255 with a fraction is not a number, whatever the sign (IEEE 754-1985 section 3.2.1).
 abbrev pub isNotANumber : ℕ → ℕ → Bool

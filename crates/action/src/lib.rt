@@ -3,25 +3,20 @@ ghost use mathlib.Core.Path.{_≡_};
 ghost use Prim.Native.Nat.{_<_, _%_, _^_};
 ghost use Rattle.action.specs.Rate.{rateOf, wholeOf, rateGiven};
 ghost use Rattle.action.specs.Given.{given, smallerOf, firstOf, allowed};
-ghost use Rattle.action.specs.Actions.{noActions, isRedirect, kindOf, withCommunity, actionsOf};
+ghost use Rattle.action.specs.Actions.{noActions, isRedirect, kindOf, rateIn, smallestRate, withCommunity, actionsOf};
 ghost use Rattle.action.specs.Merging.{merged};
 ghost use Rattle.action.specs.Possible.{couldBe};
-
-// The number that a rate gives.
-pub struct Whole {
-    pub number: u64,
-}
-
-// What a rate gives: a number, or nothing to go by.
-pub enum Rate {
-    Number(Whole),
-    NotANumber,
-}
 
 // A number that may be missing; a missing one is 0.
 pub struct Given {
     pub present: bool,
     pub number: u64,
+}
+
+// What a rate gives, as actions hold it: a number, or nothing to go by.
+pub enum Rate {
+    Number(Given),
+    NotANumber,
 }
 
 // What rules ask for: limits, S as `sample`, T as `onward`, a marking, and the redirect community.
@@ -48,6 +43,16 @@ pub enum Kind {
 pub enum Reading {
     Read(Actions),
     Unsound,
+}
+
+// A number that is there.
+fn given_of(number: u64) -> Given
+    ensures { λ r. ⌜ r ≡ given number ⌝ }
+{
+    Given {
+        present: true,
+        number,
+    }
 }
 
 // The number that a single without its sign gives, by the size of its exponent.
@@ -84,10 +89,10 @@ pub fn rate_of(single: u32) -> Rate
         return Rate::NotANumber;
     }
     if sign != 0 {
-        return Rate::Number(Whole { number: 0 });
+        return Rate::Number(given_of(0));
     }
     let number = whole_of(exponent, fraction);
-    Rate::Number(Whole { number })
+    Rate::Number(given_of(number))
 }
 
 // Is a number one that some rate gives?
@@ -105,16 +110,6 @@ pub fn is_rate(number: u64) -> bool
         rest = rest / 2;
     }
     true
-}
-
-// A number that is there.
-fn given_of(number: u64) -> Given
-    ensures { λ r. ⌜ r ≡ given number ⌝ }
-{
-    Given {
-        present: true,
-        number,
-    }
 }
 
 // The smaller of two rates, or the one that is there; of equal ones the first.
@@ -181,12 +176,16 @@ fn kind_of(octets: u64) -> Kind
     }
 }
 
-// The rate in a community: its last four octets.
-fn rate_in(community: u64) -> Rate
-    ensures { λ r. ⌜ r ≡ rateOf (community % 2 ^ 32) ⌝ }
+// The smallest rate of a kind: the smaller of the one before and the one in a community, its last four octets.
+fn smallest_rate(before: Given, community: u64) -> Rate
+    ensures { λ r. ⌜ r ≡ smallestRate before (rateIn community) ⌝ }
 {
     let single = community & 0xffff_ffff;
-    rate_of(single as u32)
+    let Rate::Number(rate) = rate_of(single as u32) else {
+        return Rate::NotANumber;
+    };
+    let smaller = smaller_of(before, rate);
+    Rate::Number(smaller)
 }
 
 // What a community adds to the actions told so far: its kind says which field is changed, S and T together, none where it is skipped.
@@ -197,17 +196,15 @@ fn with_community(actions: Actions, community: u64) -> Reading
     let kind = kind_of(community >> 48);
     match kind {
         Kind::ByteRate => {
-            let Rate::Number(whole) = rate_in(community) else {
+            let Rate::Number(rate) = smallest_rate(actions.bytes, community) else {
                 return Reading::Unsound;
             };
-            let rate = smaller_of(actions.bytes, given_of(whole.number));
             next.bytes = rate;
         }
         Kind::PacketRate => {
-            let Rate::Number(whole) = rate_in(community) else {
+            let Rate::Number(rate) = smallest_rate(actions.packets, community) else {
                 return Reading::Unsound;
             };
-            let rate = smaller_of(actions.packets, given_of(whole.number));
             next.packets = rate;
         }
         Kind::TrafficAction => {

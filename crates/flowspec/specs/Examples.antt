@@ -41,7 +41,7 @@ orderedAs Ordering·gt = 2 ∷ []
 
 -- The number that a rate gives, or 13.
 abbrev pub ratedAs : Rate → List ℕ
-ratedAs (Number whole) = 0 ∷ whole .number ∷ []
+ratedAs (Number rate) = 0 ∷ rate .number ∷ []
 ratedAs NotANumber = 13 ∷ []
 
 -- 1 where the packet matches, 0 where it does not, 12 where it is unusable.
