@@ -90,20 +90,21 @@ module _ (s : List ℕ) (a : Actions) (at : ℕ) (reached : Reached s a at) wher
   unfolding withCommunities communitiesAt
   finished h = let none : (length s - at) / 8 ≡ 0 = omega arith in rw none at (reached .goes-on)
 
-  module _ (more : at < length s) (c : ℕ) (r : Reading) (here : c ≡ numberAt 8 s at) (adds : r ≡ withCommunity a c) where
-    first-of-rest : andThen r (λ b. withCommunities b (communitiesAt ((length s - (at + 8)) / 8) s (at + 8))) ≡ actionsOf s
+  module _ (more : at < length s) where
+    first-of-rest : andThen (withCommunity a (numberAt 8 s at)) (λ b. withCommunities b (communitiesAt ((length s - (at + 8)) / 8) s (at + 8)))
+        ≡ actionsOf s
     unfolding withCommunities communitiesAt
     first-of-rest =
         let w = reached .whole in
         let one-more : (length s - at) / 8 ≡ suc ((length s - (at + 8)) / 8) = omega arith in
-        rw (adds, here) (rw one-more at (reached .goes-on))
+        rw one-more at (reached .goes-on)
 
     -- One community more.
-    pub next : (b : Actions) → r ≡ Read b → Reached s b (at + 8)
+    pub next : (b : Actions) → withCommunity a (numberAt 8 s at) ≡ Read b → Reached s b (at + 8)
     next b h =
         let w = reached .whole in
         record { few = reached .few; within = omega arith; whole = omega arith; goes-on = rw h at first-of-rest }
 
     -- A community that is refused.
-    pub stopped : r ≡ Unsound → Unsound ≡ actionsOf s
+    pub stopped : withCommunity a (numberAt 8 s at) ≡ Unsound → Unsound ≡ actionsOf s
     stopped h = rw h at first-of-rest

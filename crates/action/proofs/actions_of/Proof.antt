@@ -36,11 +36,7 @@ enum-told : tie.Need-enum-told Inv-loop μ-loop
 enum-told c = search needs
 
 returns-2 : tie.Need-returns-2 Inv-loop μ-loop
-returns-2 c =
-    let w = c .before .before in
-    let n = w .before in
-    let l = n .before .before .loop in
-    stopped _ (l .actions) (l .at) (l .inv .1) (search needs) _ _ (n .number-at .ensures .0) (w .with-community .ensures) (c .enum-told .given .1)
+returns-2 c = stopped _ _ _ (c .before .before .before .before .before .loop .inv .1) (search needs) (cc)
 
 add-at : tie.Need-add-at Inv-loop μ-loop
 add-at c = omega arith
@@ -49,14 +45,10 @@ loop-less : tie.Need-loop-less Inv-loop μ-loop
 loop-less c = omega arith
 
 loop-again : tie.Need-loop-again Inv-loop μ-loop
-loop-again c =
-    let w = c .before .before .before in
-    let n = w .before in
-    let l = n .before .before .loop in
-    (refl, next _ (l .actions) (l .at) (l .inv .1) (search needs) _ _ (n .number-at .ensures .0) (w .with-community .ensures) _ (c .before .next .given .1))
+loop-again c = (refl, next _ _ _ (c .before .before .before .before .before .before .loop .inv .1) (search needs) _ (cc))
 
 returns-3 : tie.Need-returns-3 Inv-loop μ-loop
-returns-3 c = let l = c .before .loop in finished _ (l .actions) (l .at) (l .inv .1) (search needs)
+returns-3 c = finished _ _ _ (c .before .loop .inv .1) (search needs)
 
 pub actions-of-spec : {M : Type 1} → statement M
 actions-of-spec =

@@ -27,19 +27,7 @@ is-allowed-requires-4 c κs = search needs
 
 returns : tie.Need-returns
 unfolding couldBe
-returns c =
-    let m = c .before .before .before in
-    let p = m .before .before in
-    let b = p .before .before in
-    rw (
-      b .is-allowed .ensures,
-      b .before .is-rate .ensures,
-      p .is-allowed2 .ensures,
-      p .before .is-rate2 .ensures,
-      m .is-allowed3 .ensures,
-      c .is-allowed4 .ensures,
-      c .before .is-redirect .ensures,
-    )
+returns c = cc
 
 pub could-be-spec : {M : Type 1} → statement M
 could-be-spec =

@@ -1,5 +1,5 @@
 -- What a community asks for: each arm's type is one of the definition's, and the last arm has the rest.
-use mathlib.Core.Path.{ap, sym, _∙_}
+use mathlib.Core.Path.{ap, sym}
 use mathlib.Core.Bool.{true, false}
 use borrow.Author.Needs.{needs}
 use Rattle.action.specs.Actions.{kindOf}
@@ -27,14 +27,10 @@ unfolding kindOf
 returns-4 c = ap kindOf (sym (c .match .keys4))
 
 returns-5 : tie.Need-returns-5
-returns-5 c =
-    let m = c .before .before .match .rest in
-    last-kind (c .before .before .before .args .octets) true (m .0 .0 .0 .1) (m .0 .0 .1) (m .0 .1) (m .1) (sym (c .before .is-redirect .ensures) ∙ c .if1 .taken)
+returns-5 c = last-kind _ true (search needs) (search needs) (search needs) (search needs) (cc)
 
 returns-6 : tie.Need-returns-6
-returns-6 c =
-    let m = c .before .before .match .rest in
-    last-kind (c .before .before .before .args .octets) false (m .0 .0 .0 .1) (m .0 .0 .1) (m .0 .1) (m .1) (sym (c .before .is-redirect .ensures) ∙ c .if1 .left)
+returns-6 c = last-kind _ false (search needs) (search needs) (search needs) (search needs) (cc)
 
 pub kind-of-spec : {M : Type 1} → statement M
 kind-of-spec =

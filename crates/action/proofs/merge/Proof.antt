@@ -18,11 +18,7 @@ first-of-requires-2 c κs = search needs
 
 returns : tie.Need-returns
 unfolding merged
-returns c =
-    let r = c .before .before in
-    let m = r .before in
-    let p = m .before in
-    rw (p .before .smaller-of .ensures, p .smaller-of2 .ensures, m .first-of .ensures, r .first-of2 .ensures)
+returns c = cc
 
 pub merge-spec : {M : Type 1} → statement M
 merge-spec =
