@@ -1,7 +1,7 @@
 -- Comparing two rules: one law for each way in which the code comes to an answer. Assumes nothing.
 use mathlib.Core.Path.{_≡_, refl, sym, ap, _∙_}
 use mathlib.Core.List.{List, [], _∷_}
-use Prim.Native.Nat.{ℕ, _+_, _-_, _≤_, Ordering, Ordering·lt, Ordering·eq, Ordering·gt}
+use Prim.Native.Nat.{ℕ, _+_, _-_, _≤_}
 use native.Mathlib.Omega.{arith}
 use native.Mathlib.Nat.{add-sub-cancel-left}
 use lib.ListN.{length, take, drop}
@@ -17,18 +17,13 @@ use Rattle.rule.proofs.ValueLaws.{accepted-small}
 use Rattle.order.specs.Precedence.{precedence}
 use Rattle.flowspec.specs.declared.Comparison.{Comparison}
 use Rattle.flowspec.specs.declared.Comparison.the-variants.{Refused}
-use Rattle.flowspec.specs.Compare.{compared, comparisonOf, compareRules}
+use Rattle.flowspec.specs.Compare.{comparisonOf, compareRules}
 use Rattle.flowspec.specs.Told.{comparisonTold}
 use Rattle.flowspec.specs.Promise.{ComparesTwo}
 
 -- a promise from the equation for the answer
 kept : (a b : List ℕ) (answer : Comparison) → answer ≡ compareRules a b → ComparesTwo a b answer (a ∷ b ∷ [])
 kept a b answer e = record { is = e; says = ap comparisonTold e; keeps = refl }
-
-two-orders : (o : Ordering) → comparisonOf (ordered o) ≡ compared o
-two-orders Ordering·lt = refl
-two-orders Ordering·eq = refl
-two-orders Ordering·gt = refl
 
 module _ (a b : List ℕ) (family : Family) (four : family ≡ ipv4) (left right : Reading) (is : left ≡ oneRule family a) (other-is : right ≡ oneRule family b) where
   first-is : oneRule ipv4 a ≡ left
@@ -59,7 +54,7 @@ module _ (a b : List ℕ) (family : Family) (four : family ≡ ipv4) (left right
       unfolding compareRules
       compare-both which answer e f =
           let g = rw (add-sub-cancel-left start size, add-sub-cancel-left begin extent) at e in
-          kept a b answer (f ∙ ap comparisonOf g ∙ two-orders (precedence ipv4 (take size (drop start a)) (take extent (drop begin b))) ∙ rw (first-is, read, second-is, also))
+          kept a b answer (f ∙ ap comparisonOf g ∙ rw (first-is, read, second-is, also))
 
 -- a value that was read has at most 4,096 octets
 pub value-small : (s : List ℕ) (start size : ℕ) → ReadRule ipv4 s start size → length (take (start + size - start) (drop start s)) ≤ 4096

@@ -4,59 +4,60 @@ use mathlib.Core.Bool.{Bool, true, false, not}
 use mathlib.Core.List.{List, [], _∷_}
 use Prim.Native.Nat.{ℕ, _+_, _-_}
 use native.Mathlib.Nat.{add-sub-cancel-left}
-use lib.ListN.{take, drop}
 use borrow.Author.Tests.{not-true, not-false}
+use Rattle.octets.proofs.Cases.{by-test, apart}
 use Rattle.rule.specs.declared.Family.{Family}
 use Rattle.rule.specs.declared.Reading.{Reading}
 use Rattle.rule.specs.declared.Reading.the-variants.{Rule, Refused as NotRead}
 use Rattle.rule.specs.Family.{ipv4}
-use Rattle.rule.specs.Reading.{oneRule}
+use Rattle.rule.specs.Reading.{valueOf, oneRule}
 use Rattle.rule.proofs.ReadingLaws.{ReadRule, one-read}
 use Rattle.route.specs.declared.Destination.{Destination}
 use Rattle.route.specs.Route.{routesOf, soundRoutes}
 use Rattle.route.specs.Destination.{destinationOf}
 use Rattle.route.specs.Feasible.{feasible}
 use Rattle.flowspec.specs.declared.Feasibility.{Feasibility}
-use Rattle.flowspec.specs.declared.Feasibility.the-variants.{Feasible, Refused}
-use Rattle.flowspec.specs.Feasibility.{isFeasible, judged, judgement}
+use Rattle.flowspec.specs.declared.Feasibility.the-variants.{Refused}
+use Rattle.flowspec.specs.Feasibility.{readWithRoutes, isFeasible, judged, judgement}
 use Rattle.flowspec.specs.Told.{feasibilityTold}
 use Rattle.flowspec.specs.Promise.{JudgesOne}
 
--- the judgement of a value
-module _ (relaxed : Bool) (words value : List ℕ) (originator : ℕ) (destination : Destination) (is : destination ≡ destinationOf ipv4 value) (says : Bool)
-    (tells : says ≡ feasible 32 relaxed destination originator (routesOf words)) where
-  told-so : isFeasible relaxed words value originator ≡ says
-  unfolding isFeasible
-  told-so = rw (← is) (sym tells)
+-- reading a rule once the routes are found sound
+module _ (words rule : List ℕ) where
+  pub with-unsound : (sound : Bool) → sound ≡ soundRoutes 32 words → not sound ≡ true → NotRead 9 0 ≡ readWithRoutes words rule
+  unfolding readWithRoutes
+  with-unsound sound is h = rw (← is, not-true sound h)
 
-  pub value-feasible : says ≡ true → Feasible ≡ judged (isFeasible relaxed words value originator)
-  value-feasible h = rw (told-so, h)
+  pub with-sound : (sound : Bool) (family : Family) (reading : Reading) → sound ≡ soundRoutes 32 words → not sound ≡ false → family ≡ ipv4
+      → reading ≡ oneRule family rule → reading ≡ readWithRoutes words rule
+  unfolding readWithRoutes
+  with-sound sound family reading is h four read = read ∙ rw (← is, not-false sound h, four)
 
-  pub value-infeasible : says ≡ false → Refused 8 0 ≡ judged (isFeasible relaxed words value originator)
-  value-infeasible h = rw (told-so, h)
+  -- a rule that was so read is one that was read
+  pub with-routes : (start size : ℕ) → readWithRoutes words rule ≡ Rule start size → oneRule ipv4 rule ≡ Rule start size
+  unfolding readWithRoutes
+  with-routes start size e = by-test (soundRoutes 32 words) (λ h. rw h at e) (λ h. let z : NotRead 9 0 ≡ Rule start size = rw h at e in apart (cc))
 
-module _ (relaxed : Bool) (words rule : List ℕ) (originator : ℕ) where
+  pub rule-there : (reading : Reading) (start size : ℕ) → reading ≡ readWithRoutes words rule → reading ≡ Rule start size → ReadRule ipv4 rule start size
+  rule-there reading start size is e = one-read ipv4 rule start size (with-routes start size (sym is ∙ e))
+
+-- judging a value
+pub value-judged : (relaxed : Bool) (words value : List ℕ) (originator : ℕ) (destination : Destination) (feasibly : Bool) → destination ≡ destinationOf ipv4 value
+    → feasibly ≡ feasible 32 relaxed destination originator (routesOf words) → feasibly ≡ isFeasible relaxed words value originator
+unfolding isFeasible
+value-judged relaxed words value originator destination feasibly is says = says ∙ rw is
+
+module _ (relaxed : Bool) (words rule : List ℕ) (originator : ℕ) (reading : Reading) (read : reading ≡ readWithRoutes words rule) where
   -- a promise from the equation for the answer
   kept : (answer : Feasibility) → answer ≡ judgement relaxed words rule originator → JudgesOne relaxed words rule originator answer (words ∷ rule ∷ [])
   kept answer e = record { is = e; says = ap feasibilityTold e; keeps = refl }
 
-  module _ (sound : Bool) (is : sound ≡ soundRoutes 32 words) where
-    pub judge-unsound : not sound ≡ true → JudgesOne relaxed words rule originator (Refused 9 0) (words ∷ rule ∷ [])
-    unfolding judgement
-    judge-unsound h = kept _ (rw (← is, not-true sound h))
+  pub judge-refused : (number place : ℕ) → reading ≡ NotRead number place → JudgesOne relaxed words rule originator (Refused number place) (words ∷ rule ∷ [])
+  unfolding judgement
+  judge-refused number place e = kept _ (rw (← read, e))
 
-    module _ (ok : not sound ≡ false) (family : Family) (four : family ≡ ipv4) (reading : Reading) (read-is : reading ≡ oneRule family rule) where
-      found : oneRule ipv4 rule ≡ reading
-      found = rw (← four) (sym read-is)
-
-      pub judge-refused : (number place : ℕ) → reading ≡ NotRead number place → JudgesOne relaxed words rule originator (Refused number place) (words ∷ rule ∷ [])
-      unfolding judgement
-      judge-refused number place e = kept _ (rw (← is, not-false sound ok, found, e))
-
-      pub judged-rule : (start size : ℕ) → reading ≡ Rule start size → ReadRule ipv4 rule start size
-      judged-rule start size e = one-read ipv4 rule start size (found ∙ e)
-
-      pub judge-read : (start size : ℕ) (answer : Feasibility) → reading ≡ Rule start size
-          → answer ≡ judged (isFeasible relaxed words (take (start + size - start) (drop start rule)) originator) → JudgesOne relaxed words rule originator answer (words ∷ rule ∷ [])
-      unfolding judgement
-      judge-read start size answer e f = kept answer (rw (← is, not-false sound ok, found, e) (rw (add-sub-cancel-left start size) at f))
+  pub judge-read : (start size : ℕ) (feasibly : Bool) (answer : Feasibility) → reading ≡ Rule start size
+      → feasibly ≡ isFeasible relaxed words (valueOf rule start (start + size - start)) originator → answer ≡ judged feasibly
+      → JudgesOne relaxed words rule originator answer (words ∷ rule ∷ [])
+  unfolding judgement
+  judge-read start size feasibly answer e f a = kept answer (a ∙ rw (← read, e, f, add-sub-cancel-left start size))

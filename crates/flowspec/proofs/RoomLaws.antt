@@ -25,7 +25,7 @@ use Rattle.table.proofs.CallLaws.{plain-held}
 use Rattle.flowspec.specs.declared.Change.{Change}
 use Rattle.flowspec.specs.declared.Change.the-variants.{Refused}
 use Rattle.flowspec.specs.Announce.{changeOf, valueOf, askedBy, asked, announcedBy, announcing}
-use Rattle.flowspec.specs.Feasibility.{isFeasible}
+use Rattle.flowspec.specs.Feasibility.{readWithRoutes, isFeasible}
 use Rattle.flowspec.specs.Promise.{Announces}
 use Rattle.flowspec.proofs.HistoryLaws.{octets-value}
 
@@ -36,10 +36,10 @@ Not11 answer = (place : ℕ) → answer ≡ Refused 11 place → ⊥
 module _ (relaxed : Bool) (routes rule : List ℕ) (originator : ℕ) (communities t : List ℕ) (o : Octets t) (octets : Octets rule)
     (start size : ℕ) (read : oneRule ipv4 rule ≡ Rule start size) (held : holds ipv4 t (keysOf ipv4 (plain (valueOf rule start size))) ≡ true) where
   pub held-not-11 : Not11 (announcing relaxed routes rule originator communities t .answer)
-  unfolding announcing asked changeOf
+  unfolding announcing asked readWithRoutes changeOf
   held-not-11 =
       by-test (soundTable ipv4 t)
-      (λ sound. rw sound (by-test (soundRoutes 32 routes) (λ r. rw (r, read) (go sound (actionsOf communities))) (λ r. rw r (λ place e. apart (cc)))))
+      (λ sound. rw sound (by-test (soundRoutes 32 routes) (λ r. rw (readWithRoutes, r, read) (go sound (actionsOf communities))) (λ r. rw (readWithRoutes, r) (λ place e. apart (cc)))))
       (λ sound. rw sound (λ place e. apart (cc)))
     where
       go : soundTable ipv4 t ≡ true → (a : ActionsReading) → Not11 (announcedBy t rule originator (askedBy relaxed routes rule originator (Rule start size) a) .answer)

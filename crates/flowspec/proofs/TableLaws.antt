@@ -40,7 +40,9 @@ use Rattle.flowspec.specs.declared.Looked.{Looked}
 use Rattle.flowspec.specs.declared.Looked.the-variants.{Judged, Refused as NotLookedUp}
 use Rattle.flowspec.specs.declared.MatchPlace.{MatchPlace}
 use Rattle.flowspec.specs.Announce.{Outcome, changeOf, outcome, refusal, valueOf, asked, announcing, withdrawing}
-use Rattle.flowspec.specs.Look.{lookingUp, firstMatch, matchPlace}
+use Rattle.flowspec.specs.declared.Seen.{Seen}
+use Rattle.flowspec.specs.declared.Seen.the-variants.{Shows, Refused as NotSeen}
+use Rattle.flowspec.specs.Look.{seen, lookingUp, firstMatch, matchPlace}
 use Rattle.flowspec.specs.Told.{changeTold, verdictTold, lookupTold, matchPlaceTold}
 use Rattle.flowspec.specs.Promise.{Announces, Withdraws, LooksUp, LocatesFirst}
 use Rattle.flowspec.proofs.AskLaws.{asked-rule}
@@ -145,42 +147,53 @@ module _ (t octets : List ℕ) where
   located : (answer : MatchPlace) → answer ≡ matchPlace t octets → answer .start ≤ answer .end → answer .end ≤ length t → LocatesFirst t octets answer (t ∷ octets ∷ [])
   located answer e ordered inside = record { is = e; says = ap matchPlaceTold e; ordered = ordered; inside = inside; keeps = refl }
 
+  -- what is seen
   module _ (s : Soundness) (is : s ≡ soundness ipv4 t) where
-    pub look-unsound : s ≡ Unsound → LooksUp t octets (NotLookedUp 10 0) (t ∷ octets ∷ [])
-    unfolding lookingUp
-    look-unsound e = look-kept _ (rw (was-unsound t s is e))
+    pub see-unsound : s ≡ Unsound → NotSeen 10 ≡ seen t octets
+    unfolding seen
+    see-unsound e = rw (was-unsound t s is e)
 
-    pub locate-unsound : s ≡ Unsound → (answer : MatchPlace) → answer ≡ record { number = 10; start = 0; end = 0 } → LocatesFirst t octets answer (t ∷ octets ∷ [])
-    unfolding matchPlace lookingUp firstMatch
-    locate-unsound e answer a = rw a (located _ (rw (was-unsound t s is e)) (omega arith) (omega arith))
+    module _ (used : ℕ) (e : s ≡ Sound used) (sight : Sight) (shows : sight ≡ packetOf octets) where
+      pub see-unusable : sight ≡ Unusable → NotSeen 12 ≡ seen t octets
+      unfolding seen
+      see-unusable f = rw (was-sound t s is used e .0, ← shows, f)
 
-    module _ (used : ℕ) (e : s ≡ Sound used) (sight : Sight) (seen : sight ≡ packetOf octets) where
-      pub look-sound : soundTable ipv4 t ≡ true
-      look-sound = was-sound t s is used e .0
+      pub see-usable : (packet : Packet) → sight ≡ Usable packet → Shows packet ≡ seen t octets
+      unfolding seen
+      see-usable packet f = rw (was-sound t s is used e .0, ← shows, f)
 
-      pub look-unusable : sight ≡ Unusable → LooksUp t octets (NotLookedUp 12 0) (t ∷ octets ∷ [])
+  -- a packet is seen where the table is sound
+  seen-sound : (packet : Packet) → seen t octets ≡ Shows packet → soundTable ipv4 t ≡ true
+  unfolding seen
+  seen-sound packet e = by-test (soundTable ipv4 t) (λ h. h) (λ h. let z : NotSeen 10 ≡ Shows packet = rw h at e in apart (cc))
+
+  module _ (sees : Seen) (is : sees ≡ seen t octets) where
+    module _ (number : ℕ) (e : sees ≡ NotSeen number) where
+      pub look-refused : LooksUp t octets (NotLookedUp number 0) (t ∷ octets ∷ [])
       unfolding lookingUp
-      look-unusable f = look-kept _ (rw (look-sound, ← seen, f))
+      look-refused = look-kept _ (rw (← is, e))
 
-      pub look-judged : (packet : Packet) (verdict : Verdict) → sight ≡ Usable packet → verdict ≡ verdictFor ipv4 packet (entries t) → LooksUp t octets (Judged verdict) (t ∷ octets ∷ [])
-      unfolding lookingUp
-      look-judged packet verdict f v = look-kept _ (rw (look-sound, ← seen, f, v))
-
-      pub locate-unusable : sight ≡ Unusable → (answer : MatchPlace) → answer ≡ record { number = 12; start = 0; end = 0 } → LocatesFirst t octets answer (t ∷ octets ∷ [])
+      pub locate-refused : LocatesFirst t octets (record { number = number; start = 0; end = 0 }) (t ∷ octets ∷ [])
       unfolding matchPlace lookingUp firstMatch
-      locate-unusable f answer a = rw a (located _ (rw (look-sound, ← seen, f)) (omega arith) (omega arith))
+      locate-refused = located _ (rw (← is, e)) (omega arith) (omega arith)
+
+    module _ (packet : Packet) (e : sees ≡ Shows packet) where
+      pub look-sound : soundTable ipv4 t ≡ true
+      look-sound = seen-sound packet (sym is ∙ e)
+
+      pub look-judged : (verdict : Verdict) → verdict ≡ verdictFor ipv4 packet (entries t) → LooksUp t octets (Judged verdict) (t ∷ octets ∷ [])
+      unfolding lookingUp
+      look-judged verdict v = look-kept _ (rw (← is, e, v))
 
       -- a lookup that judges a packet is not refused
       judged-done : (verdict : Verdict) → 0 ≡ verdictTold verdict .number
       judged-done Unmatched = refl
       judged-done (Matched actions count) = refl
 
-      pub locate-found : (packet : Packet) (place : Place) → sight ≡ Usable packet
-          → (place ≡ firstPlace (hit ipv4 packet) 0 (entries t)) × ((place .start ≤ place .end) × (place .end ≤ length t))
+      pub locate-found : (place : Place) → (place ≡ firstPlace (hit ipv4 packet) 0 (entries t)) × ((place .start ≤ place .end) × (place .end ≤ length t))
           → LocatesFirst t octets (record { number = 0; start = place .start; end = place .end }) (t ∷ octets ∷ [])
       unfolding matchPlace lookingUp firstMatch
-      locate-found packet place f v =
-          located _ (rw (look-sound, ← seen, f, ← v .0, ← judged-done (verdictFor ipv4 packet (entries t)))) (v .1 .0) (v .1 .1)
+      locate-found place v = located _ (rw (← is, e, ← v .0, ← judged-done (verdictFor ipv4 packet (entries t)))) (v .1 .0) (v .1 .1)
 
 -- where a first match was located is where it stands
 pub located-at : {t octets : List ℕ} {answer : MatchPlace} {kept : List (List ℕ)} → LocatesFirst t octets answer kept

@@ -4,14 +4,13 @@ use Prim.Native.Nat.{ℕ}
 use mathlib.Core.Bool.{Bool, cond}
 use mathlib.Core.List.{List}
 use lib.Dec.{eqb}
-use lib.ListN.{take, drop}
 use Rattle.rule.specs.declared.Reading.{Reading}
 use Rattle.rule.specs.declared.Reading.the-variants.{Rule, Refused as NotRead}
 use Rattle.rule.specs.Family.{ipv4}
 use Rattle.rule.specs.Plain.{plain}
 use Rattle.rule.specs.Reading.{oneRule}
+pub use Rattle.rule.specs.Reading.{valueOf}
 use Rattle.order.specs.Key.{keysOf}
-use Rattle.route.specs.Route.{soundRoutes}
 use Rattle.action.specs.declared.Reading.{Reading as ActionsReading}
 use Rattle.action.specs.declared.Reading.the-variants.{Read, Unsound}
 use Rattle.action.specs.Actions.{actionsOf}
@@ -21,7 +20,7 @@ use Rattle.flowspec.specs.declared.Change.{Change}
 use Rattle.flowspec.specs.declared.Change.the-variants.{Done, Refused as NotChanged}
 use Rattle.flowspec.specs.declared.Request.{Request}
 use Rattle.flowspec.specs.declared.Request.the-variants.{Announce, Refused as NotAsked}
-use Rattle.flowspec.specs.Feasibility.{isFeasible}
+use Rattle.flowspec.specs.Feasibility.{readWithRoutes, isFeasible}
 
 -- What a call on a table leaves: its answer, and the table's octets.
 pub record Outcome : Type 0 where
@@ -32,10 +31,6 @@ pub record Outcome : Type 0 where
 unfoldable pub changeOf : ℕ → Change
 changeOf number = cond (eqb number 0) Done (NotChanged number 0)
 
--- The value of a rule that was read.
-abbrev pub valueOf : List ℕ → ℕ → ℕ → List ℕ
-valueOf rule start size = take size (drop start rule)
-
 -- What an announcement asks: a rule that is refused is refused so, then unsound actions are 13, then the rule is judged.
 abbrev pub askedBy : Bool → List ℕ → List ℕ → ℕ → Reading → ActionsReading → Request
 askedBy relaxed words rule originator (NotRead number place) actions = NotAsked number place
@@ -43,10 +38,9 @@ askedBy relaxed words rule originator (Rule start size) Unsound = NotAsked 13 0
 askedBy relaxed words rule originator (Rule start size) (Read actions) =
     Announce start size actions (isFeasible relaxed words (valueOf rule start size) originator)
 
--- Unsound routes are 9, before the rule is read.
+-- The rule is read once the routes are found sound.
 unfoldable pub asked : Bool → List ℕ → List ℕ → ℕ → List ℕ → Request
-asked relaxed words rule originator communities =
-    cond (soundRoutes 32 words) (askedBy relaxed words rule originator (oneRule ipv4 rule) (actionsOf communities)) (NotAsked 9 0)
+asked relaxed words rule originator communities = askedBy relaxed words rule originator (readWithRoutes words rule) (actionsOf communities)
 
 -- What a change of the table leaves.
 abbrev pub outcome : Changed → Outcome

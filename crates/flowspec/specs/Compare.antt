@@ -1,24 +1,18 @@
 -- Comparing two rules (RFC 8955 section 5.1): both are read, the first before the second, and the values' precedence decides.
-use Prim.Native.Nat.{ℕ, Ordering, Ordering·lt, Ordering·eq, Ordering·gt}
+use Prim.Native.Nat.{ℕ}
 use mathlib.Core.List.{List}
-use lib.ListN.{take, drop}
+use Rattle.octets.specs.Order.{ordered}
 use Rattle.octets.specs.declared.Order.{Order}
 use Rattle.octets.specs.declared.Order.the-variants.{First as OrderFirst, Second as OrderSecond, Same as OrderSame}
 use Rattle.rule.specs.declared.Reading.{Reading}
 use Rattle.rule.specs.declared.Reading.the-variants.{Rule, Refused as RefusedReading}
 use Rattle.rule.specs.Family.{ipv4}
-use Rattle.rule.specs.Reading.{oneRule}
+use Rattle.rule.specs.Reading.{valueOf, oneRule}
 use Rattle.order.specs.Precedence.{precedence}
 use Rattle.flowspec.specs.declared.Comparison.{Comparison}
 use Rattle.flowspec.specs.declared.Comparison.the-variants.{First, Second, Same, Refused}
 
 -- Of two rules the first comes first, the second does, or they are the same rule.
-abbrev pub compared : Ordering → Comparison
-compared Ordering·lt = First
-compared Ordering·eq = Same
-compared Ordering·gt = Second
-
--- The same for the order of the code.
 abbrev pub comparisonOf : Order → Comparison
 comparisonOf OrderFirst = First
 comparisonOf OrderSecond = Second
@@ -28,7 +22,8 @@ comparisonOf OrderSame = Same
 abbrev pub compareRead : List ℕ → Reading → List ℕ → Reading → Comparison
 compareRead a (RefusedReading number place) b second = Refused number place
 compareRead a (Rule start size) b (RefusedReading number place) = Refused number place
-compareRead a (Rule start size) b (Rule begin length) = compared (precedence ipv4 (take size (drop start a)) (take length (drop begin b)))
+compareRead a (Rule start size) b (Rule begin length) = comparisonOf (ordered (precedence ipv4 (valueOf a start size) (valueOf b begin length)))
 
+-- Comparing two rules.
 unfoldable pub compareRules : List ℕ → List ℕ → Comparison
 compareRules a b = compareRead a (oneRule ipv4 a) b (oneRule ipv4 b)

@@ -1,8 +1,9 @@
 -- 01's examples marked P, in one list: each asks a definition something and expects numbers of it. proofs/Examples.antt has the one
 -- claim about all of them.
-use Prim.Native.Nat.{ℕ, Ordering, Ordering·lt, Ordering·eq, Ordering·gt}
+use Prim.Native.Nat.{ℕ}
 use mathlib.Core.Bool.{Bool, true, false}
 use mathlib.Core.List.{List, [], _∷_}
+use Rattle.octets.specs.Order.{ordered}
 use Rattle.rule.specs.declared.Checked.{Checked}
 use Rattle.rule.specs.declared.Checked.the-variants.{Accepted, Refused}
 use Rattle.rule.specs.Family.{ipv4}
@@ -17,6 +18,8 @@ use Rattle.packet.specs.declared.Sight.{Sight}
 use Rattle.packet.specs.declared.Sight.the-variants.{Usable, Unusable}
 use Rattle.packet.specs.Packet.{packetOf}
 use Rattle.packet.specs.Match.{matches}
+use Rattle.flowspec.specs.Compare.{comparisonOf}
+use Rattle.flowspec.specs.Told.{comparisonTold}
 
 -- What an example asks: how a length is written; the size of a length field and the length it gives; what is said of a value; which of
 -- two values comes first; what rate a single gives; whether a packet matches a value.
@@ -33,15 +36,9 @@ abbrev pub checkedAs : Checked → List ℕ
 checkedAs Accepted = 0 ∷ 0 ∷ []
 checkedAs (Refused number place) = number ∷ place ∷ []
 
--- 1 where the first comes first, 2 where the second does, 3 where they tie.
-abbrev pub orderedAs : Ordering → List ℕ
-orderedAs Ordering·lt = 1 ∷ []
-orderedAs Ordering·eq = 3 ∷ []
-orderedAs Ordering·gt = 2 ∷ []
-
 -- The number that a rate gives, or 13.
 abbrev pub ratedAs : Rate → List ℕ
-ratedAs (Number rate) = 0 ∷ rate .number ∷ []
+ratedAs (Number found) = 0 ∷ found .number ∷ []
 ratedAs NotANumber = 13 ∷ []
 
 -- 1 where the packet matches, 0 where it does not, 12 where it is unusable.
@@ -58,7 +55,7 @@ unfoldable pub answerTo : Question → List ℕ
 answerTo (lengthWritten n) = lengthField n
 answerTo (lengthRead s) = fieldSize s ∷ fieldLength s ∷ []
 answerTo (value v) = checkedAs (checkValue ipv4 v)
-answerTo (order v w) = orderedAs (precedence ipv4 v w)
+answerTo (order v w) = comparisonTold (comparisonOf (ordered (precedence ipv4 v w))) .values
 answerTo (rate single) = ratedAs (rateOf single)
 answerTo (match v packet) = matchedAs v (packetOf packet)
 

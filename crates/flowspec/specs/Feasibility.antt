@@ -2,16 +2,19 @@
 use Prim.Native.Nat.{ℕ}
 use mathlib.Core.Bool.{Bool, true, false, cond}
 use mathlib.Core.List.{List}
-use lib.ListN.{take, drop}
 use Rattle.rule.specs.declared.Reading.{Reading}
 use Rattle.rule.specs.declared.Reading.the-variants.{Rule, Refused as NotRead}
 use Rattle.rule.specs.Family.{ipv4}
-use Rattle.rule.specs.Reading.{oneRule}
+use Rattle.rule.specs.Reading.{valueOf, oneRule}
 use Rattle.route.specs.Route.{routesOf, soundRoutes}
 use Rattle.route.specs.Destination.{destinationOf}
 use Rattle.route.specs.Feasible.{feasible}
 use Rattle.flowspec.specs.declared.Feasibility.{Feasibility}
 use Rattle.flowspec.specs.declared.Feasibility.the-variants.{Feasible, Refused}
+
+-- 01: "9, 1 to 7, 15": unsound routes are refused before the rule is read.
+unfoldable pub readWithRoutes : List ℕ → List ℕ → Reading
+readWithRoutes words rule = cond (soundRoutes 32 words) (oneRule ipv4 rule) (NotRead 9 0)
 
 -- An accepted value is feasible where its destination is, for this originator and by these routes.
 unfoldable pub isFeasible : Bool → List ℕ → List ℕ → ℕ → Bool
@@ -25,8 +28,8 @@ judged false = Refused 8 0
 -- A rule that was refused is refused so; a rule that was read is judged.
 abbrev pub judgeRead : Bool → List ℕ → List ℕ → ℕ → Reading → Feasibility
 judgeRead relaxed words rule originator (NotRead number place) = Refused number place
-judgeRead relaxed words rule originator (Rule start size) = judged (isFeasible relaxed words (take size (drop start rule)) originator)
+judgeRead relaxed words rule originator (Rule start size) = judged (isFeasible relaxed words (valueOf rule start size) originator)
 
 -- 01: "feasibility alone 9, 1 to 7, 15, 8".
 unfoldable pub judgement : Bool → List ℕ → List ℕ → ℕ → Feasibility
-judgement relaxed words rule originator = cond (soundRoutes 32 words) (judgeRead relaxed words rule originator (oneRule ipv4 rule)) (Refused 9 0)
+judgement relaxed words rule originator = judgeRead relaxed words rule originator (readWithRoutes words rule)

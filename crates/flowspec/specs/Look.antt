@@ -14,27 +14,35 @@ use Rattle.table.specs.Lookup.{hit, verdictFor, firstPlace}
 use Rattle.flowspec.specs.declared.Looked.{Looked}
 use Rattle.flowspec.specs.declared.Looked.the-variants.{Judged, Refused}
 use Rattle.flowspec.specs.declared.MatchPlace.{MatchPlace}
+use Rattle.flowspec.specs.declared.Seen.{Seen}
+use Rattle.flowspec.specs.declared.Seen.the-variants.{Shows, Refused as NotSeen}
 use Rattle.flowspec.specs.Told.{lookupTold}
 
--- What a sound table says of a packet: an unusable one is 12.
-abbrev pub lookedUp : List ℕ → Sight → Looked
-lookedUp t Unusable = Refused 12 0
-lookedUp t (Usable packet) = Judged (verdictFor ipv4 packet (entries t))
+-- 01: "lookup 10, 12": what the packet shows, or the number of the refusal.
+unfoldable pub seen : List ℕ → List ℕ → Seen
+seen t octets = cond (soundTable ipv4 t) (shown (packetOf octets)) (NotSeen 10)
+  where
+    shown : Sight → Seen
+    shown Unusable = NotSeen 12
+    shown (Usable packet) = Shows packet
 
+-- What a table says of a packet.
+abbrev pub lookedUp : List ℕ → Seen → Looked
+lookedUp t (NotSeen number) = Refused number 0
+lookedUp t (Shows packet) = Judged (verdictFor ipv4 packet (entries t))
+
+-- Looking a packet up.
 unfoldable pub lookingUp : List ℕ → List ℕ → Looked
-lookingUp t octets = cond (soundTable ipv4 t) (lookedUp t (packetOf octets)) (Refused 10 0)
+lookingUp t octets = lookedUp t (seen t octets)
 
--- No part: an empty one at octet 0.
-abbrev pub nowhere : Place
-nowhere = record { start = 0; end = 0 }
+-- Where the first match's record stands; nowhere is an empty part at octet 0.
+abbrev pub firstIn : List ℕ → Seen → Place
+firstIn t (NotSeen number) = record { start = 0; end = 0 }
+firstIn t (Shows packet) = firstPlace (hit ipv4 packet) 0 (entries t)
 
-abbrev pub firstIn : List ℕ → Sight → Place
-firstIn t Unusable = nowhere
-firstIn t (Usable packet) = firstPlace (hit ipv4 packet) 0 (entries t)
-
--- Where the first match's record stands.
+-- The first match.
 unfoldable pub firstMatch : List ℕ → List ℕ → Place
-firstMatch t octets = cond (soundTable ipv4 t) (firstIn t (packetOf octets)) nowhere
+firstMatch t octets = firstIn t (seen t octets)
 
 -- The same with the lookup's number.
 unfoldable pub matchPlace : List ℕ → List ℕ → MatchPlace

@@ -3,11 +3,13 @@
 ghost use mathlib.Core.Path.{_≡_};
 ghost use mathlib.Core.List.{[], _∷_};
 ghost use Rattle.flowspec.specs.Compare.{comparisonOf};
-ghost use Rattle.flowspec.specs.Feasibility.{isFeasible, judged};
+ghost use Rattle.flowspec.specs.Feasibility.{readWithRoutes, isFeasible, judged};
 ghost use Rattle.flowspec.specs.Promise.{ReadsOne, WritesOne, ComparesTwo, JudgesOne, ReadsActions, Announces, Withdraws, LooksUp, LocatesFirst, FirstMatches};
 ghost use Rattle.flowspec.specs.Announce.{changeOf, asked};
+ghost use Rattle.flowspec.specs.Look.{seen};
 use action::Actions;
 use octets::Order;
+use packet::Packet;
 use packet::Sight;
 use rule::Reading;
 use rule::Writing;
@@ -47,6 +49,12 @@ pub enum Request {
 pub enum Change {
     Done,
     Refused { number: u8, place: usize },
+}
+
+// What a lookup begins with: what the packet shows, or the number of a refusal.
+pub enum Seen {
+    Shows(Packet),
+    Refused(u8),
 }
 
 // What a lookup answers: a verdict, or a refusal.
@@ -110,12 +118,32 @@ pub fn compare_rules(first: &[u8], second: &[u8]) -> Comparison
     }
 }
 
-// Judges an accepted value by the routes.
-fn judge_value(relaxed: bool, routes: &[u32], value: &[u8], originator: u32) -> Feasibility
-    ensures { λ r. ⌜ r ≡ judged (isFeasible relaxed (now (routes .entry)) (now (value .entry)) originator) ⌝ }
+// Reads one rule, once the routes that it is to be judged by are found sound.
+fn read_with_routes(routes: &[u32], rule: &[u8]) -> Reading
+    ensures { λ r. ⌜ r ≡ readWithRoutes (now (routes .entry)) (now (rule .entry)) ⌝ }
+{
+    if !route::sound_routes(routes) {
+        return Reading::Refused {
+            number: 9,
+            place: 0,
+        };
+    }
+    rule::one_rule(rule::ipv4(), rule)
+}
+
+// Whether an accepted value is feasible for an originator by the lent routes.
+fn is_feasible(relaxed: bool, routes: &[u32], value: &[u8], originator: u32) -> bool
+    ensures { λ r. ⌜ r ≡ isFeasible relaxed (now (routes .entry)) (now (value .entry)) originator ⌝ }
 {
     let destination = route::destination_of(value);
-    if route::is_feasible(relaxed, destination, originator, routes) {
+    route::is_feasible(relaxed, destination, originator, routes)
+}
+
+// What is answered of a rule that was judged: infeasible is refusal 8.
+fn feasibility_of(feasible: bool) -> Feasibility
+    ensures { λ r. ⌜ r ≡ judged feasible ⌝ }
+{
+    if feasible {
         return Feasibility::Feasible;
     }
     Feasibility::Refused {
@@ -128,17 +156,11 @@ fn judge_value(relaxed: bool, routes: &[u32], value: &[u8], originator: u32) -> 
 pub fn judge_rule(relaxed: bool, routes: &[u32], rule: &[u8], originator: u32) -> Feasibility
     ensures { λ r. ⌜ JudgesOne relaxed (now (routes .entry)) (now (rule .entry)) originator r (now (routes .exit) ∷ now (rule .exit) ∷ []) ⌝ }
 {
-    if !route::sound_routes(routes) {
-        return Feasibility::Refused {
-            number: 9,
-            place: 0,
-        };
-    }
-    match rule::one_rule(rule::ipv4(), rule) {
+    match read_with_routes(routes, rule) {
         Reading::Refused { number, place } => Feasibility::Refused { number, place },
         Reading::Rule { start, size } => {
             let end = start + size;
-            judge_value(relaxed, routes, &rule[start..end], originator)
+            feasibility_of(is_feasible(relaxed, routes, &rule[start..end], originator))
         }
     }
 }
@@ -154,13 +176,7 @@ pub fn read_actions(communities: &[u8]) -> action::Reading
 fn ask(relaxed: bool, routes: &[u32], rule: &[u8], originator: u32, communities: &[u8]) -> Request
     ensures { λ r. ⌜ r ≡ asked relaxed (now (routes .entry)) (now (rule .entry)) originator (now (communities .entry)) ⌝ }
 {
-    if !route::sound_routes(routes) {
-        return Request::Refused {
-            number: 9,
-            place: 0,
-        };
-    }
-    match rule::one_rule(rule::ipv4(), rule) {
+    match read_with_routes(routes, rule) {
         Reading::Refused { number, place } => Request::Refused { number, place },
         Reading::Rule { start, size } => match action::actions_of(communities) {
             action::Reading::Unsound => Request::Refused {
@@ -169,8 +185,7 @@ fn ask(relaxed: bool, routes: &[u32], rule: &[u8], originator: u32, communities:
             },
             action::Reading::Read(actions) => {
                 let end = start + size;
-                let destination = route::destination_of(&rule[start..end]);
-                let feasible = route::is_feasible(relaxed, destination, originator, routes);
+                let feasible = is_feasible(relaxed, routes, &rule[start..end], originator);
                 Request::Announce {
                     start,
                     size,
@@ -249,33 +264,26 @@ pub fn withdraw(table: &mut [u8], rule: &[u8]) -> Change
     }
 }
 
-// Looks a packet up in a table.
-pub fn lookup(table: &[u8], packet: &[u8]) -> Looked
-    ensures { λ r. ⌜ LooksUp (now (table .entry)) (now (packet .entry)) r (now (table .exit) ∷ now (packet .exit) ∷ []) ⌝ }
+// Checks a table, and sees a packet.
+fn see(table: &[u8], packet: &[u8]) -> Seen
+    ensures { λ r. ⌜ r ≡ seen (now (table .entry)) (now (packet .entry)) ⌝ }
 {
     match table::sound_table(table) {
-        Soundness::Unsound => Looked::Refused {
-            number: 10,
-            place: 0,
-        },
+        Soundness::Unsound => Seen::Refused(10),
         Soundness::Sound(_) => match packet::packet_of(packet) {
-            Sight::Unusable => Looked::Refused {
-                number: 12,
-                place: 0,
-            },
-            Sight::Usable(seen) => Looked::Judged(table::look_up(table, seen)),
+            Sight::Unusable => Seen::Refused(12),
+            Sight::Usable(sight) => Seen::Shows(sight),
         },
     }
 }
 
-// No place, with a refusal's number.
-fn nowhere(number: u8) -> MatchPlace
-    ensures { λ r. ⌜ r ≡ record { number = number; start = 0; end = 0 } ⌝ }
+// Looks a packet up in a table.
+pub fn lookup(table: &[u8], packet: &[u8]) -> Looked
+    ensures { λ r. ⌜ LooksUp (now (table .entry)) (now (packet .entry)) r (now (table .exit) ∷ now (packet .exit) ∷ []) ⌝ }
 {
-    MatchPlace {
-        number,
-        start: 0,
-        end: 0,
+    match see(table, packet) {
+        Seen::Refused(number) => Looked::Refused { number, place: 0 },
+        Seen::Shows(sight) => Looked::Judged(table::look_up(table, sight)),
     }
 }
 
@@ -283,19 +291,20 @@ fn nowhere(number: u8) -> MatchPlace
 pub fn first_match_place(table: &[u8], packet: &[u8]) -> MatchPlace
     ensures { λ r. ⌜ LocatesFirst (now (table .entry)) (now (packet .entry)) r (now (table .exit) ∷ now (packet .exit) ∷ []) ⌝ }
 {
-    match table::sound_table(table) {
-        Soundness::Unsound => nowhere(10),
-        Soundness::Sound(_) => match packet::packet_of(packet) {
-            Sight::Unusable => nowhere(12),
-            Sight::Usable(seen) => {
-                let place = table::first_place(table, seen);
-                MatchPlace {
-                    number: 0,
-                    start: place.start,
-                    end: place.end,
-                }
-            }
+    match see(table, packet) {
+        Seen::Refused(number) => MatchPlace {
+            number,
+            start: 0,
+            end: 0,
         },
+        Seen::Shows(sight) => {
+            let place = table::first_place(table, sight);
+            MatchPlace {
+                number: 0,
+                start: place.start,
+                end: place.end,
+            }
+        }
     }
 }
 

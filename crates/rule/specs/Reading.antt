@@ -25,6 +25,10 @@ abbrev pub readAs : ℕ → ℕ → Checked → Reading
 readAs start size Accepted = Rule start size
 readAs start size (RefusedValue number place) = Refused number place
 
+-- The value of a rule, which starts at a place of its octets and has a size.
+abbrev pub valueOf : List ℕ → ℕ → ℕ → List ℕ
+valueOf rule start size = take size (drop start rule)
+
 -- The rule that octets begin with. A length field or a value that runs past them is 1, and then the value's own refusals follow.
 unfoldable pub firstRule : Family → List ℕ → Reading
 firstRule family s =
@@ -32,7 +36,7 @@ firstRule family s =
     let size = fieldLength s in
     cond (ltb (length s) start) (Refused 1 0)
     (cond (ltb (length s - start) size) (Refused 1 0)
-    (readAs start size (checkValue family (take size (drop start s)))))
+    (readAs start size (checkValue family (valueOf s start size))))
 
 -- A rule that does not end where the `total` octets end is 15 instead, and a refusal stays as it is.
 abbrev pub alone : ℕ → Reading → Reading

@@ -1,55 +1,28 @@
 -- One law for each return.
-use Rattle.flowspec.proofs.TableLaws.{look-unsound, look-sound, look-unusable, look-judged}
 use borrow.Author.Needs.{needs}
+use Rattle.flowspec.proofs.TableLaws.{look-sound, look-refused, look-judged}
 use Rattle.flowspec.proofs.lookup.Statement.{statement}
 use Rattle.flowspec.proofs.lookup.Tie as tie
-use Rattle.flowspec.proofs.lookup.Reads as reads
-use Rattle.flowspec.proofs.lookup.Lts as lts
-use Rattle.packet.proofs.packet_of.Reads as packet-of-reads
-use Rattle.table.proofs.look_up.Reads as look-up-reads
-use Rattle.table.proofs.sound_table.Reads as sound-table-reads
 
-sound-table-requires : tie.Need-sound-table-requires
-sound-table-requires c κs = search needs
+see-requires : tie.Need-see-requires
+see-requires c κs = search needs
 
-enum-told : tie.Need-enum-told
-enum-told c = search needs
+enum-known-number : tie.Need-enum-known-number
+enum-known-number c = search needs
 
-enum-told-2 : tie.Need-enum-told-2
-enum-told-2 c = search needs
-
-packet-of-requires : tie.Need-packet-of-requires
-packet-of-requires c κs = search needs
-
-enum-told-3 : tie.Need-enum-told-3
-enum-told-3 c = search needs
-
-enum-known-seen : tie.Need-enum-known-seen
-enum-known-seen c = search needs
+enum-known-sight : tie.Need-enum-known-sight
+enum-known-sight c = search needs
 
 look-up-requires : tie.Need-look-up-requires
-look-up-requires c κs = look-sound _ _ _ (c .before .before .before .before .before .before .sound-table .ensures) _ (c .before .before .before .before .enum-told2 .given .1) _ (c .before .before .before .packet-of .ensures)
+look-up-requires c κs = search (look-sound, needs)
 
 returns : tie.Need-returns
-returns c = look-unsound _ _ _ (c .before .before .sound-table .ensures) (c .enum-told .given .1)
+returns c = search (look-refused, needs)
 
 returns-2 : tie.Need-returns-2
-returns-2 c = look-unusable _ _ _ (c .before .before .before .before .before .sound-table .ensures) _ (c .before .before .before .enum-told2 .given .1) _ (c .before .before .packet-of .ensures) (c .enum-told3 .given .1)
-
-returns-3 : tie.Need-returns-3
-returns-3 c = look-judged _ _ _ (c .before .before .before .before .before .before .before .sound-table .ensures) _ (c .before .before .before .before .before .enum-told2 .given .1) _ (c .before .before .before .before .packet-of .ensures) _ _ (c .before .before .seen .given .1) (c .look-up .ensures)
+returns-2 c = search (look-judged, needs)
 
 pub lookup-spec : {M : Type 1} → statement M
 lookup-spec =
     tie.close
-    (tie.spec
-    sound-table-requires
-    enum-told
-    enum-told-2
-    packet-of-requires
-    enum-told-3
-    enum-known-seen
-    look-up-requires
-    returns
-    returns-2
-    returns-3)
+    (tie.spec see-requires enum-known-number enum-known-sight look-up-requires returns returns-2)
