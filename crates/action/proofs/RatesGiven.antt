@@ -13,7 +13,7 @@ use Rattle.octets.proofs.Cases.{apart}
 use Rattle.action.specs.declared.Given.{Given}
 use Rattle.action.specs.declared.Rate.the-variants.{Number, NotANumber}
 use Rattle.action.specs.Given.{given}
-use Rattle.action.specs.Rate.{fitsFraction, rateGiven, wholeOf, rateOf, rateOfParts, number, isNotANumber}
+use Rattle.action.specs.Rate.{fitsSignificand, rateGiven, wholeOf, rateOf, rateOfParts, number, isNotANumber}
 use Rattle.action.proofs.GivenLaws.{Fine, fine-given}
 use Rattle.action.proofs.Rates.{whole-zero, whole-below-one, whole-past-limit, whole-up, whole-down}
 
@@ -22,26 +22,26 @@ pub past-limit : (n : ℕ) → 2 ^ 63 < n → false ≡ rateGiven n
 unfolding rateGiven
 past-limit n h = rw (lt-leb n (2 ^ 63) h)
 
-pub within-limit : (n : ℕ) → n ≤ 2 ^ 63 → fitsFraction 40 n ≡ rateGiven n
+pub within-limit : (n : ℕ) → n ≤ 2 ^ 63 → fitsSignificand 40 n ≡ rateGiven n
 unfolding rateGiven
 within-limit n h = rw (le-leb n (2 ^ 63) h)
 
 -- One look at a number: below 2^24 it passes, from there on an odd one fails, and an even one passes as its half does.
-pub fits-small : (k n : ℕ) → n < 2 ^ 24 → fitsFraction k n ≡ true
-unfolding fitsFraction
+pub fits-small : (k n : ℕ) → n < 2 ^ 24 → fitsSignificand k n ≡ true
+unfolding fitsSignificand
 fits-small zero n h = lt-ltb n (2 ^ 24) h
 fits-small (suc k) n h = rw (lt-ltb n (2 ^ 24) h)
 
-pub fits-odd : (k n : ℕ) → 2 ^ 24 ≤ n → (n % 2 ≡ 0 → ⊥) → fitsFraction k n ≡ false
-unfolding fitsFraction
+pub fits-odd : (k n : ℕ) → 2 ^ 24 ≤ n → (n % 2 ≡ 0 → ⊥) → fitsSignificand k n ≡ false
+unfolding fitsSignificand
 fits-odd zero n h o = le-ltb n (2 ^ 24) h
 fits-odd (suc k) n h o = rw (le-ltb n (2 ^ 24) h, ne-eqb (n % 2) 0 o)
 
-pub fits-even : (k n : ℕ) → 2 ^ 24 ≤ n → n % 2 ≡ 0 → fitsFraction k (n / 2) ≡ fitsFraction (suc k) n
-unfolding fitsFraction
+pub fits-even : (k n : ℕ) → 2 ^ 24 ≤ n → n % 2 ≡ 0 → fitsSignificand k (n / 2) ≡ fitsSignificand (suc k) n
+unfolding fitsSignificand
 fits-even k n h e = rw (le-ltb n (2 ^ 24) h, eq-eqb (n % 2) 0 e)
 
-pub fits-is-even : (k n : ℕ) → 2 ^ 24 ≤ n → fitsFraction k n ≡ true → n % 2 ≡ 0
+pub fits-is-even : (k n : ℕ) → 2 ^ 24 ≤ n → fitsSignificand k n ≡ true → n % 2 ≡ 0
 fits-is-even k n b h =
     elim (ℕ-discrete (n % 2) 0) [
       | yes e ↦ e
@@ -52,18 +52,18 @@ fits-is-even k n b h =
 pub record Halving (number rest : ℕ) : Type 0 where
   pub left : ℕ
   pub enough : rest < 2 ^ 24 * 2 ^ left
-  pub decides : fitsFraction left rest ≡ rateGiven number
+  pub decides : fitsSignificand left rest ≡ rateGiven number
 
 -- One halving.
 pub halved : {number rest : ℕ} → Halving number rest → 2 ^ 24 ≤ rest → rest % 2 ≡ 0 → Halving number (rest / 2)
 halved {number} {rest} h b e = on (h .left) (h .enough) (h .decides)
   where
-    on : (k : ℕ) → rest < 2 ^ 24 * 2 ^ k → fitsFraction k rest ≡ rateGiven number → Halving number (rest / 2)
+    on : (k : ℕ) → rest < 2 ^ 24 * 2 ^ k → fitsSignificand k rest ≡ rateGiven number → Halving number (rest / 2)
     on zero p d = absurd (omega arith)
     on (suc k) p d = record { left = k; enough = (let q = rw (pow-suc 2 k) at p in omega arith); decides = fits-even k rest b e ∙ d }
 
 -- A number below 2^24 times a power of two passes.
-fits-times : (k j n : ℕ) → n < 2 ^ 24 → j ≤ k → fitsFraction k (n * 2 ^ j) ≡ true
+fits-times : (k j n : ℕ) → n < 2 ^ 24 → j ≤ k → fitsSignificand k (n * 2 ^ j) ≡ true
 fits-times k zero n h p = rw mul-one (fits-small k n h)
 fits-times zero (suc j) n h p = absurd (omega arith)
 fits-times (suc k) (suc j) n h p =
@@ -148,8 +148,8 @@ record Digits (limit n : ℕ) : Type 0 where
   least : 2 ^ 23 ≤ digits
   fits : digits < 2 ^ 24
 
-digits-of : (k n : ℕ) → 2 ^ 23 ≤ n → fitsFraction k n ≡ true → Digits k n
-unfolding fitsFraction
+digits-of : (k n : ℕ) → 2 ^ 23 ≤ n → fitsSignificand k n ≡ true → Digits k n
+unfolding fitsSignificand
 digits-of zero n b h = record { digits = n; power = 0; whole = sym (mul-one n); most = omega arith; least = b; fits = ltb-true n (2 ^ 24) h }
 digits-of (suc k) n b h =
     elim (decLt n (2 ^ 24)) [
@@ -215,7 +215,7 @@ parts-small n p h =
 parts-large : (n : ℕ) → 2 ^ 23 ≤ n → rateGiven n ≡ true → Parts n
 unfolding rateGiven
 parts-large n p h =
-    let both = and-eq-true-iff (leb n (2 ^ 63)) (fitsFraction 40 n) .0 h in
+    let both = and-eq-true-iff (leb n (2 ^ 63)) (fitsSignificand 40 n) .0 h in
     let limit = leb-true n (2 ^ 63) (both .0) in
     let d = digits-of 40 n p (both .1) in
     let f = d .digits - 2 ^ 23 in

@@ -109,7 +109,7 @@ unfoldable pub communitiesAt : ℕ → List ℕ → ℕ → List ℕ
 communitiesAt zero s at = []
 communitiesAt (suc n) s at = numberAt 8 s at ∷ communitiesAt n s (at + 8)
 
--- "At most 64 communities of 8 octets; another total length is 13."
+-- 01: "At most 64 communities of 8 octets; another total length is 13."
 abbrev pub wrongLength : ℕ → Bool
 wrongLength octets = ltb (64 * 8) octets || not (eqb (octets % 8) 0)
 

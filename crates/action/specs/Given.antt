@@ -12,11 +12,11 @@ absent = record { present = false; number = 0 }
 abbrev pub given : ℕ → Given
 given n = record { present = true; number = n }
 
--- "Smallest rate of each kind": the smaller of two, or the one that is there; of equal ones the first.
+-- 01: "smallest rate of each kind": the smaller of two, or the one that is there; of equal ones the first.
 unfoldable pub smallerOf : Given → Given → Given
 smallerOf a b = cond (a .present) (cond (b .present && ltb (b .number) (a .number)) b a) b
 
--- "First marking, first redirect": the first that is there.
+-- 01: "first marking, first redirect": the first that is there.
 unfoldable pub firstOf : Given → Given → Given
 firstOf a b = cond (a .present) a b
 

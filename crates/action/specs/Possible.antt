@@ -1,4 +1,4 @@
--- Which actions some communities could give, so that a table holds no others ("a rate no single gives is unsound").
+-- Which actions some communities could give, so that a table holds no others (01: "a rate no single gives is unsound").
 use Prim.Native.Nat.{_/_, _^_}
 use mathlib.Core.Bool.{Bool, _&&_}
 use lib.Dec.{ltb}

@@ -13,7 +13,7 @@ use Rattle.action.specs.Given.{given}
 unfoldable pub scaled : ℕ → ℕ → ℕ
 scaled exponent fraction = cond (eqb exponent 0) fraction ((2 ^ 23 + fraction) * 2 ^ (exponent - 1))
 
--- "A positive rate below 1 gives 1. Otherwise the whole part, at most 2^63; plus infinity gives 2^63." The value is given times 2^149.
+-- 01: "A positive rate below 1 gives 1. Otherwise the whole part, at most 2^63; plus infinity gives 2^63." The value is given times 2^149.
 unfoldable pub wholePart : ℕ → ℕ
 wholePart value = cond (eqb value 0) 0 (min (2 ^ 63) (max 1 (value / 2 ^ 149)))
 
@@ -29,7 +29,7 @@ number n = Number (given n)
 abbrev pub isNotANumber : ℕ → ℕ → Bool
 isNotANumber exponent fraction = eqb exponent 255 && not (eqb fraction 0)
 
--- "Negative, either zero, and minus infinity give 0 (drop)": the sign alone decides, and plus zero has the number 0 as it is.
+-- 01: "Negative, either zero, and minus infinity give 0 (drop)": the sign alone decides, and plus zero has the number 0 as it is.
 unfoldable pub rateOfParts : ℕ → ℕ → ℕ → Rate
 rateOfParts sign exponent fraction =
     cond (isNotANumber exponent fraction) NotANumber (cond (eqb sign 0) (number (wholeOf exponent fraction)) (number 0))
@@ -39,11 +39,11 @@ unfoldable pub rateOf : ℕ → Rate
 rateOf single = rateOfParts (single / 2 ^ 31) (single / 2 ^ 23 % 2 ^ 8) (single % 2 ^ 23)
 
 -- Is a number below 2^24 after at most so many halvings, none of which leaves a remainder?
-unfoldable pub fitsFraction : ℕ → ℕ → Bool
-fitsFraction zero n = ltb n (2 ^ 24)
-fitsFraction (suc halvings) n = ltb n (2 ^ 24) || eqb (n % 2) 0 && fitsFraction halvings (n / 2)
+unfoldable pub fitsSignificand : ℕ → ℕ → Bool
+fitsSignificand zero n = ltb n (2 ^ 24)
+fitsSignificand (suc halvings) n = ltb n (2 ^ 24) || eqb (n % 2) 0 && fitsSignificand halvings (n / 2)
 
 -- Is a number one that some rate gives? A single holds 24 binary digits, so a number from 2^24 on has to be one below 2^24 times a
 -- power of two; below 2^24 every whole number is a single. From 2^63, the highest, 40 halvings lead to 2^23.
 unfoldable pub rateGiven : ℕ → Bool
-rateGiven n = leb n (2 ^ 63) && fitsFraction 40 n
+rateGiven n = leb n (2 ^ 63) && fitsSignificand 40 n

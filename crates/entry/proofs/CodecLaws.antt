@@ -17,7 +17,7 @@ use Rattle.rule.specs.declared.Family.{Family}
 use Rattle.action.specs.declared.Actions.{Actions}
 use Rattle.action.specs.declared.Given.{Given}
 use Rattle.action.specs.Actions.{flag, flagsOf}
-use Rattle.action.specs.Rate.{rateGiven, fitsFraction}
+use Rattle.action.specs.Rate.{rateGiven, fitsSignificand}
 use Rattle.action.proofs.GivenLaws.{Fine, by-fine}
 use Rattle.action.proofs.PossibleLaws.{could, sixBits, redirectType}
 use Rattle.action.specs.Possible.{couldBe}
@@ -108,7 +108,7 @@ fine-small test limit small some = by-fine test (λ g. g .number < limit) small 
 
 rate-small : (n : ℕ) → rateGiven n ≡ true → n < 256 ^ 8
 unfolding rateGiven
-rate-small n h = omega (arith, leb-true n (2 ^ 63) (both _ (fitsFraction 40 n) h .0))
+rate-small n h = omega (arith, leb-true n (2 ^ 63) (both _ (fitsSignificand 40 n) h .0))
 
 redirect-small : (n : ℕ) → redirectType n ≡ true → n < 256 ^ 8
 redirect-small n h =

@@ -32,6 +32,6 @@ isAccepted (Refused number place) = false
 unfoldable pub plainValue : Family → List ℕ → Bool
 plainValue family v = isAccepted (checkValue family v) && sameOctets (plain v) v
 
--- "accepted plain rules and actions": an originator of 32 bits, actions that some communities give, and an accepted plain value.
+-- 01: "accepted plain rules and actions": an originator of 32 bits, actions that some communities give, and an accepted plain value.
 unfoldable pub possible : Family → Entry → Bool
 possible family e = ltb (e .originator) (2 ^ 32) && (couldBe (e .actions) && plainValue family (e .value))

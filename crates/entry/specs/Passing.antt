@@ -1,4 +1,5 @@
--- Octets of a value that are plain whatever they are, so that they may be passed over where a value is tested for its plain spelling.
+-- Octets of a value that are plain whatever they are, so that the code may pass over them where it tests a value for its plain spelling.
+-- No promise names these words.
 use Prim.Native.Nat.{ℕ, _≤_}
 use mathlib.Core.Path.{_≡_}
 use mathlib.Core.List.{List}
@@ -8,7 +9,8 @@ use Rattle.rule.specs.declared.Expected.{Expected}
 use Rattle.rule.specs.Plain.{plainFrom}
 use Rattle.entry.specs.declared.Passed.{Passed}
 
--- What may be passed over: octets, the first of which is as expected, are plain exactly where those behind the passed ones are.
+-- What may be passed over: octets, the first of which is as expected, are plain exactly where those behind the passed ones are; that
+-- they are few keeps a place from passing the end of numbers.
 pub record Passes (expected : Expected) (passed : Passed) : Type 0 where
   pub few : passed .size ≤ 32
   pub same : (s : List ℕ) → sameOctets (plainFrom expected s) s ≡ sameOctets (plainFrom (passed .expected) (drop (passed .size) s)) (drop (passed .size) s)

@@ -17,7 +17,7 @@ use Rattle.entry.specs.Entry.{Entry, possible}
 abbrev pub headWidths : List ℕ
 headWidths = 2 ∷ 4 ∷ 1 ∷ 1 ∷ 8 ∷ 8 ∷ 8 ∷ []
 
--- The octets of a head; "a rule costs 32 plus its length".
+-- The octets of a head; 01: "A rule costs 32 plus its length".
 abbrev pub headCost : ℕ
 headCost = 32
 
@@ -45,7 +45,7 @@ recordOf e = writtenFields headWidths (fieldsOf e) ++ e .value
 abbrev pub fieldIf : ℕ → ℕ → ℕ → Given
 fieldIf flags bit number = record { present = not (eqb (bitAnd flags bit) 0); number = number }
 
--- The actions that fields stand for: "1 byte rate, 2 packet rate, 4 S, 8 T, 16 marking, 32 redirect".
+-- The actions that fields stand for; 01: "1 byte rate, 2 packet rate, 4 S, 8 T, 16 marking, 32 redirect".
 unfoldable pub actionsIn : ℕ → ℕ → ℕ → ℕ → ℕ → Actions
 actionsIn flags dscp bytes packets redirect =
     record {

@@ -20,7 +20,7 @@ holds family t k = isHeld (lookup keyOrder (entryKey family) k (entries t))
 unfoldable pub removed : Family → List ℕ → List (List ℕ) → List ℕ
 removed family t k = tableOf (length t) (remove keyOrder (entryKey family) k (entries t))
 
--- "No room means exactly that the costs after the call would pass the buffer's length."
+-- 01: "No room means exactly that the costs after the call would pass the buffer's length."
 unfoldable pub hasRoom : Family → List ℕ → Entry → Bool
 hasRoom family t e = leb (costs cost (insert keyOrder (entryKey family) e (entries t))) (length t)
 

@@ -1,4 +1,4 @@
--- How the code tests that records stand in precedence order: each against the one before it.
+-- How the code tests that records stand in precedence order: each against the one before it. No promise names these words.
 use Prim.Native.Nat.{ℕ, _+_, _≤_}
 use mathlib.Core.Path.{_≡_}
 use mathlib.Core.Bool.{Bool, true, false, cond}

@@ -40,7 +40,8 @@ verdictOf actions count = cond (eqb count 0) Unmatched (Matched actions count)
 -- The verdict on a packet.
 unfoldable pub verdictFor : Family → Packet → List Entry → Verdict
 verdictFor family packet es =
-    verdictOf (mergedOnto noActions (collected (hit family packet) es)) (length (collected (hit family packet) es))
+    let rules = collected (hit family packet) es in
+    verdictOf (mergedOnto noActions rules) (length rules)
 
 -- What one record says of a packet: that it misses, or its entry's actions with whether the walk goes on.
 abbrev pub hitOf : Bool → Actions → Hit

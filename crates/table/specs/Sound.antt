@@ -17,11 +17,11 @@ use Rattle.entry.specs.Entry.{Entry, entryKey, possible}
 use Rattle.entry.specs.Record.{headCost, recordOf, goodRecord}
 use Rattle.table.specs.Walk.{recordsFrom, records, entries}
 
--- "A lent buffer of 0 to 65,536 octets."
+-- 01: "A lent buffer of 0 to 65,536 octets."
 abbrev pub mostOctets : ℕ
 mostOctets = 65536
 
--- "A rule costs 32 plus its length."
+-- 01: "A rule costs 32 plus its length."
 abbrev pub cost : Entry → ℕ
 cost e = headCost + length (e .value)
 

@@ -1,5 +1,5 @@
 -- Going through a table's octets record by record. 01: "Records stand from octet 0 in precedence order; all after is zero." A value has
--- at least one octet, so a length field of 0 stands behind the last record; octets past the buffer's end count as 0.
+-- at least one octet, so a value length of 0 stands behind the last record; octets past the buffer's end count as 0.
 use Prim.Native.Nat.{ℕ, _+_, _-_}
 use mathlib.Core.Bool.{Bool, true, false, cond}
 use mathlib.Core.List.{List, map}
