@@ -17,10 +17,9 @@ use Rattle.octets.proofs.Cases.{apart}
 use Rattle.octets.proofs.Facts.{Octets}
 use Rattle.octets.proofs.TestLaws.{every-both}
 use Rattle.sorted.specs.Table.{lookup, insert, remove}
-use Rattle.sorted.specs.Split.{front, rear, skip}
 use Rattle.sorted.specs.History.{costs, isHeld}
 use Rattle.sorted.proofs.Cases.{by-order}
-use Rattle.sorted.proofs.SplitLaws.{front-rear, insert-split, remove-split, held-split, absent-split}
+use Rattle.sorted.proofs.SplitLaws.{front, rear, skip, front-rear, insert-split, remove-split, held-split, absent-split}
 use Rattle.sorted.proofs.HistoryLaws.{costs-append}
 use Rattle.sorted.proofs.MemberLaws.{found-in}
 use Rattle.sorted.proofs.TableLaws.{remove-absent}

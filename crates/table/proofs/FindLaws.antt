@@ -18,9 +18,9 @@ use Rattle.octets.proofs.Cases.{apart, both}
 use Rattle.octets.proofs.Facts.{Octets}
 use Rattle.octets.proofs.TestLaws.{every-both}
 use Rattle.sorted.specs.Table.{byOrder, lookup}
-use Rattle.sorted.specs.Split.{front}
 use Rattle.sorted.specs.History.{costs}
 use Rattle.sorted.proofs.Cases.{by-order}
+use Rattle.sorted.proofs.SplitLaws.{front}
 use Rattle.rule.specs.Family.{ipv4}
 use Rattle.rule.specs.Value.{between, components}
 use Rattle.order.specs.Precedence.{partsOrder}
