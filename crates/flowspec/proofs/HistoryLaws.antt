@@ -15,11 +15,10 @@ use borrow.Author.Tests.{leb-true}
 use Rattle.octets.specs.Test.{every}
 use Rattle.octets.proofs.Cases.{by-test}
 use Rattle.octets.proofs.Facts.{Octets}
-use Rattle.octets.proofs.TestLaws.{every-both}
 use Rattle.sorted.specs.Table.{lookup, insert, remove, Sorted}
 use Rattle.sorted.specs.History.{Op, announce, withdraw, costs, isHeld, standing, apply, run}
 use Rattle.sorted.specs.History as S
-use Rattle.sorted.proofs.Cases.{by-order}
+use Rattle.sorted.proofs.MemberLaws.{every-insert, every-remove}
 use Rattle.sorted.proofs.TableLaws.{insert-sorted, remove-sorted}
 use Rattle.sorted.proofs.HistoryLaws.{costs-remove, run-holds, run-agree}
 use Rattle.rule.specs.declared.Reading.{Reading}
@@ -48,29 +47,6 @@ use Rattle.flowspec.specs.History.{Call, announcement, withdrawal, Made,
 use Rattle.flowspec.specs.Told.{changeTold}
 use Rattle.flowspec.proofs.AskLaws.{asked-from}
 
--- what holds of every entry and of a new one holds of every entry with it put in, and with one taken out
-pub every-insert : (test : Entry → Bool) (r : Entry) (es : List Entry) → test r ≡ true → every test es ≡ true
-    → every test (insert keyOrder (entryKey ipv4) r es) ≡ true
-unfolding every
-every-insert test r [] n g = rw n
-every-insert test r (x ∷ es) n g =
-    let gs = every-both test x es g in
-    by-order (keyOrder (entryKey ipv4 r) (entryKey ipv4 x))
-    (λ e. rw (e, n, gs .0, gs .1))
-    (λ e. rw (e, n, gs .1))
-    (λ e. rw (e, gs .0) (every-insert test r es n (gs .1)))
-
-every-remove : (test : Entry → Bool) (k : List (List ℕ)) (es : List Entry) → every test es ≡ true
-    → every test (remove keyOrder (entryKey ipv4) k es) ≡ true
-unfolding every
-every-remove test k [] g = refl
-every-remove test k (x ∷ es) g =
-    let gs = every-both test x es g in
-    by-order (keyOrder k (entryKey ipv4 x))
-    (λ e. rw (e, gs .0, gs .1))
-    (λ e. rw (e, gs .1))
-    (λ e. rw (e, gs .0) (every-remove test k es (gs .1)))
-
 -- an outcome on octets is one on entries: the same answer, and the entries' encoding in a buffer of the same length
 pub record Same (n : ℕ) (o : Outcome) (a : S.Outcome Entry) : Type 0 where
   pub answers : changeTold (o .answer) .number ≡ a .answer
@@ -97,7 +73,7 @@ module _ (t : List ℕ) (es : List Entry) (c : Encodes ipv4 t es) where
       let less = costs-remove keyOrder (entryKey ipv4) cost k es in
       let room = c .room in
       rw (encodes-entries ipv4 t es c)
-      (encoding (remove keyOrder (entryKey ipv4) k es) (omega arith) (every-remove (possible ipv4) k es (c .each)) (remove-sorted keyOrder (entryKey ipv4) key-order k es (c .rising)))
+      (encoding (remove keyOrder (entryKey ipv4) k es) (omega arith) (every-remove keyOrder (entryKey ipv4) (possible ipv4) k es (c .each)) (remove-sorted keyOrder (entryKey ipv4) key-order k es (c .rising)))
 
   long-removed : (k : List (List ℕ)) → length (removed ipv4 t k) ≡ length t
   unfolding removed
@@ -117,7 +93,7 @@ module _ (t : List ℕ) (es : List Entry) (c : Encodes ipv4 t es) where
       let room = leb-true (costs cost (insert keyOrder (entryKey ipv4) e es)) (length t) h in
       rw h (record {
         answers = refl;
-        encodes = encoding (insert keyOrder (entryKey ipv4) e es) room (every-insert (possible ipv4) e es ok (c .each)) (insert-sorted keyOrder (entryKey ipv4) key-order e es (c .rising));
+        encodes = encoding (insert keyOrder (entryKey ipv4) e es) room (every-insert keyOrder (entryKey ipv4) (possible ipv4) e es ok (c .each)) (insert-sorted keyOrder (entryKey ipv4) key-order e es (c .rising));
         long = length-table (length t) (insert keyOrder (entryKey ipv4) e es) room;
       }))
       (λ h. rw h (record { answers = refl; encodes = c; long = refl })))

@@ -4,7 +4,6 @@
 use mathlib.Core.Path.{_≡_, refl, sym, ap, ap₂, _∙_}
 use mathlib.Core.Bool.{Bool, true, false}
 use mathlib.Core.List.{List}
-use mathlib.Core.Option.{Option, none, some}
 use Prim.Native.Nat.{ℕ, _^_, _<_, Ordering·eq}
 use lib.ListN.{length}
 use borrow.Author.Tests.{leb-true}
@@ -12,6 +11,8 @@ use Rattle.octets.proofs.Cases.{by-test, apart}
 use Rattle.octets.proofs.Facts.{Octets}
 use Rattle.sorted.specs.Table.{lookup, insert}
 use Rattle.sorted.specs.History.{costs, isHeld}
+use Rattle.sorted.proofs.HistoryLaws.{not-held}
+use Rattle.sorted.proofs.MemberLaws.{every-insert}
 use Rattle.sorted.proofs.TableLaws.{insert-sorted, insert-again, remove-insert, remove-absent, lookup-insert, insert-swap}
 use Rattle.rule.specs.declared.Reading.the-variants.{Rule}
 use Rattle.rule.specs.Family.{ipv4}
@@ -36,7 +37,7 @@ use Rattle.flowspec.specs.Announce.{Outcome, changeOf, valueOf, asked, a
 use Rattle.flowspec.specs.Compare.{compareRules}
 use Rattle.flowspec.specs.Promise.{Announces, Withdraws}
 use Rattle.flowspec.proofs.AskLaws.{asked-from}
-use Rattle.flowspec.proofs.HistoryLaws.{every-insert, encoding, octets-value, asked-could}
+use Rattle.flowspec.proofs.HistoryLaws.{encoding, octets-value, asked-could}
 
 module _ (t : List ℕ) (c : Encodes ipv4 t (entries t)) where
   -- the table with an entry encodes its entries with that one, in a buffer of the same length
@@ -45,7 +46,7 @@ module _ (t : List ℕ) (c : Encodes ipv4 t (entries t)) where
   unfolding hasRoom inserted
   with-entry e ok room =
       let fits = leb-true (costs cost (insert keyOrder (entryKey ipv4) e (entries t))) (length t) room in (
-        encoding t (entries t) c (insert keyOrder (entryKey ipv4) e (entries t)) fits (every-insert (possible ipv4) e (entries t) ok (c .each)) (insert-sorted keyOrder (entryKey ipv4) key-order e (entries t) (c .rising)),
+        encoding t (entries t) c (insert keyOrder (entryKey ipv4) e (entries t)) fits (every-insert keyOrder (entryKey ipv4) (possible ipv4) e (entries t) ok (c .each)) (insert-sorted keyOrder (entryKey ipv4) key-order e (entries t) (c .rising)),
         length-table (length t) (insert keyOrder (entryKey ipv4) e (entries t)) fits,
       )
 
@@ -168,10 +169,6 @@ module _ (relaxed : Bool) (routes rule : List ℕ) (originator : ℕ) (communiti
         rw (stored .sound, read)
         (by-test (isHeld (lookup keyOrder (entryKey ipv4) (entryKey ipv4 entered) (entries t))) (λ h. rw h)
         (λ h. rw (h, remove-absent keyOrder (entryKey ipv4) (entryKey ipv4 entered) (entries t) (not-held _ h)) (before .is)))
-      where
-        not-held : (o : Option Entry) → isHeld o ≡ false → o ≡ none
-        not-held none h = refl
-        not-held (some e) h = apart (cc)
 
     -- **announcing, then withdrawing**: the withdrawal is done, and leaves what it would have left without the announcement
     pub announced-withdrawn : (answer : Change) (exit : List ℕ) (held : List (List ℕ)) → Withdraws rule left answer exit held

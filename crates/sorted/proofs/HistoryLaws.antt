@@ -23,7 +23,8 @@ by-tie Ordering·lt a b = refl
 by-tie Ordering·eq a b = refl
 by-tie Ordering·gt a b = refl
 
-not-held : {R : Type 0} (o : Option R) → isHeld o ≡ false → o ≡ none
+-- where none is held there is no record
+pub not-held : {R : Type 0} (o : Option R) → isHeld o ≡ false → o ≡ none
 not-held none e = refl
 not-held (some x) e = cc
 

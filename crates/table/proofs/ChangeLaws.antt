@@ -2,7 +2,7 @@
 -- entries; and which of these have room. Assumes nothing.
 use mathlib.Core.Path.{_≡_, refl, sym, ap, ap₂, subst, _∙_}
 use mathlib.Core.Bool.{Bool, true, false, cond}
-use mathlib.Core.List.{List, [], _∷_, _++_, append-nil}
+use mathlib.Core.List.{List, _∷_, _++_, append-nil}
 use mathlib.Core.Logic.{_⊎_, ⊎-elim}
 use mathlib.Core.Option.{Option, none, some}
 use Prim.Native.Nat.{ℕ, _+_, _-_, _^_, _<_, _≤_}
@@ -11,17 +11,14 @@ use native.Mathlib.Nat.{add-zero, zero-add, add-sub-cancel-left}
 use lib.ListN.{length, take, drop, replicate, length-append, take-append-drop}
 use lib.Seq.{getD-drop}
 use borrow.Author.Tests.{le-leb, lt-leb}
-use Rattle.octets.specs.Test.{every}
 use Rattle.octets.specs.Store.{stored, cutOut, gapOpened}
 use Rattle.octets.proofs.Cases.{apart}
 use Rattle.octets.proofs.Facts.{Octets}
-use Rattle.octets.proofs.TestLaws.{every-both}
 use Rattle.sorted.specs.Table.{lookup, insert, remove}
 use Rattle.sorted.specs.History.{costs, isHeld}
-use Rattle.sorted.proofs.Cases.{by-order}
 use Rattle.sorted.proofs.SplitLaws.{front, rear, skip, front-rear, insert-split, remove-split, held-split, absent-split}
 use Rattle.sorted.proofs.HistoryLaws.{costs-append}
-use Rattle.sorted.proofs.MemberLaws.{found-in}
+use Rattle.sorted.proofs.MemberLaws.{every-in, found-in}
 use Rattle.sorted.proofs.TableLaws.{remove-absent}
 use Rattle.rule.specs.Family.{ipv4}
 use Rattle.order.specs.Key.{keyOrder}
@@ -57,15 +54,6 @@ before es k = front keyOrder (entryKey ipv4) k es
 abbrev behind : List Entry → List (List ℕ) → List Entry
 behind es k = skip keyOrder (entryKey ipv4) k (rear keyOrder (entryKey ipv4) k es)
 
--- an entry that is found passes a test that every entry passes
-every-found : (test : Entry → Bool) (k : List (List ℕ)) (es : List Entry) (y : Entry) → lookup keyOrder (entryKey ipv4) k es ≡ some y
-    → every test es ≡ true → test y ≡ true
-every-found test k [] y h g = apart (cc)
-every-found test k (x ∷ es) y h g =
-    let gs = every-both test x es g in
-    by-order (keyOrder k (entryKey ipv4 x)) (λ f. apart (cc)) (λ f. let s : x ≡ y = cc in rw (← s) (gs .0))
-    (λ f. every-found test k es y (rw f at h) (gs .1))
-
 module _ (t : List ℕ) (es : List Entry) (c : Encodes ipv4 t es) (k : List (List ℕ)) where
   -- a held rule's record
   module _ (y : Entry) (e : lookup keyOrder (entryKey ipv4) k es ≡ some y) where
@@ -87,8 +75,9 @@ module _ (t : List ℕ) (es : List Entry) (c : Encodes ipv4 t es) (k : List (Lis
     pub same-cost : Octets t → (x : Entry) → Octets (x .value) → plainValue ipv4 (x .value) ≡ true → entryKey ipv4 x ≡ k → cost x ≡ cost y
     same-cost o x octets plain key =
         let new = value-held ipv4 (x .value) plain in
-        let old = is-possible ipv4 y (every-found (possible ipv4) k es y e (c .each)) .value in
-        let keys = key ∙ sym (found-in keyOrder (entryKey ipv4) key-order k y es e .1) in
+        let found = found-in keyOrder (entryKey ipv4) key-order k y es e in
+        let old = is-possible ipv4 y (every-in (possible ipv4) es (c .each) y (found .0)) .value in
+        let keys = key ∙ sym (found .1) in
         let spelled = keys-only ipv4 4 refl (x .value) (y .value) octets (value-octets o) (new .accepted) (old .accepted) keys in
         ap (λ (v : List ℕ). headCost + length v) (sym (new .spelled) ∙ spelled ∙ old .spelled)
 
