@@ -9,7 +9,7 @@ use Prim.Native.Nat.{ℕ, _-_, _≤_, Ordering, Ordering·lt, Ordering·eq, Orde
 use lib.Dec.{isEq}
 use Rattle.octets.proofs.Cases.{by-test, apart, both}
 use Rattle.octets.proofs.Facts.{Octets}
-use Rattle.sorted.specs.History.{counts, inForce, isAbout}
+use Rattle.sorted.specs.History.{counts, inForce, leavesInForce, isAbout, isCounted, lastFrom}
 use Rattle.rule.specs.declared.Reading.{Reading}
 use Rattle.rule.specs.declared.Reading.the-variants.{Rule, Refused as NotRead}
 use Rattle.rule.specs.Family.{ipv4}
@@ -26,9 +26,8 @@ use Rattle.flowspec.specs.declared.Looked.{Looked}
 use Rattle.flowspec.specs.declared.Request.{Request}
 use Rattle.flowspec.specs.declared.Request.the-variants.{Announce, Refused as NotAsked}
 use Rattle.flowspec.specs.Announce.{valueOf, asked}
-use Rattle.flowspec.specs.Told.{changeTold}
 use Rattle.flowspec.specs.Promise.{LooksUp, FirstMatches}
-use Rattle.flowspec.specs.History.{Call, announcement, withdrawal, Made, CanBe, EachCanBe, deed, deedOf, asksToAnnounce, asksToWithdraw, asks, Happened, isCounted, lastFrom, lastCounted, leavesInForce, Agree, endOf, emptyTable}
+use Rattle.flowspec.specs.History.{Call, announcement, withdrawal, Made, CanBe, EachCanBe, deed, deedOf, asksToAnnounce, asksToWithdraw, asks, Happened, askedOf, numberOf, lastCounted, Agree, endOf, emptyTable}
 use Rattle.flowspec.proofs.AskLaws.{asked-from}
 use Rattle.flowspec.proofs.HistoryLaws.{octets-value, histories-agree}
 use Rattle.flowspec.proofs.PlainLaws.{feasible-alone}
@@ -49,12 +48,14 @@ module _ (relaxed : Bool) (routes : List ℕ) where
   SettledLast k none = Unit {0}
   SettledLast k (some m) = Settled k (m .call)
 
-  last-settled : (k : List (List ℕ)) (h : List Made) (before : Option Made) → EachCanBe h → SettledLast k before → SettledLast k (lastFrom relaxed routes before k h)
+  last-settled : (k : List (List ℕ)) (h : List Made) (before : Option Made) → EachCanBe h → SettledLast k before
+      → SettledLast k (lastFrom keyOrder (entryKey ipv4) (askedOf relaxed routes) numberOf before k h)
   last-settled k [] before can settled = settled
   last-settled k (m ∷ h) before can settled =
-      last-settled k h (cond (isCounted relaxed routes k m) (some m) before) (can .1)
-      (by-test (isCounted relaxed routes k m) (λ e.
-      rw e (record { can = can .0; about = both (counts (changeTold (m .answer) .number)) (isAbout keyOrder (entryKey ipv4) k (asks relaxed routes (m .call))) e .1 })) (λ e. rw e settled))
+      let counted = isCounted keyOrder (entryKey ipv4) (askedOf relaxed routes) numberOf k m in
+      last-settled k h (cond counted (some m) before) (can .1)
+      (by-test counted (λ e.
+      rw e (record { can = can .0; about = both (counts (numberOf m)) (isAbout keyOrder (entryKey ipv4) k (askedOf relaxed routes m)) e .1 })) (λ e. rw e settled))
 
   -- announcements of one rule by one originator with the same actions as read leave the same in force
   module _ (k : List (List ℕ)) (rule other : List ℕ) (originator : ℕ) (communities others : List ℕ) (o : Octets rule) (p : Octets other)
@@ -102,7 +103,7 @@ module _ (relaxed : Bool) (routes : List ℕ) where
       (rw founders at (z .about)))
 
   same-last : (k : List (List ℕ)) (a b : Option Made) → SettledLast k a → SettledLast k b → deedOf a ≡ deedOf b
-      → leavesInForce relaxed routes a ≡ leavesInForce relaxed routes b
+      → leavesInForce (askedOf relaxed routes) a ≡ leavesInForce (askedOf relaxed routes) b
   same-last k none none s z e = refl
   same-last k none (some m) s z e = apart (cc)
   same-last k (some m) none s z e = apart (cc)

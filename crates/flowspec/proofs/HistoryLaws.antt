@@ -2,10 +2,10 @@
 -- rule's last counted call left in force, once, in precedence order; so that two histories which leave the same in force end in equal
 -- octets, and judge every packet alike. A call that is answered 11 changes nothing and does not count, so that nothing is asked of those.
 use mathlib.Core.Path.{_≡_, refl, sym, ap, ap₂, subst, _∙_}
-use mathlib.Core.Bool.{Bool, true, false, cond}
+use mathlib.Core.Bool.{Bool, true, false}
 use mathlib.Core.List.{List, [], _∷_, List·Memᴰ}
 use mathlib.Core.Logic.{_↔_}
-use mathlib.Core.Option.{Option, none, some}
+use mathlib.Core.Option.{some}
 use Prim.Native.Nat.{ℕ, _+_, _-_, _^_, _<_, _≤_}
 use native.Mathlib.Nat.{add-sub-cancel-left, sub-zero}
 use native.Mathlib.Omega.{arith}
@@ -16,7 +16,7 @@ use Rattle.octets.specs.Test.{every}
 use Rattle.octets.proofs.Cases.{by-test}
 use Rattle.octets.proofs.Facts.{Octets}
 use Rattle.sorted.specs.Table.{lookup, insert, remove, Sorted}
-use Rattle.sorted.specs.History.{Op, announce, withdraw, costs, isHeld, standing, apply, run}
+use Rattle.sorted.specs.History.{announce, withdraw, costs, isHeld, apply, run, Ran}
 use Rattle.sorted.specs.History as S
 use Rattle.sorted.proofs.MemberLaws.{every-insert, every-remove}
 use Rattle.sorted.proofs.TableLaws.{insert-sorted, remove-sorted}
@@ -43,12 +43,12 @@ use Rattle.flowspec.specs.declared.Change.{Change}
 use Rattle.flowspec.specs.declared.Request.{Request}
 use Rattle.flowspec.specs.declared.Request.the-variants.{Announce, Refused as NotAsked}
 use Rattle.flowspec.specs.Announce.{Outcome, changeOf, outcome, valueOf, asked, announcedBy, announcing, withdrawnBy, withdrawing}
-use Rattle.flowspec.specs.History.{Call, announcement, withdrawal, Made, CanBe, EachCanBe, asksToAnnounce, asksToWithdraw, asks, Promised, Happened, isCounted, lastFrom, lastCounted, leavesInForce, inForceAfter, endOf, emptyTable}
+use Rattle.flowspec.specs.History.{Call, announcement, withdrawal, Made, CanBe, EachCanBe, asksToAnnounce, asksToWithdraw, asks, Promised, Happened, askedOf, numberOf, inForceAfter, endOf, emptyTable}
 use Rattle.flowspec.specs.Told.{changeTold}
 use Rattle.flowspec.proofs.AskLaws.{asked-from}
 
 -- an outcome on octets is one on entries: the same answer, and the entries' encoding in a buffer of the same length
-pub record Same (n : ℕ) (o : Outcome) (a : S.Outcome Entry) : Type 0 where
+record Same (n : ℕ) (o : Outcome) (a : S.Outcome Entry) : Type 0 where
   pub answers : changeTold (o .answer) .number ≡ a .answer
   pub encodes : Encodes ipv4 (o .table) (a .table)
   pub long : length (o .table) ≡ n
@@ -164,44 +164,35 @@ module _ (relaxed : Bool) (routes : List ℕ) (t : List ℕ) (es : List Entry) (
       rw (p .is, p .leaves) (same-announcing rule originator communities (can .0) (can .1))
   same-made (withdrawal rule) answer left can p = rw (p .is, p .leaves) (same-withdrawing rule)
 
--- any history: the table at its end encodes the entries that the same calls leave on lists, and the last counted calls are the same
+-- any history: the table at its end encodes the entries that the same calls leave on lists, and each call was answered as it is there
 module _ (relaxed : Bool) (routes : List ℕ) where
-  abbrev asksOf : Made → Op (List (List ℕ)) Entry
-  asksOf m = asks relaxed routes (m .call)
-
-  pub step : (n : ℕ) (m : Made) (t : List ℕ) (es : List Entry) → Encodes ipv4 t es → length t ≡ n → CanBe (m .call)
+  step : (n : ℕ) (m : Made) (t : List ℕ) (es : List Entry) → Encodes ipv4 t es → length t ≡ n → CanBe (m .call)
       → Promised relaxed routes (m .call) t (m .answer) (m .left)
-      → Same n (record { answer = m .answer; table = m .left }) (apply keyOrder (entryKey ipv4) cost n (asksOf m) es)
+      → Same n (record { answer = m .answer; table = m .left }) (apply keyOrder (entryKey ipv4) cost n (askedOf relaxed routes m) es)
   step n m t es c long can made =
       subst
-      (λ (size : ℕ). Same size (record { answer = m .answer; table = m .left }) (apply keyOrder (entryKey ipv4) cost size (asksOf m) es))
+      (λ (size : ℕ). Same size (record { answer = m .answer; table = m .left }) (apply keyOrder (entryKey ipv4) cost size (askedOf relaxed routes m) es))
       long
       (same-made relaxed routes t es c (m .call) (m .answer) (m .left) can made)
 
-  ran : (n : ℕ) (h : List Made) (t : List ℕ) (es : List Entry) → Encodes ipv4 t es → length t ≡ n → EachCanBe h → Happened relaxed routes t h
-      → Encodes ipv4 (endOf t h) (run keyOrder (entryKey ipv4) cost n asksOf h es) × (length (endOf t h) ≡ n)
-  ran n [] t es c long can made = (c, long)
-  ran n (m ∷ h) t es c long can made =
-      let same = step n m t es c long (can .0) (made .0) in
-      ran n h (m .left) (apply keyOrder (entryKey ipv4) cost n (asksOf m) es .table) (same .encodes) (same .long) (can .1) (made .1)
+  record Follows (n : ℕ) (h : List Made) (t : List ℕ) (es : List Entry) : Type 0 where
+    pub encodes : Encodes ipv4 (endOf t h) (run keyOrder (entryKey ipv4) cost n (askedOf relaxed routes) h es)
+    pub long : length (endOf t h) ≡ n
+    pub ran : Ran keyOrder (entryKey ipv4) cost n (askedOf relaxed routes) numberOf h es
 
-  last-same : (n : ℕ) (k : List (List ℕ)) (h : List Made) (before : Option Made) (t : List ℕ) (es : List Entry) → Encodes ipv4 t es → length t ≡ n → EachCanBe h
-      → Happened relaxed routes t h
-      → S.lastFrom keyOrder (entryKey ipv4) cost n asksOf before k h es ≡ lastFrom relaxed routes before k h
-  last-same n k [] before t es c long can made = refl
-  last-same n k (m ∷ h) before t es c long can made =
+  follows : (n : ℕ) (h : List Made) (t : List ℕ) (es : List Entry) → Encodes ipv4 t es → length t ≡ n → EachCanBe h → Happened relaxed routes t h
+      → Follows n h t es
+  follows n [] t es c long can made = record { encodes = c; long = long; ran = tt }
+  follows n (m ∷ h) t es c long can made =
       let same = step n m t es c long (can .0) (made .0) in
-      rw (← same .answers) (last-same n k h (cond (isCounted relaxed routes k m) (some m) before) (m .left) (apply keyOrder (entryKey ipv4) cost n (asksOf m) es .table) (same .encodes) (same .long) (can .1) (made .1))
-
-  standing-is : (o : Option Made) → standing asksOf o ≡ leavesInForce relaxed routes o
-  standing-is none = refl
-  standing-is (some m) = refl
+      let rest = follows n h (m .left) (apply keyOrder (entryKey ipv4) cost n (askedOf relaxed routes m) es .table) (same .encodes) (same .long) (can .1) (made .1) in
+      record { encodes = rest .encodes; long = rest .long; ran = (same .answers, rest .ran) }
 
 -- the empty table is the encoding of no entries
-pub long-empty : (n : ℕ) → length (emptyTable n) ≡ n
+long-empty : (n : ℕ) → length (emptyTable n) ≡ n
 long-empty n = length-replicate {A = ℕ} n 0
 
-pub empty-encodes : (n : ℕ) → n ≤ mostOctets → Encodes ipv4 (emptyTable n) []
+empty-encodes : (n : ℕ) → n ≤ mostOctets → Encodes ipv4 (emptyTable n) []
 unfolding tableOf joined every
 empty-encodes n h =
     let long = long-empty n in
@@ -214,35 +205,28 @@ module _ (relaxed : Bool) (routes : List ℕ) (n : ℕ) (fits : n ≤ mostOctets
 
   module _ (h : List Made) (can : EachCanBe h) (made : Happened relaxed routes (emptyTable n) h) where
     abbrev left : List Entry
-    left = run keyOrder (entryKey ipv4) cost n (asksOf relaxed routes) h []
+    left = run keyOrder (entryKey ipv4) cost n (askedOf relaxed routes) h []
 
-    encodes-left : Encodes ipv4 (after h) left × (length (after h) ≡ n)
-    encodes-left = ran relaxed routes n h (emptyTable n) [] (empty-encodes n fits) (long-empty n) can made
+    followed : Follows relaxed routes n h (emptyTable n) []
+    followed = follows relaxed routes n h (emptyTable n) [] (empty-encodes n fits) (long-empty n) can made
 
     entries-left : entries (after h) ≡ left
-    entries-left = encodes-entries ipv4 (after h) left (encodes-left .0)
-
-    stands-left : (k : List (List ℕ)) → standing (asksOf relaxed routes) (S.lastCounted keyOrder (entryKey ipv4) cost n (asksOf relaxed routes) k h) ≡ inForceAfter relaxed routes h k
-    stands-left k =
-        ap (standing (asksOf relaxed routes)) (last-same relaxed routes n k h none (emptyTable n) [] (empty-encodes n fits) (long-empty n) can made)
-        ∙ standing-is relaxed routes (lastCounted relaxed routes k h)
+    entries-left = encodes-entries ipv4 (after h) left (followed .encodes)
 
     -- **the table is sound**: its octets are the records of its entries, which stand once each, in precedence order, and zeros
     pub history-sound : Encodes ipv4 (after h) (entries (after h))
-    history-sound = rw entries-left (encodes-left .0)
+    history-sound = rw entries-left (followed .encodes)
 
     -- **the table holds exactly what is in force**: an entry stands in it where it is what its rule's last counted call left in force
     pub history-holds : (e : Entry) → List·Memᴰ e (entries (after h)) ↔ (inForceAfter relaxed routes h (entryKey ipv4 e) ≡ some e)
     history-holds e =
-        rw (entries-left, ← stands-left (entryKey ipv4 e))
-        (run-holds keyOrder (entryKey ipv4) cost n (asksOf relaxed routes) key-order h e)
+        rw entries-left (run-holds keyOrder (entryKey ipv4) cost n (askedOf relaxed routes) numberOf key-order h (followed .ran) e)
 
   -- **two histories** that leave the same in force for every rule end in equal octets
   pub histories-agree : (h g : List Made) → EachCanBe h → EachCanBe g → Happened relaxed routes (emptyTable n) h → Happened relaxed routes (emptyTable n) g
       → ((k : List (List ℕ)) → inForceAfter relaxed routes h k ≡ inForceAfter relaxed routes g k) → after h ≡ after g
   histories-agree h g can also made too agree =
-      let same = run-agree keyOrder (entryKey ipv4) cost n (asksOf relaxed routes) key-order h g
-      (λ k. stands-left h can made k ∙ agree k ∙ sym (stands-left g also too k)) in
-      let first = encodes-left h can made in
-      let second = encodes-left g also too in
-      first .0 .is ∙ ap₂ tableOf (first .1 ∙ sym (second .1)) same ∙ sym (second .0 .is)
+      let first = followed h can made in
+      let second = followed g also too in
+      let same = run-agree keyOrder (entryKey ipv4) cost n (askedOf relaxed routes) numberOf key-order h g (first .ran) (second .ran) agree in
+      first .encodes .is ∙ ap₂ tableOf (first .long ∙ sym (second .long)) same ∙ sym (second .encodes .is)

@@ -2,12 +2,13 @@
 -- exactly when their plain spellings are equal (crate order, KeyLaws: `keys-only` and `keys-same`).
 use Prim.Native.Nat.{ℕ, _^_, _<_}
 use mathlib.Core.Path.{_≡_}
-use mathlib.Core.Bool.{Bool, cond, _&&_}
+use mathlib.Core.Bool.{Bool}
 use mathlib.Core.List.{List, [], _∷_}
 use mathlib.Core.Option.{Option, none, some}
 use lib.ListN.{replicate}
 use Rattle.octets.specs.Number.{Octets}
-use Rattle.sorted.specs.History.{Op, refuse, announce, withdraw, counts, inForce, isAbout}
+use Rattle.sorted.specs.History.{Op, refuse, announce, withdraw}
+use Rattle.sorted.specs.History as S
 use Rattle.rule.specs.declared.Reading.{Reading}
 use Rattle.rule.specs.declared.Reading.the-variants.{Rule, Refused as NotRead}
 use Rattle.rule.specs.Family.{ipv4}
@@ -50,6 +51,10 @@ pub record Made : Type 0 where
   pub answer : Change
   pub left : List ℕ
 
+-- The number that a call was answered with, 0 where it was done.
+abbrev pub numberOf : Made → ℕ
+numberOf m = changeTold (m .answer) .number
+
 -- What every call is given, by the types of what it is lent: octets, and an originator of 32 bits.
 abbrev pub CanBe : Call → Type 0
 CanBe (announcement rule originator communities) = Octets rule × (originator < 2 ^ 32)
@@ -88,26 +93,18 @@ module _ (relaxed : Bool) (routes : List ℕ) where
   Happened table [] = Unit {0}
   Happened table (m ∷ h) = Promised (m .call) table (m .answer) (m .left) × Happened (m .left) h
 
-  -- Whether a call counts, by its answer, and is about a rule.
-  abbrev pub isCounted : List (List ℕ) → Made → Bool
-  isCounted k m = counts (changeTold (m .answer) .number) && isAbout keyOrder (entryKey ipv4) k (asks (m .call))
+  -- What a call that was made asked of its table.
+  abbrev pub askedOf : Made → Op (List (List ℕ)) Entry
+  askedOf m = asks (m .call)
 
-  -- The last counted call about a rule, and `before` where a history has none.
-  abbrev pub lastFrom : Option Made → List (List ℕ) → List Made → Option Made
-  lastFrom before k [] = before
-  lastFrom before k (m ∷ h) = lastFrom (cond (isCounted k m) (some m) before) k h
-
+  -- The last counted call about a rule: of the calls that are about it, the last that was answered 0, 8 or 14.
   abbrev pub lastCounted : List (List ℕ) → List Made → Option Made
-  lastCounted k h = lastFrom none k h
+  lastCounted k h = S.lastCounted keyOrder (entryKey ipv4) askedOf numberOf k h
 
-  -- The entry that a call leaves in force: that of a feasible announcement, with its originator and actions.
-  abbrev pub leavesInForce : Option Made → Option Entry
-  leavesInForce none = none
-  leavesInForce (some m) = inForce (asks (m .call))
-
-  -- What is in force for a rule after a history.
+  -- What is in force for a rule after a history: the entry of a feasible announcement, with its originator and actions, where that is the
+  -- rule's last counted call.
   abbrev pub inForceAfter : List Made → List (List ℕ) → Option Entry
-  inForceAfter h k = leavesInForce (lastCounted k h)
+  inForceAfter h k = S.inForceAfter keyOrder (entryKey ipv4) askedOf numberOf h k
 
   -- Two histories agree on each rule's last counted call.
   abbrev pub Agree : List Made → List Made → Type 0

@@ -1,7 +1,9 @@
--- Histories: calls that announce records to a table and withdraw keys from it, the oldest first, and what each leaves. A call's input
--- is read and judged before; `view` gives what it then asks of the table. `cost` is the room that a record takes, and `room` the room
--- that there is. Answers: 0 done, 8 infeasible, 11 no room, 14 not held; a call that was refused before has its own number.
+-- Histories: calls that announce records to a table and withdraw keys from it, the oldest first, and what they leave. A call stands as
+-- it was made: `view` gives what it asked of the table once its input was read and judged, and `told` the number it was answered with.
+-- `cost` is the room that a record takes, and `room` the room that there is. Answers: 0 done, 8 infeasible, 11 no room, 14 not held; a
+-- call that was refused before has its own number.
 use Prim.Native.Nat.{ℕ, _+_, Ordering}
+use mathlib.Core.Path.{_≡_}
 use mathlib.Core.Bool.{Bool, true, false, cond, _&&_, _||_}
 use mathlib.Core.List.{List, [], _∷_}
 use mathlib.Core.Option.{Option, none, some}
@@ -41,10 +43,10 @@ inForce (announce r true) = some r
 inForce (announce r false) = none
 inForce (withdraw k) = none
 
--- The record in force under a key, by the last counted call about it, if there was one.
-abbrev pub standing : {C K R : Type 0} → (C → Op K R) → Option C → Option R
-standing view none = none
-standing view (some c) = inForce (view c)
+-- The record that the last counted call about a key leaves in force, if there was such a call.
+abbrev pub leavesInForce : {M K R : Type 0} → (M → Op K R) → Option M → Option R
+leavesInForce view none = none
+leavesInForce view (some m) = inForce (view m)
 
 module _ {K R : Type 0} (cmp : K → K → Ordering) (key : R → K) where
   -- Whether a call is about a key: it announces a record under it, or withdraws it.
@@ -52,6 +54,24 @@ module _ {K R : Type 0} (cmp : K → K → Ordering) (key : R → K) where
   isAbout k (refuse number) = false
   isAbout k (announce r feasible) = isEq (cmp k (key r))
   isAbout k (withdraw j) = isEq (cmp k j)
+
+  module _ {M : Type 0} (view : M → Op K R) (told : M → ℕ) where
+    -- Whether a call counts, by its answer, and is about a key.
+    abbrev pub isCounted : K → M → Bool
+    isCounted k m = counts (told m) && isAbout k (view m)
+
+    -- The last counted call about a key, and `before` where a history has none.
+    abbrev pub lastFrom : Option M → K → List M → Option M
+    lastFrom before k [] = before
+    lastFrom before k (m ∷ h) = lastFrom (cond (isCounted k m) (some m) before) k h
+
+    -- The last counted call about a key in a history, if it has one.
+    abbrev pub lastCounted : K → List M → Option M
+    lastCounted k h = lastFrom none k h
+
+    -- The record in force under a key after a history.
+    abbrev pub inForceAfter : List M → K → Option R
+    inForceAfter h k = leavesInForce view (lastCounted k h)
 
   module _ (cost : R → ℕ) (room : ℕ) where
     -- What a call does to a table. "Refusals change nothing, except that 8 removes a held equal rule"; "no room means exactly that the
@@ -63,21 +83,13 @@ module _ {K R : Type 0} (cmp : K → K → Ordering) (key : R → K) where
     apply (announce r false) t = record { table = remove cmp key (key r) t; answer = 8 }
     apply (withdraw k) t = cond (isHeld (lookup cmp key k t)) (record { table = remove cmp key k t; answer = 0 }) (record { table = t; answer = 14 })
 
-    module _ {C : Type 0} (view : C → Op K R) where
-      -- The table after a history.
-      abbrev pub run : List C → List R → List R
+    module _ {M : Type 0} (view : M → Op K R) where
+      -- The table after a history that begins at a table.
+      abbrev pub run : List M → List R → List R
       run [] t = t
-      run (c ∷ h) t = run h (apply (view c) t .table)
+      run (m ∷ h) t = run h (apply (view m) t .table)
 
-      -- Whether a call to a table counts, and is about a key.
-      abbrev pub isCounted : K → C → List R → Bool
-      isCounted k c t = counts (apply (view c) t .answer) && isAbout k (view c)
-
-      -- The last counted call about a key in a history that begins at a table, and `before` where it has none.
-      abbrev pub lastFrom : Option C → K → List C → List R → Option C
-      lastFrom before k [] t = before
-      lastFrom before k (c ∷ h) t = lastFrom (cond (isCounted k c t) (some c) before) k h (apply (view c) t .table)
-
-      -- The last counted call about a key in a history that begins at the empty table.
-      abbrev pub lastCounted : K → List C → Option C
-      lastCounted k h = lastFrom none k h []
+      -- Each call of a history that begins at a table was told what `apply` answers on the table that the calls before it left.
+      abbrev pub Ran : (M → ℕ) → List M → List R → Type 0
+      Ran told [] t = Unit {0}
+      Ran told (m ∷ h) t = (told m ≡ apply (view m) t .answer) × Ran told h (apply (view m) t .table)
