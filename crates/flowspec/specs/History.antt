@@ -34,13 +34,14 @@ pub data Call : Type 0 where
   announcement : List ℕ → ℕ → List ℕ → Call
   withdrawal : List ℕ → Call
 
--- What a call asks of a table once its input is read and judged: nothing, where that is refused; to announce an entry, which is feasible
--- or not; to withdraw a rule.
+-- What an announcement asks of a table once its input is read and judged: nothing, where that is refused; else to announce an entry,
+-- which is feasible or not.
 abbrev pub asksToAnnounce : List ℕ → ℕ → Request → Op (List (List ℕ)) Entry
 asksToAnnounce rule originator (NotAsked number place) = refuse number
 asksToAnnounce rule originator (Announce start size actions feasible) =
     announce (record { originator = originator; actions = actions; value = plain (valueOf rule start size) }) feasible
 
+-- What a withdrawal asks of a table once its rule is read: nothing, where that is refused; else to withdraw the rule.
 abbrev pub asksToWithdraw : List ℕ → Reading → Op (List (List ℕ)) Entry
 asksToWithdraw rule (NotRead number place) = refuse number
 asksToWithdraw rule (Rule start size) = withdraw (keysOf ipv4 (plain (valueOf rule start size)))
@@ -55,11 +56,12 @@ pub record Made : Type 0 where
 abbrev pub numberOf : Made → ℕ
 numberOf m = changeTold (m .answer) .number
 
--- What every call is given, by the types of what it is lent: octets, and an originator of 32 bits.
+-- What a call is given, by the types of what it is lent: octets, and an originator of 32 bits.
 abbrev pub CanBe : Call → Type 0
 CanBe (announcement rule originator communities) = Octets rule × (originator < 2 ^ 32)
 CanBe (withdrawal rule) = Unit {0}
 
+-- What every call of a history is given.
 abbrev pub EachCanBe : List Made → Type 0
 EachCanBe [] = Unit {0}
 EachCanBe (m ∷ h) = CanBe (m .call) × EachCanBe h
@@ -70,15 +72,18 @@ pub data Deed : Type 0 where
   announced : ℕ → ActionsReading → Deed
   withdrew : Deed
 
+-- What is compared of a call.
 abbrev pub deed : Call → Deed
 deed (announcement rule originator communities) = announced originator (actionsOf communities)
 deed (withdrawal rule) = withdrew
 
+-- The same of a call that was made, if there is one.
 abbrev pub deedOf : Option Made → Option Deed
 deedOf none = none
 deedOf (some m) = some (deed (m .call))
 
 module _ (relaxed : Bool) (routes : List ℕ) where
+  -- What a call asks of a table, by its kind.
   abbrev pub asks : Call → Op (List (List ℕ)) Entry
   asks (announcement rule originator communities) = asksToAnnounce rule originator (asked relaxed routes rule originator communities)
   asks (withdrawal rule) = asksToWithdraw rule (oneRule ipv4 rule)

@@ -39,11 +39,12 @@ module _ {K R : Type 0} (cmp : K → K → Ordering) (key : R → K) where
   Sorted [] = Unit {0}
   Sorted (x ∷ t) = Below (key x) t × Sorted t
 
-  -- The same two, as tests.
+  -- Whether a key comes before the first record, as a test.
   abbrev pub below : K → List R → Bool
   below k [] = true
   below k (x ∷ t) = byOrder (cmp k (key x)) true false false
 
+  -- Whether the keys rise strictly, as a test.
   abbrev pub sorted : List R → Bool
   sorted [] = true
   sorted (x ∷ t) = below (key x) t && sorted t
