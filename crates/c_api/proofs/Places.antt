@@ -11,7 +11,7 @@ use Rattle.rule.specs.declared.Reading.{Reading}
 use Rattle.rule.specs.declared.Reading.the-variants.{Rule, Refused as NotRead}
 use Rattle.rule.specs.Family.{ipv4}
 use Rattle.rule.specs.Plain.{plain}
-use Rattle.rule.specs.Reading.{oneRule}
+use Rattle.rule.specs.Reading.{valueOf, oneRule}
 use Rattle.rule.proofs.Refusal.{Refusal, placeless}
 use Rattle.rule.proofs.ReadingLaws.{SaysRule, one-says}
 use Rattle.order.specs.Key.{keysOf}
@@ -38,7 +38,7 @@ use Rattle.flowspec.specs.declared.Looked.{Looked}
 use Rattle.flowspec.specs.declared.Looked.the-variants.{Judged, Refused as NotLookedUp}
 use Rattle.flowspec.specs.Compare.{compared, compareRead, compareRules}
 use Rattle.flowspec.specs.Feasibility.{isFeasible, judged, judgeRead, judgement}
-use Rattle.flowspec.specs.Announce.{changeOf, valueOf, askedBy, asked, announcedBy, announcing, withdrawnBy, withdrawing}
+use Rattle.flowspec.specs.Announce.{announcedEntry, changeOf, askedBy, asked, announcedBy, announcing, withdrawnBy, withdrawing}
 use Rattle.flowspec.specs.Look.{lookedUp, lookingUp}
 
 -- ---- comparing ----
@@ -126,7 +126,7 @@ module _ (relaxed : Bool) (words rule : List ℕ) (originator : ℕ) (communitie
       go : (r : Request) → Asks r → Changes (announcedBy t rule originator r .answer)
       go (NotAsked number place) h = h
       go (Announce start size actions feasible) h =
-          let n : Entry = record { originator = originator; actions = actions; value = plain (valueOf rule start size) } in
+          let n : Entry = announcedEntry rule originator start size actions in
           changes (announced ipv4 t n feasible .number) (told n feasible)
 
 pub not-withdrawn : (rule t : List ℕ) (number place : ℕ) → withdrawing rule t .answer ≡ NotChanged number place → Refusal number place

@@ -14,7 +14,7 @@ use Rattle.rule.specs.declared.Reading.{Reading}
 use Rattle.rule.specs.declared.Reading.the-variants.{Rule, Refused as NotRead}
 use Rattle.rule.specs.Family.{ipv4}
 use Rattle.rule.specs.Plain.{plain}
-use Rattle.rule.specs.Reading.{oneRule}
+use Rattle.rule.specs.Reading.{valueOf, oneRule}
 use Rattle.rule.proofs.ReadingLaws.{one-read}
 use Rattle.order.specs.Key.{keysOf, keyOrder}
 use Rattle.order.proofs.KeyLaws.{key-order, keys-only, keys-plain}
@@ -25,7 +25,7 @@ use Rattle.table.specs.Sound.{mostOctets}
 use Rattle.flowspec.specs.declared.Looked.{Looked}
 use Rattle.flowspec.specs.declared.Request.{Request}
 use Rattle.flowspec.specs.declared.Request.the-variants.{Announce, Refused as NotAsked}
-use Rattle.flowspec.specs.Announce.{valueOf, asked}
+use Rattle.flowspec.specs.Announce.{asked}
 use Rattle.flowspec.specs.Promise.{LooksUp, FirstMatches}
 use Rattle.flowspec.specs.History.{Call, announcement, withdrawal, Made, CanBe, EachCanBe, deed, deedOf, asksToAnnounce, asksToWithdraw, asks, Happened, askedOf, numberOf, lastCounted, Agree, endOf, emptyTable}
 use Rattle.flowspec.proofs.AskLaws.{asked-from}

@@ -9,7 +9,7 @@ use Rattle.octets.proofs.Cases.{apart}
 use Rattle.rule.specs.declared.Reading.{Reading}
 use Rattle.rule.specs.declared.Reading.the-variants.{Rule, Refused as NotRead}
 use Rattle.rule.specs.Family.{ipv4}
-use Rattle.rule.specs.Reading.{oneRule}
+use Rattle.rule.specs.Reading.{valueOf, oneRule}
 use Rattle.rule.proofs.ReadingLaws.{ReadRule, one-read}
 use Rattle.action.specs.declared.Actions.{Actions}
 use Rattle.action.specs.declared.Reading.{Reading as ActionsReading}
@@ -18,7 +18,7 @@ use Rattle.action.specs.Actions.{actionsOf}
 use Rattle.flowspec.specs.declared.Request.the-variants.{Announce, Refused}
 use Rattle.flowspec.specs.declared.Change.the-variants.{Done, Refused as NotChanged}
 use Rattle.flowspec.specs.Feasibility.{readWithRoutes, isFeasible}
-use Rattle.flowspec.specs.Announce.{changeOf, valueOf, askedBy, asked}
+use Rattle.flowspec.specs.Announce.{changeOf, askedBy, asked}
 use Rattle.flowspec.proofs.FeasibilityLaws.{with-routes}
 
 -- how `change_of` comes to its answers

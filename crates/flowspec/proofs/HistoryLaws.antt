@@ -25,7 +25,7 @@ use Rattle.rule.specs.declared.Reading.{Reading}
 use Rattle.rule.specs.declared.Reading.the-variants.{Rule, Refused as NotRead}
 use Rattle.rule.specs.Family.{ipv4}
 use Rattle.rule.specs.Plain.{plain}
-use Rattle.rule.specs.Reading.{oneRule}
+use Rattle.rule.specs.Reading.{valueOf, oneRule}
 use Rattle.rule.proofs.ReadingLaws.{one-read}
 use Rattle.action.proofs.PossibleLaws.{read-possible}
 use Rattle.order.specs.Key.{keysOf, keyOrder}
@@ -42,7 +42,7 @@ use Rattle.table.proofs.CallLaws.{plain-held}
 use Rattle.flowspec.specs.declared.Change.{Change}
 use Rattle.flowspec.specs.declared.Request.{Request}
 use Rattle.flowspec.specs.declared.Request.the-variants.{Announce, Refused as NotAsked}
-use Rattle.flowspec.specs.Announce.{Outcome, changeOf, outcome, valueOf, asked, announcedBy, announcing, withdrawnBy, withdrawing}
+use Rattle.flowspec.specs.Announce.{announcedEntry, Outcome, changeOf, outcome, asked, announcedBy, announcing, withdrawnBy, withdrawing}
 use Rattle.flowspec.specs.History.{Call, announcement, withdrawal, Made, CanBe, EachCanBe, asksToAnnounce, asksToWithdraw, asks, Promised, Happened, askedOf, numberOf, inForceAfter, endOf, emptyTable}
 use Rattle.flowspec.specs.Told.{changeTold}
 use Rattle.flowspec.proofs.AskLaws.{asked-from}
@@ -118,7 +118,7 @@ octets-value rule start size o = rw (add-sub-cancel-left start size) at (octets-
 abbrev pub Could : List ℕ → ℕ → Request → Type 0
 Could rule originator (NotAsked number place) = Unit {0}
 Could rule originator (Announce start size actions feasible) =
-    possible ipv4 (record { originator = originator; actions = actions; value = plain (valueOf rule start size) }) ≡ true
+    possible ipv4 (announcedEntry rule originator start size actions) ≡ true
 
 pub asked-could : (relaxed : Bool) (routes rule : List ℕ) (originator : ℕ) (communities : List ℕ) → Octets rule → originator < 2 ^ 32
     → Could rule originator (asked relaxed routes rule originator communities)
@@ -130,7 +130,7 @@ asked-could relaxed routes rule originator communities o small =
     go (Announce start size actions feasible) e =
         let from = asked-from relaxed routes rule originator communities start size actions feasible e in
         let octets = octets-value rule start size o in
-        make-possible ipv4 (record { originator = originator; actions = actions; value = plain (valueOf rule start size) }) small
+        make-possible ipv4 (announcedEntry rule originator start size actions) small
         (read-possible communities actions (from .acts))
         (plain-held (valueOf rule start size) octets (one-read ipv4 rule start size (from .read) .accepted))
 
@@ -147,7 +147,7 @@ module _ (relaxed : Bool) (routes : List ℕ) (t : List ℕ) (es : List Entry) (
           → Same (length t) (announcedBy t rule originator r) (apply keyOrder (entryKey ipv4) cost (length t) (asksToAnnounce rule originator r) es)
       go (NotAsked number place) ok = record { answers = refl; encodes = c; long = refl }
       go (Announce start size actions feasible) ok =
-          same-announced t es c (record { originator = originator; actions = actions; value = plain (valueOf rule start size) }) feasible ok
+          same-announced t es c (announcedEntry rule originator start size actions) feasible ok
 
   same-withdrawing : (rule : List ℕ)
       → Same (length t) (withdrawing rule t) (apply keyOrder (entryKey ipv4) cost (length t) (asks relaxed routes (withdrawal rule)) es)

@@ -17,7 +17,7 @@ use Rattle.sorted.proofs.TableLaws.{insert-sorted, insert-again, remove-insert,
 use Rattle.rule.specs.declared.Reading.the-variants.{Rule}
 use Rattle.rule.specs.Family.{ipv4}
 use Rattle.rule.specs.Plain.{plain}
-use Rattle.rule.specs.Reading.{oneRule}
+use Rattle.rule.specs.Reading.{valueOf, oneRule}
 use Rattle.order.specs.Precedence.{precedence}
 use Rattle.order.specs.Key.{keysOf, keyOrder}
 use Rattle.order.proofs.KeyLaws.{key-order, keys-plain, one-order}
@@ -33,7 +33,7 @@ use Rattle.flowspec.specs.declared.Change.the-variants.{Done, Refused}
 use Rattle.flowspec.specs.declared.Comparison.the-variants.{Same}
 use Rattle.flowspec.specs.declared.Request.{Request}
 use Rattle.flowspec.specs.declared.Request.the-variants.{Announce, Refused as NotAsked}
-use Rattle.flowspec.specs.Announce.{Outcome, changeOf, valueOf, asked, announcedBy, announcing, withdrawing}
+use Rattle.flowspec.specs.Announce.{announcedEntry, Outcome, changeOf, asked, announcedBy, announcing, withdrawing}
 use Rattle.flowspec.specs.Compare.{compareRules}
 use Rattle.flowspec.specs.Promise.{Announces, Withdraws}
 use Rattle.flowspec.proofs.AskLaws.{asked-from}
@@ -83,10 +83,6 @@ module _ (t : List ℕ) (c : Encodes ipv4 t (entries t)) where
     unfolding inserted
     inserted-either x fine space differ has long =
         rw (entries-with, with-entry e ok room .1, has, long) (ap (tableOf (length t)) (sym (insert-swap keyOrder (entryKey ipv4) key-order e x (entries t) (c .rising) differ)))
-
--- the entry that an announcement asks for, by where its value stands in the rule and its actions as read
-abbrev announcedEntry : List ℕ → ℕ → ℕ → ℕ → Actions → Entry
-announcedEntry rule originator start size actions = record { originator = originator; actions = actions; value = plain (valueOf rule start size) }
 
 module _ (relaxed : Bool) (routes rule : List ℕ) (originator : ℕ) (communities : List ℕ) where
   -- what a done announcement asked, what it found, and what it left

@@ -9,7 +9,7 @@ use Rattle.rule.specs.declared.Reading.{Reading}
 use Rattle.rule.specs.declared.Reading.the-variants.{Rule, Refused as NotRead}
 use Rattle.rule.specs.Family.{ipv4}
 use Rattle.rule.specs.Plain.{plain}
-use Rattle.rule.specs.Reading.{oneRule}
+use Rattle.rule.specs.Reading.{valueOf, oneRule}
 use Rattle.order.specs.Key.{keysOf}
 use Rattle.entry.specs.Entry.{Entry}
 use Rattle.table.specs.Sound.{soundTable}
@@ -18,7 +18,7 @@ use Rattle.flowspec.specs.declared.Request.{Request}
 use Rattle.flowspec.specs.declared.Request.the-variants.{Announce, Refused as NotAsked}
 use Rattle.flowspec.specs.declared.Change.{Change}
 use Rattle.flowspec.specs.declared.Change.the-variants.{Done, Refused}
-use Rattle.flowspec.specs.Announce.{Outcome, changeOf, outcome, valueOf, asked, announcedBy, announcing, withdrawnBy, withdrawing}
+use Rattle.flowspec.specs.Announce.{announcedEntry, Outcome, changeOf, outcome, asked, announcedBy, announcing, withdrawnBy, withdrawing}
 use Rattle.flowspec.specs.Promise.{Announces, Withdraws}
 
 -- an outcome leaves the table as it was, unless it is done or 8
@@ -46,7 +46,7 @@ announce-keeps relaxed words rule originator communities t =
     by-test (soundTable ipv4 t) (λ s. rw s (go (asked relaxed words rule originator communities))) (λ s. rw s (λ number place h n. refl))
   where
     go : (r : Request) → Unchanged t (announcedBy t rule originator r)
-    go (Announce start size actions feasible) = changed t (record { originator = originator; actions = actions; value = plain (valueOf rule start size) }) feasible
+    go (Announce start size actions feasible) = changed t (announcedEntry rule originator start size actions) feasible
     go (NotAsked number place) = λ m p h n. refl
 
 pub withdraw-keeps : (rule t : List ℕ) → Unchanged t (withdrawing rule t)

@@ -10,7 +10,7 @@ use Rattle.octets.proofs.Facts.{Octets}
 use Rattle.rule.specs.declared.Reading.the-variants.{Rule}
 use Rattle.rule.specs.Family.{ipv4}
 use Rattle.rule.specs.Plain.{plain}
-use Rattle.rule.specs.Reading.{oneRule}
+use Rattle.rule.specs.Reading.{valueOf, oneRule}
 use Rattle.rule.proofs.ReadingLaws.{one-read}
 use Rattle.rule.proofs.ClearedLaws.{octets-plain}
 use Rattle.order.specs.Key.{keysOf}
@@ -24,7 +24,7 @@ use Rattle.table.proofs.ChangeLaws.{held-is-done}
 use Rattle.table.proofs.CallLaws.{plain-held}
 use Rattle.flowspec.specs.declared.Change.{Change}
 use Rattle.flowspec.specs.declared.Change.the-variants.{Refused}
-use Rattle.flowspec.specs.Announce.{changeOf, valueOf, askedBy, asked, announcedBy, announcing}
+use Rattle.flowspec.specs.Announce.{announcedEntry, changeOf, askedBy, asked, announcedBy, announcing}
 use Rattle.flowspec.specs.Feasibility.{readWithRoutes, isFeasible}
 use Rattle.flowspec.specs.Promise.{Announces}
 use Rattle.flowspec.proofs.HistoryLaws.{octets-value}
@@ -46,7 +46,7 @@ module _ (relaxed : Bool) (routes rule : List ℕ) (originator : ℕ) (communiti
       go sound Unsound = λ place e. apart (cc)
       go sound (Read actions) =
           let v = octets-value rule start size octets in
-          let done = held-is-done t o sound (record { originator = originator; actions = actions; value = plain (valueOf rule start size) })
+          let done = held-is-done t o sound (announcedEntry rule originator start size actions)
           (octets-plain (valueOf rule start size) v) (plain-held (valueOf rule start size) v (one-read ipv4 rule start size read .accepted)) held in
           by-test (isFeasible relaxed routes (valueOf rule start size) originator)
           (λ f. rw (f, done) (λ place e. apart (cc)))

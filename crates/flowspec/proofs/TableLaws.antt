@@ -15,7 +15,7 @@ use Rattle.rule.specs.declared.Reading.the-variants.{Rule, Refused as NotRead}
 use Rattle.rule.specs.Family.{ipv4}
 use Rattle.rule.specs.Value.{checkValue}
 use Rattle.rule.specs.Plain.{plain}
-use Rattle.rule.specs.Reading.{oneRule}
+use Rattle.rule.specs.Reading.{valueOf, oneRule}
 use Rattle.rule.proofs.ReadingLaws.{ReadRule, one-read}
 use Rattle.order.specs.Key.{keysOf}
 use Rattle.action.specs.declared.Actions.{Actions}
@@ -39,7 +39,7 @@ use Rattle.flowspec.specs.declared.Change.the-variants.{Refused as NotCh
 use Rattle.flowspec.specs.declared.Looked.{Looked}
 use Rattle.flowspec.specs.declared.Looked.the-variants.{Judged, Refused as NotLookedUp}
 use Rattle.flowspec.specs.declared.MatchPlace.{MatchPlace}
-use Rattle.flowspec.specs.Announce.{Outcome, changeOf, outcome, refusal, valueOf, asked, announcing, withdrawing}
+use Rattle.flowspec.specs.Announce.{announcedEntry, Outcome, changeOf, outcome, refusal, asked, announcing, withdrawing}
 use Rattle.flowspec.specs.declared.Seen.{Seen}
 use Rattle.flowspec.specs.declared.Seen.the-variants.{Shows, Refused as NotSeen}
 use Rattle.flowspec.specs.Look.{seen, lookingUp, firstMatch, matchPlace}
@@ -97,7 +97,7 @@ module _ (relaxed : Bool) (words rule : List ℕ) (originator : ℕ) (communitie
         unfolding announcing
         announce-done number answer exit h a =
             let k = rw (add-sub-cancel-left start size) at h in
-            announce-kept (outcome (announced ipv4 t (record { originator = originator; actions = actions; value = plain (valueOf rule start size) }) feasible)) answer exit
+            announce-kept (outcome (announced ipv4 t (announcedEntry rule originator start size actions) feasible)) answer exit
             (rw (was-sound t s is used e .0, ← asks, f)) (a ∙ ap changeOf (k .0)) (k .1)
 
 -- ---- withdrawing ----

@@ -8,12 +8,13 @@ use Rattle.rule.specs.declared.Reading.{Reading}
 use Rattle.rule.specs.declared.Reading.the-variants.{Rule, Refused as NotRead}
 use Rattle.rule.specs.Family.{ipv4}
 use Rattle.rule.specs.Plain.{plain}
-use Rattle.rule.specs.Reading.{oneRule}
-pub use Rattle.rule.specs.Reading.{valueOf}
+use Rattle.rule.specs.Reading.{valueOf, oneRule}
 use Rattle.order.specs.Key.{keysOf}
+use Rattle.action.specs.declared.Actions.{Actions}
 use Rattle.action.specs.declared.Reading.{Reading as ActionsReading}
 use Rattle.action.specs.declared.Reading.the-variants.{Read, Unsound}
 use Rattle.action.specs.Actions.{actionsOf}
+use Rattle.entry.specs.Entry.{Entry}
 use Rattle.table.specs.Sound.{soundTable}
 use Rattle.table.specs.Change.{Changed, announced, withdrawn}
 use Rattle.flowspec.specs.declared.Change.{Change}
@@ -50,11 +51,15 @@ outcome c = record { answer = changeOf (c .number); table = c .table }
 abbrev pub refusal : ℕ → ℕ → List ℕ → Outcome
 refusal number place t = record { answer = NotChanged number place; table = t }
 
+-- The entry that an announcement asks for: its originator and actions, and the plain spelling of the value that was read.
+abbrev pub announcedEntry : List ℕ → ℕ → ℕ → ℕ → Actions → Entry
+announcedEntry rule originator start size actions = record { originator = originator; actions = actions; value = plain (valueOf rule start size) }
+
 -- What an announcement leaves in a sound table.
 abbrev pub announcedBy : List ℕ → List ℕ → ℕ → Request → Outcome
 announcedBy t rule originator (NotAsked number place) = refusal number place t
 announcedBy t rule originator (Announce start size actions feasible) =
-    outcome (announced ipv4 t (record { originator = originator; actions = actions; value = plain (valueOf rule start size) }) feasible)
+    outcome (announced ipv4 t (announcedEntry rule originator start size actions) feasible)
 
 -- 01: "Announce checks 10, 9, 1 to 7, 15, 13, 8, 11".
 unfoldable pub announcing : Bool → List ℕ → List ℕ → ℕ → List ℕ → List ℕ → Outcome

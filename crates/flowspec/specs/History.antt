@@ -13,7 +13,7 @@ use Rattle.rule.specs.declared.Reading.{Reading}
 use Rattle.rule.specs.declared.Reading.the-variants.{Rule, Refused as NotRead}
 use Rattle.rule.specs.Family.{ipv4}
 use Rattle.rule.specs.Plain.{plain}
-use Rattle.rule.specs.Reading.{oneRule}
+use Rattle.rule.specs.Reading.{valueOf, oneRule}
 use Rattle.order.specs.Key.{keysOf, keyOrder}
 use Rattle.action.specs.declared.Reading.{Reading as ActionsReading}
 use Rattle.action.specs.Actions.{actionsOf}
@@ -21,7 +21,7 @@ use Rattle.entry.specs.Entry.{Entry, entryKey}
 use Rattle.flowspec.specs.declared.Change.{Change}
 use Rattle.flowspec.specs.declared.Request.{Request}
 use Rattle.flowspec.specs.declared.Request.the-variants.{Announce, Refused as NotAsked}
-use Rattle.flowspec.specs.Announce.{valueOf, asked}
+use Rattle.flowspec.specs.Announce.{announcedEntry, asked}
 use Rattle.flowspec.specs.Told.{changeTold}
 use Rattle.flowspec.specs.Promise.{Announces, Withdraws}
 
@@ -39,7 +39,7 @@ pub data Call : Type 0 where
 abbrev pub asksToAnnounce : List ℕ → ℕ → Request → Op (List (List ℕ)) Entry
 asksToAnnounce rule originator (NotAsked number place) = refuse number
 asksToAnnounce rule originator (Announce start size actions feasible) =
-    announce (record { originator = originator; actions = actions; value = plain (valueOf rule start size) }) feasible
+    announce (announcedEntry rule originator start size actions) feasible
 
 -- What a withdrawal asks of a table once its rule is read: nothing, where that is refused; else to withdraw the rule.
 abbrev pub asksToWithdraw : List ℕ → Reading → Op (List (List ℕ)) Entry
