@@ -12,35 +12,30 @@ use prog.Routine.{Routine}
 use prog.Wp.{Heap, Calls, Loops, WpFn}
 use ghost.Atoms.{Atoms}
 use contract.Monad.{Fun, factI}
-use contract.Running.{givenOf, tables, tablesOf}
-use types.Kit.{Given, ‵, raw, _⊛_, mean, _$_, _∵_, !, qed, move, suffices, use1, use2, split, join, learn, pick, fjoin, await, frame, done}
-use types.Run.{look, init, forget, stop, from, load, and-then, no-more, land, returns, enter, alloc1, alloc0, params1, pass1, pass0, free1, free0}
-use sound.WpLaws.{FmC, fmOf}
+use contract.Running.{givenOf}
+use types.Kit.{Given, ‵, raw, _⊛_, mean, _$_, _∵_, !, qed, move, split, join, fjoin, frame, done}
+use types.Run.{init, stop, from, and-then, no-more, land, enter, alloc1, alloc0, params1, pass1, pass0}
+use sound.WpLaws.{FmC}
 use denote.RattleType.{flat}
-use denote.Laws.{Is, shows}
 use denote.Ref.{NamedLft}
-use denote.Steps.{peeks, nothing}
+use denote.Steps.{nothing}
 use denote.Enum.Laws as EL
 use denote.Struct.Laws as LL
-use denote.Triple.Call.{calls-at}
 use denote.Triple.Entry.{alive, onEntry}
 use denote.Triple.Statement.{Triple}
-use denote.Triple.Table.{entered, cited}
-use denote.Triple.Walked.{says}
+use denote.Triple.Table.{cited}
 use Rattle.rule.specs.Reader.{nextOf}
 use Rattle.rule.specs.declared.Reader.{Reader}
-use Rattle.rule.proofs.ReaderLaws.{meets, calls, leaves, passes-on, held, parameters, spelled, tells, Typed, fields, machine, typed}
+use Rattle.rule.proofs.ReaderLaws.{walked, local, calls, leaves, passes-on, held, parameters, spelled, tells, Typed, fields, machine, typed}
 use Rattle.rule.proofs.ReaderLaws.{readerOf, New, Next, Component, apart, together}
 use Rattle.rule.proofs.Next as N
 use Rattle.rule.proofs.Next.Laws as N′
 use Rattle.rule.proofs.Reader as T
 use Rattle.rule.proofs.Reader.Laws as T′
 use Rattle.rule.proofs.Reader.new as new
-use Rattle.rule.proofs.Reader.new.Symbol as new-def
 use Rattle.rule.proofs.Reader.new.Symbol.{name as #rule·new}
 use Rattle.rule.proofs.Reader.new.Met as new-thm
 use Rattle.rule.proofs.Reader.next as next
-use Rattle.rule.proofs.Reader.next.Symbol as next-def
 use Rattle.rule.proofs.Reader.next.Symbol.{name as #rule·next}
 use Rattle.rule.proofs.Reader.next.Met as next-thm
 use Rattle.rule.proofs.next_component as component
@@ -73,24 +68,20 @@ module _ {M : Type 1} (𝓤 : URA M) (H : Heap 𝓤) (A : Atoms 𝓤) (mem : Mem
       pass1 ! (init ! 4 refl (tt, wt .1 .1 .1 .0)) $ pass1 ! (init ! 2 refl (tt, wt .1 .1 .1 .1 .0)) $ pass0 ! $
       move ! (12 ∷ []) $
       calls 𝓤 H A new.ended (new.clauses 𝓤 H A mem run) ! fm knows-new (apart 𝓤 H A mem run κ q r) asks-new (λ d. d ≡ r) (λ d ws. id⊢ 𝓤 _)
-      (and-then ! (load ! (from ! (stop !)) (look ! 9 refl)) (and-then ! (load ! (from ! (stop !)) (look ! 7 refl)) (and-then ! (load ! (from ! (stop !)) (look ! 5 refl)) (and-then ! (load ! (from ! (stop !)) (look ! 3 refl)) (no-more !))))) (λ u d made is.
+      (and-then ! (local ! 9 refl) (and-then ! (local ! 7 refl) (and-then ! (local ! 5 refl) (and-then ! (local ! 3 refl) (no-more !))))) (λ u d made is.
       -- [the reader and the token; room for _5; …; _4; …; room for _0; …]
       land ! (from ! (stop !)) (init ! 1 refl (LL.lawful (T.the-type inLocal) (T′.the-laws inLocal) 𝓤 H A W .typed d _ is .0)) $
       calls 𝓤 H A next.ended (next.clauses 𝓤 H A mem run) ! fm knows-next (together 𝓤 H A mem run κ q d u) (asks-next d u) (λ t. t ≡ nextOf d) (λ t ws. id⊢ 𝓤 _)
-      (and-then ! (load ! (from ! (stop !)) (look ! 1 refl)) (no-more !)) (λ w t read is-next.
+      (and-then ! (local ! 1 refl) (no-more !)) (λ w t read is-next.
       -- [the answer and the token; _5; …; _1; …; room for _0; …]
       passes-on ! ((_, l₁, _) ∷ (_, l₂, _) ∷ (_, l₃, _) ∷ (_, l₄, _) ∷ (_, l₅, _) ∷ []) (EL.lawful N.the-type N′.the-laws 𝓤 H A W tt .typed t _ is-next .0)
       (leaves 𝓤 H A component.ended (component.clauses 𝓤 H A mem run) (apart 𝓤 H A mem run κ q r) W w 4 (tt, (tt, (tt, (tt, tt)))) refl t (factI 𝓤 _ (emp 𝓤) (read ∙ ap nextOf made)))))))))))
 
 pub next-component-spec : {M : Type 1} → stated.statement M
-unfolding code.routine tablesOf
+unfolding code.routine
 next-component-spec 𝓤 H 𝓜 𝓖 𝓡 =
-    let C : Calls 𝓤 H = tables 𝓤 H 𝓜 𝓡 code.env .C in
-    let Λ : Loops 𝓤 H = tables 𝓤 H 𝓜 𝓡 code.env .Λ in
-    let W : Given 𝓤 H (𝓖 .A) = givenOf 𝓤 H 𝓜 𝓖 in
-    entered 𝓤 H (Component 𝓤 H (𝓖 .A) (𝓜 .mem) (𝓡 .run)) C Λ #rule·next-component code.function (code.unfolded 𝓤 H 𝓜 𝓡)
-    (meets 𝓤 H (𝓖 .A) component.ended (component.clauses 𝓤 H (𝓖 .A) (𝓜 .mem) (𝓡 .run)) spelled (WpFn 𝓤 H C Λ code.function) tells
-    (λ κs qs bounds a g are. walk 𝓤 H (𝓖 .A) (𝓜 .mem) (𝓡 .run) W (κs .0) (qs .0) (readerOf κs a) C Λ (fmOf 𝓤 H (W .laws) (tablesOf 𝓤 H 𝓜 (tables 𝓤 H 𝓜 𝓡 code.env)))
-    (cited 𝓤 H (New 𝓤 H (𝓖 .A) (𝓜 .mem) (𝓡 .run)) 𝓜 𝓡 code.env #rule·new new-def.routine code.calls-rule·Reader·new (new-thm.met 𝓤 H 𝓜 𝓖 𝓡))
-    (cited 𝓤 H (Next 𝓤 H (𝓖 .A) (𝓜 .mem) (𝓡 .run)) 𝓜 𝓡 code.env #rule·next next-def.routine code.calls-rule·Reader·next (next-thm.met 𝓤 H 𝓜 𝓖 𝓡))
-    (typed (κs .0) (readerOf κs a) 𝓤 H (𝓖 .A) W are)))
+    walked 𝓤 H 𝓜 𝓖 𝓡 code.env #rule·next-component code.function (code.unfolded 𝓤 H 𝓜 𝓡) component.ended (component.clauses 𝓤 H (𝓖 .A) (𝓜 .mem) (𝓡 .run)) spelled tells
+    (λ fm κs qs bounds a g are. walk 𝓤 H (𝓖 .A) (𝓜 .mem) (𝓡 .run) (givenOf 𝓤 H 𝓜 𝓖) (κs .0) (qs .0) (readerOf κs a) _ _ fm
+    (cited 𝓤 H (New 𝓤 H (𝓖 .A) (𝓜 .mem) (𝓡 .run)) 𝓜 𝓡 code.env #rule·new _ code.calls-rule·Reader·new (new-thm.met 𝓤 H 𝓜 𝓖 𝓡))
+    (cited 𝓤 H (Next 𝓤 H (𝓖 .A) (𝓜 .mem) (𝓡 .run)) 𝓜 𝓡 code.env #rule·next _ code.calls-rule·Reader·next (next-thm.met 𝓤 H 𝓜 𝓖 𝓡))
+    (typed (κs .0) (readerOf κs a) 𝓤 H (𝓖 .A) (givenOf 𝓤 H 𝓜 𝓖) are))

@@ -10,32 +10,26 @@ use prog.Routine.{Routine}
 use prog.Wp.{Heap, Calls, Loops, WpFn}
 use ghost.Atoms.{Atoms}
 use contract.Monad.{Fun, factI}
-use contract.Running.{givenOf, tables, tablesOf}
-use types.Kit.{Given, ‵, raw, _⊛_, _$_, _∵_, !, qed, move, suffices, use1, split, join, learn, pick, fsplit, await, frame, done}
+use contract.Running.{givenOf}
+use types.Kit.{Given, ‵, raw, _⊛_, _$_, _∵_, !, qed, move, use1, join, fsplit, frame, done}
 use types.Part.{whole, sub, look-in}
-use types.Run.{look, init, forget, stop, fld, from, load, of-opd, and-then, no-more, assigns, land, returns, enter, alloc1, alloc0, params1, pass1, pass0, free1, free0}
-use sound.WpLaws.{FmC, fmOf}
+use types.Run.{init, stop, fld, from, load, of-opd, and-then, no-more, assigns, enter, alloc1, alloc0, params1, pass1, pass0}
+use sound.WpLaws.{FmC}
 use denote.RattleType.{owns}
-use denote.Laws.{Is, shows}
-use denote.Signature.{namedLft}
-use denote.Steps.{peeks}
 use denote.Enum.Laws as EL
 use denote.Struct.Laws as LL
-use denote.Triple.Call.{calls-at}
 use denote.Triple.Entry.{onEntry}
 use denote.Triple.Statement.{Triple}
-use denote.Triple.Table.{entered, cited}
-use denote.Triple.Walked.{says}
+use denote.Triple.Table.{cited}
 use Rattle.rule.specs.Reader.{nextOf}
 use Rattle.rule.specs.declared.Reader.{Reader}
-use Rattle.rule.proofs.ReaderLaws.{meets, calls, leaves, passes-on, held, parameters, Typed, fields, machine, opened}
+use Rattle.rule.proofs.ReaderLaws.{walked, local, calls, leaves, passes-on, declared, laws, held, parameters, Typed, fields, machine, opened}
 use Rattle.rule.proofs.ReaderLaws.{Next, Cursor, apart, together}
 use Rattle.rule.proofs.Next as N
 use Rattle.rule.proofs.Next.Laws as N′
 use Rattle.rule.proofs.Reader as T
 use Rattle.rule.proofs.Reader.Laws as T′
 use Rattle.rule.proofs.component_at as cursor
-use Rattle.rule.proofs.component_at.Symbol as cursor-def
 use Rattle.rule.proofs.component_at.Symbol.{name as #rule·component-at}
 use Rattle.rule.proofs.component_at.Met as cursor-thm
 use Rattle.rule.proofs.Reader.next as next
@@ -65,20 +59,16 @@ module _ {M : Type 1} (𝓤 : URA M) (H : Heap 𝓤) (A : Atoms 𝓤) (mem : Mem
       assigns ! (of-opd ! (load ! (from ! (fld ! refl (stop !))) (look-in ! 8 (sub ! 3 refl (whole !))))) (from ! (stop !)) (init ! 0 refl (tt, wt .1 .1 .1 .1 .0)) $
       move ! (12 ∷ []) $
       calls 𝓤 H A cursor.ended (cursor.clauses 𝓤 H A mem run) ! fm known (apart 𝓤 H A mem run κ q r) asks (λ t. t ≡ nextOf r) (λ t ws. id⊢ 𝓤 _)
-      (and-then ! (load ! (from ! (stop !)) (look ! 7 refl)) (and-then ! (load ! (from ! (stop !)) (look ! 5 refl)) (and-then ! (load ! (from ! (stop !)) (look ! 3 refl)) (and-then ! (load ! (from ! (stop !)) (look ! 1 refl)) (no-more !))))) (λ u t e is.
+      (and-then ! (local ! 7 refl) (and-then ! (local ! 5 refl) (and-then ! (local ! 3 refl) (and-then ! (local ! 1 refl) (no-more !))))) (λ u t e is.
       -- [the answer and the token; _5; …; _1; …; room for _0; …]
       passes-on ! ((_, l₁, _) ∷ (_, l₂, _) ∷ (_, l₃, _) ∷ (_, l₄, _) ∷ (_, l₅, _) ∷ []) (EL.lawful N.the-type N′.the-laws 𝓤 H A W tt .typed t _ is .0)
       (leaves 𝓤 H A next.ended (next.clauses 𝓤 H A mem run) (together 𝓤 H A mem run κ q r (T′.lowered r)) W u 1 (tt, tt) refl t (factI 𝓤 _ (emp 𝓤) e)))))))))
 
 pub next-spec : {M : Type 1} → stated.statement M
-unfolding code.routine tablesOf
+unfolding code.routine
 next-spec 𝓤 H 𝓜 𝓖 𝓡 =
-    let C : Calls 𝓤 H = tables 𝓤 H 𝓜 𝓡 code.env .C in
-    let Λ : Loops 𝓤 H = tables 𝓤 H 𝓜 𝓡 code.env .Λ in
-    let W : Given 𝓤 H (𝓖 .A) = givenOf 𝓤 H 𝓜 𝓖 in
-    entered 𝓤 H (Next 𝓤 H (𝓖 .A) (𝓜 .mem) (𝓡 .run)) C Λ #rule·next code.function (code.unfolded 𝓤 H 𝓜 𝓡)
-    (meets 𝓤 H (𝓖 .A) next.ended (next.clauses 𝓤 H (𝓖 .A) (𝓜 .mem) (𝓡 .run)) (λ κs. (LL.vals (T.the-type (namedLft 1 0 tt κs)) (T′.the-laws (namedLft 1 0 tt κs)), tt)) (WpFn 𝓤 H C Λ code.function)
-    (λ κs. (LL.tells (T.the-type (namedLft 1 0 tt κs)) (T′.the-laws (namedLft 1 0 tt κs)), tt))
-    (λ κs qs bounds a g are. walk 𝓤 H (𝓖 .A) (𝓜 .mem) (𝓡 .run) W (κs .0) (qs .0) (a .0) C Λ (fmOf 𝓤 H (W .laws) (tablesOf 𝓤 H 𝓜 (tables 𝓤 H 𝓜 𝓡 code.env)))
-    (cited 𝓤 H (Cursor 𝓤 H (𝓖 .A) (𝓜 .mem) (𝓡 .run)) 𝓜 𝓡 code.env #rule·component-at cursor-def.routine code.calls-rule·component-at (cursor-thm.met 𝓤 H 𝓜 𝓖 𝓡))
-    (LL.lawful (T.the-type (namedLft 1 0 tt κs)) (T′.the-laws (namedLft 1 0 tt κs)) 𝓤 H (𝓖 .A) W .typed (a .0) _ (are .0) .0)))
+    walked 𝓤 H 𝓜 𝓖 𝓡 code.env #rule·next code.function (code.unfolded 𝓤 H 𝓜 𝓡) next.ended (next.clauses 𝓤 H (𝓖 .A) (𝓜 .mem) (𝓡 .run))
+    (λ κs. (LL.vals (declared (κs .0)) (laws (κs .0)), tt)) (λ κs. (LL.tells (declared (κs .0)) (laws (κs .0)), tt))
+    (λ fm κs qs bounds a g are. walk 𝓤 H (𝓖 .A) (𝓜 .mem) (𝓡 .run) (givenOf 𝓤 H 𝓜 𝓖) (κs .0) (qs .0) (a .0) _ _ fm
+    (cited 𝓤 H (Cursor 𝓤 H (𝓖 .A) (𝓜 .mem) (𝓡 .run)) 𝓜 𝓡 code.env #rule·component-at _ code.calls-rule·component-at (cursor-thm.met 𝓤 H 𝓜 𝓖 𝓡))
+    (LL.lawful (declared (κs .0)) (laws (κs .0)) 𝓤 H (𝓖 .A) (givenOf 𝓤 H 𝓜 𝓖) .typed (a .0) _ (are .0) .0))
