@@ -23,7 +23,7 @@ use Rattle.rule.specs.declared.Expected.the-variants.{Kind, Length, Address}
 use Rattle.rule.specs.Operator.{isPrefix}
 use Rattle.rule.specs.Value.{Part, components}
 use Rattle.rule.specs.Plain.{bodyOf, after, cleared, plainAddress, plainFrom, plain}
-use Rattle.rule.proofs.PlainLaws.{length-plain-from, length-kept}
+use Rattle.rule.proofs.PlainLaws.{above, length-plain-from, length-kept}
 use Rattle.rule.proofs.ClearedLaws.{octets-plain-from}
 use Rattle.rule.proofs.SpellingLaws.{plainPart, components-plain}
 use Rattle.rule.proofs.PartLaws.{Each, PrefixBody, SoundPart, each-sound, each-octets}
@@ -47,10 +47,7 @@ earlier-clear : (n left x rest : ℕ) → 8 < left → left ≤ 8 * suc n → re
     → (x * 2 ^ (8 * n) + rest) % 2 ^ (8 * suc n - left) ≡ 0
 earlier-clear n left x rest h l c =
     let k : 8 * suc n - left ≡ 8 * n - (left - 8) = omega arith in
-    let e : 8 * n ≡ left - 8 + (8 * n - (left - 8)) = omega arith in
-    let p : x * 2 ^ (8 * n) ≡ x * 2 ^ (left - 8) * 2 ^ (8 * n - (left - 8))
-    = ap (λ m. x * 2 ^ m) e ∙ rw (pow-add 2 (left - 8) (8 * n - (left - 8))) (sym (mul-assoc x (2 ^ (left - 8)) (2 ^ (8 * n - (left - 8))))) in
-    rw (k, p, mul-add-mod-self-right (x * 2 ^ (left - 8)) (2 ^ (8 * n - (left - 8))) rest) c
+    rw (k, above n left x h l, mul-add-mod-self-right (x * 2 ^ (left - 8)) (2 ^ (8 * n - (left - 8))) rest) c
 
 -- an address in the plain spelling has no bit past the length
 address-clear : (n left : ℕ) (r : List ℕ) → 1 ≤ left → left ≤ 8 * n → length r ≡ (left + 7) / 8

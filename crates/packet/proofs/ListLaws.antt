@@ -17,7 +17,7 @@ use Rattle.rule.specs.declared.BodyEnd.{BodyEnd}
 use Rattle.rule.specs.Operator.{endsList, sizeOf, isBitmask, sizeAllowed}
 use Rattle.rule.specs.Component.{pairAt, Pair, pairOf, pairsFrom}
 use Rattle.rule.specs.Plain.{plainOperand}
-use Rattle.rule.proofs.ComponentLaws.{more-within, last-within, pairs-more, pairs-last, pairs-refused}
+use Rattle.rule.proofs.ComponentLaws.{pair-cases, more-within, last-within, pairs-more, pairs-last, pairs-refused}
 use Rattle.packet.specs.declared.Judged.{Judged}
 use Rattle.packet.specs.Bit.{has}
 use Rattle.packet.specs.Operator.{numericHolds, bitmaskHolds}
@@ -65,14 +65,7 @@ Reaches v at (RefusedPair number place) = Unit {0}
 
 module _ (kind : ℕ) (v : List ℕ) (at : ℕ) where
   reaches : Reaches v at (pairAt kind v at)
-  unfolding pairAt
-  reaches =
-      let operator = getD v at 0 in
-      by-test (leb (length v) at) (λ t. rw t tt)
-      (λ t. by-test (sizeAllowed kind (sizeOf operator))
-      (λ u. by-test (ltb (length v - (at + 1)) (sizeOf operator)) (λ w. rw (t, u, w) tt)
-      (λ w. by-test (endsList operator) (λ x. rw (t, u, w, x) refl) (λ x. rw (t, u, w, x) refl)))
-      (λ u. rw (t, u) tt))
+  reaches = pair-cases kind v at (Reaches v at) tt (λ h. tt) (λ h u e. refl) (λ h u e. refl)
 
   module _ («data» : ℕ) (judged : Judged) where
     -- the pair that ends at the place behind its value is the one that is judged

@@ -5,34 +5,51 @@ use mathlib.Core.List.{List}
 use Prim.Native.Nat.{ℕ, _+_, _<_, _≤_}
 use native.Mathlib.Omega.{arith}
 use lib.Bits.{bitAnd, and-le-r}
+use lib.Dec.{eqb}
 use lib.ListN.{getD}
-use Rattle.octets.proofs.Facts.{octet}
+use Rattle.octets.proofs.Facts.{allBelow, octet}
 use Rattle.packet.specs.Operator.{numericHolds, bitmaskHolds}
 use Rattle.packet.proofs.OperatorTable.{comparisonTests, numericRows, comparisons, maskTests, maskRows, masks}
 
--- equal lists have equal rows
-row : (k : ℕ) (l m : List Bool) → l ≡ m → getD m k true ≡ getD l k true
-row k l m e = ap (λ (x : List Bool). getD x k true) (sym e)
+-- a test of an octet that hangs on the bits of a mask alone
+module _ (mask : ℕ) (holds : ℕ → Bool) (low : (x : ℕ) → x < 256 → holds (bitAnd x mask) ≡ holds x) where
+  -- it holds alike of octets that have these bits in common
+  alike : (x y : ℕ) → x < 256 → y < 256 → bitAnd x mask ≡ bitAnd y mask → holds x ≡ holds y
+  alike x y small fits e = sym (low x small) ∙ ap holds e ∙ low y fits
+
+  -- and is the row of a table, at a k for which the row computes
+  row : (rows tests : List Bool) → rows ≡ tests → (x : ℕ) → x < 256 → (k : ℕ) → getD rows k true ≡ holds k → bitAnd x mask ≡ k → getD tests k true ≡ holds x
+  row rows tests table x small k is e = ap (λ (l : List Bool). getD l k true) (sym table) ∙ is ∙ ap holds (sym e) ∙ low x small
+
+-- a bit of the mask is kept
+kept : (mask bit : ℕ) → allBelow 256 (λ y. eqb (bitAnd (bitAnd y mask) bit) (bitAnd y bit)) ≡ true → (x : ℕ) → x < 256
+    → bitAnd (bitAnd x mask) bit ≡ bitAnd x bit
+kept mask bit = octet (λ y. bitAnd (bitAnd y mask) bit) (λ y. bitAnd y bit)
+
+module _ («data» value : ℕ) where
+  -- a numeric operator is its low three bits
+  numeric-low : (x : ℕ) → x < 256 → numericHolds (bitAnd x 7) «data» value ≡ numericHolds x «data» value
+  unfolding numericHolds
+  numeric-low x small = rw (kept 7 4 refl x small, kept 7 2 refl x small, kept 7 1 refl x small)
+
+  pub numeric-alike : (x y : ℕ) → x < 256 → y < 256 → bitAnd x 7 ≡ bitAnd y 7 → numericHolds x «data» value ≡ numericHolds y «data» value
+  numeric-alike = alike 7 (λ x. numericHolds x «data» value) numeric-low
+
+  -- a bitmask operator is its low two bits
+  mask-low : (x : ℕ) → x < 256 → bitmaskHolds (bitAnd x 3) «data» value ≡ bitmaskHolds x «data» value
+  unfolding bitmaskHolds
+  mask-low x small = rw (kept 3 2 refl x small, kept 3 1 refl x small)
+
+  pub mask-alike : (x y : ℕ) → x < 256 → y < 256 → bitAnd x 3 ≡ bitAnd y 3 → bitmaskHolds x «data» value ≡ bitmaskHolds y «data» value
+  mask-alike = alike 3 (λ x. bitmaskHolds x «data» value) mask-low
 
 past : (k n : ℕ) → n ≤ k → (k ≡ n → ⊥) → n + 1 ≤ k
 past k n h e = omega arith
 
--- a numeric operator is the row of its low three bits
 module _ (operator «data» value : ℕ) (small : operator < 256) where
-  pub says : (k : ℕ) → bitAnd operator 7 ≡ k → numericHolds k «data» value ≡ numericHolds operator «data» value
-  unfolding numericHolds
-  says k e =
-      rw (
-        octet (λ x. bitAnd x 4) (λ x. bitAnd (bitAnd x 7) 4) refl operator small,
-        octet (λ x. bitAnd x 2) (λ x. bitAnd (bitAnd x 7) 2) refl operator small,
-        octet (λ x. bitAnd x 1) (λ x. bitAnd (bitAnd x 7) 1) refl operator small,
-        e,
-      )
-
-  -- row k of the table, at a k for which it computes
   pub numeric-row : (k : ℕ) → getD (numericRows «data» value) k true ≡ numericHolds k «data» value → bitAnd operator 7 ≡ k
       → getD (comparisonTests «data» value) k true ≡ numericHolds operator «data» value
-  numeric-row k is e = row k (numericRows «data» value) (comparisonTests «data» value) (comparisons «data» value) ∙ is ∙ says k e
+  numeric-row = row 7 (λ x. numericHolds x «data» value) (numeric-low «data» value) (numericRows «data» value) (comparisonTests «data» value) (comparisons «data» value) operator small
 
   -- none of the rows before the last
   pub numeric-last : (bitAnd operator 7 ≡ 0 → ⊥) → (bitAnd operator 7 ≡ 1 → ⊥) → (bitAnd operator 7 ≡ 2 → ⊥) → (bitAnd operator 7 ≡ 3 → ⊥)
@@ -42,17 +59,6 @@ module _ (operator «data» value : ℕ) (small : operator < 256) where
       let seven = past k 6 (past k 5 (past k 4 (past k 3 (past k 2 (past k 1 (past k 0 (omega arith) n0) n1) n2) n3) n4) n5) n6 in
       numeric-row 7 refl (omega (arith, and-le-r operator 7, seven))
 
--- a bitmask operator is the row of its low two bits
-module _ (operator «data» value : ℕ) (small : operator < 256) where
-  pub tells : (k : ℕ) → bitAnd operator 3 ≡ k → bitmaskHolds k «data» value ≡ bitmaskHolds operator «data» value
-  unfolding bitmaskHolds
-  tells k e =
-      rw (
-        octet (λ x. bitAnd x 2) (λ x. bitAnd (bitAnd x 3) 2) refl operator small,
-        octet (λ x. bitAnd x 1) (λ x. bitAnd (bitAnd x 3) 1) refl operator small,
-        e,
-      )
-
   pub mask-row : (k : ℕ) → getD (maskRows «data» value) k true ≡ bitmaskHolds k «data» value → bitAnd operator 3 ≡ k
       → getD (maskTests «data» value) k true ≡ bitmaskHolds operator «data» value
-  mask-row k is e = row k (maskRows «data» value) (maskTests «data» value) (masks «data» value) ∙ is ∙ tells k e
+  mask-row = row 3 (λ x. bitmaskHolds x «data» value) (mask-low «data» value) (maskRows «data» value) (maskTests «data» value) (masks «data» value) operator small

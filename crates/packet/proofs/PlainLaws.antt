@@ -25,7 +25,7 @@ use Rattle.rule.specs.Component.{Pair, pairsFrom}
 use Rattle.rule.specs.Value.{Part, components}
 use Rattle.rule.specs.Plain.{bodyOf, after, plainOperator, plainOperand, plainAddress, cleared, plainFrom, plain}
 use Rattle.rule.proofs.ComponentLaws.{pairs-ind}
-use Rattle.rule.proofs.PlainLaws.{whole-octet, length-kept}
+use Rattle.rule.proofs.PlainLaws.{whole-octet, above, length-kept}
 use Rattle.rule.proofs.ClearedLaws.{size-kept, operand-again, cleared-small, octets-plain-from}
 use Rattle.rule.proofs.SpellingLaws.{plainPair, plainPairs, pairs-plain, plainPart, components-plain}
 use Rattle.rule.proofs.PartLaws.{Each, each-octets}
@@ -35,7 +35,7 @@ use Rattle.packet.specs.declared.Packet.{Packet}
 use Rattle.packet.specs.Operator.{numericHolds, bitmaskHolds}
 use Rattle.packet.specs.PairList.{listHolds}
 use Rattle.packet.specs.Match.{dataFor, holdsFor, pairHolds, bodyHolds, fieldMatches, fieldFor, covers, eitherPort, componentMatches, matches}
-use Rattle.packet.proofs.OperatorLaws.{says, tells}
+use Rattle.packet.proofs.OperatorLaws.{numeric-alike, mask-alike}
 use Rattle.packet.proofs.PairListLaws.{goesOn, from-first}
 
 -- what clearing keeps of an operator: the bits that choose the test, and the AND of one that is not the first
@@ -66,15 +66,9 @@ module _ (kind «data» : ℕ) where
       let judged = dataFor kind operator «data» in
       let wanted = plainOperand kind (p .value) in
       let fits = cleared-small (Operator kind first) operator small in
-      by-test (isBitmask kind)
-      (λ t.
-      let same : bitmaskHolds spelled judged wanted ≡ bitmaskHolds operator judged wanted
-      = sym (tells spelled judged wanted fits (bitAnd operator 3) (mask-kept kind operator small first t)) ∙ tells operator judged wanted small (bitAnd operator 3) refl in
-      rw (size-kept kind first operator small, operand-again kind (p .value), t) same)
-      (λ t.
-      let same : numericHolds spelled judged wanted ≡ numericHolds operator judged wanted
-      = sym (says spelled judged wanted fits (bitAnd operator 7) (numeric-kept kind operator small first t)) ∙ says operator judged wanted small (bitAnd operator 7) refl in
-      rw (size-kept kind first operator small, operand-again kind (p .value), t) same)
+      rw (size-kept kind first operator small, operand-again kind (p .value))
+      (by-test (isBitmask kind) (λ t. rw t (mask-alike judged wanted spelled operator fits small (mask-kept kind operator small first t)))
+      (λ t. rw t (numeric-alike judged wanted spelled operator fits small (numeric-kept kind operator small first t))))
 
   -- each operator is an octet
   abbrev Small : List Pair → Type 0
@@ -129,10 +123,7 @@ earlier : (n left x rest : ℕ) → 8 < left → left ≤ 8 * suc n
     → (x * 2 ^ (8 * n) + rest) / 2 ^ (8 * suc n - left) ≡ x * 2 ^ (left - 8) + rest / 2 ^ (8 * n - (left - 8))
 earlier n left x rest h l =
     let k : 8 * suc n - left ≡ 8 * n - (left - 8) = omega arith in
-    let e : 8 * n ≡ left - 8 + (8 * n - (left - 8)) = omega arith in
-    let p : x * 2 ^ (8 * n) ≡ x * 2 ^ (left - 8) * 2 ^ (8 * n - (left - 8))
-    = ap (λ m. x * 2 ^ m) e ∙ rw (pow-add 2 (left - 8) (8 * n - (left - 8))) (sym (mul-assoc x (2 ^ (left - 8)) (2 ^ (8 * n - (left - 8))))) in
-    rw (k, p) (mul-add-div-right (pow-pos (8 * n - (left - 8))) (x * 2 ^ (left - 8)) rest)
+    rw (k, above n left x h l) (mul-add-div-right (pow-pos (8 * n - (left - 8))) (x * 2 ^ (left - 8)) rest)
 
 -- an address shifted until only the bits of the length are left is the same in the plain spelling
 address-same : (n left : ℕ) (r : List ℕ) → Octets r → 1 ≤ left → left ≤ 8 * n

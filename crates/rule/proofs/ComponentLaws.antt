@@ -4,9 +4,9 @@ use mathlib.Core.Bool.{Bool, true, false, not}
 use mathlib.Core.List.{List, [], _∷_}
 use Prim.Native.Nat.{ℕ, _+_, _-_, _/_, _<_, _≤_}
 use native.Mathlib.Omega.{arith}
-use lib.Dec.{leb, ltb}
+use lib.Dec.{leb, ltb, eqb}
 use lib.ListN.{length, getD}
-use borrow.Author.Tests.{le-leb, lt-leb, lt-ltb, le-ltb, leb-false, ltb-false, not-true, not-false, eq-eqb, ne-eqb}
+use borrow.Author.Tests.{le-leb, lt-leb, lt-ltb, le-ltb, leb-true, leb-false, ltb-false, eqb-false, not-true, not-false, eq-eqb, ne-eqb}
 use Rattle.octets.specs.Walk.{more, last, stop, Walk, before}
 use Rattle.octets.proofs.Cases.{by-test, apart}
 use Rattle.octets.proofs.WalkLaws.{walk-stop, walk-last, walk-more, walk-ind}
@@ -15,9 +15,10 @@ use Rattle.rule.specs.declared.NextPair.{NextPair}
 use Rattle.rule.specs.declared.NextPair.the-variants.{More, Last, Refused as RefusedPair}
 use Rattle.rule.specs.declared.BodyEnd.{BodyEnd}
 use Rattle.rule.specs.declared.BodyEnd.the-variants.{At, Refused as RefusedBody}
+use Rattle.rule.specs.declared.Next.{Next}
 use Rattle.rule.specs.declared.Next.the-variants.{Nothing, Component, Refused}
 use Rattle.rule.specs.Operator.{endsList, sizeOf, isPrefix, sizeAllowed}
-use Rattle.rule.specs.Component.{pairAt, Pair, pairOf, pairStep, pairsFrom, prefixEnd, bodyEnd, componentAt}
+use Rattle.rule.specs.Component.{pairAt, Pair, pairOf, pairStep, pairsFrom, prefixEnd, bodyEnd, found, componentAt}
 
 -- how `pair_at` comes to each of its answers
 module _ (kind : ℕ) (v : List ℕ) (at : ℕ) where
@@ -43,6 +44,55 @@ module _ (kind : ℕ) (v : List ℕ) (at : ℕ) where
       unfolding pairAt
       pair-more h k = rw (lt-leb _ _ within, ← is, ← says, not-false allowed h, le-ltb _ _ fits, ← tells, k)
 
+-- what holds of each answer that a list's cursor can give holds of the one that it gives
+pub pair-cases : (kind : ℕ) (v : List ℕ) (at : ℕ) (P : NextPair → Type 0) → let operator = getD v at 0 in let size = sizeOf operator in
+    P (RefusedPair 6 (length v)) → (at < length v → P (RefusedPair 7 at))
+    → (at + 1 + size ≤ length v → sizeAllowed kind size ≡ true → endsList operator ≡ true → P (Last (at + 1 + size)))
+    → (at + 1 + size ≤ length v → sizeAllowed kind size ≡ true → endsList operator ≡ false → P (More (at + 1 + size)))
+    → P (pairAt kind v at)
+unfolding pairAt
+pair-cases kind v at P cut sized ends goes =
+    let operator = getD v at 0 in
+    by-test (leb (length v) at) (λ t. rw t cut)
+    (λ t.
+    let inside = leb-false (length v) at t in
+    by-test (sizeAllowed kind (sizeOf operator))
+    (λ u. by-test (ltb (length v - (at + 1)) (sizeOf operator)) (λ w. rw (t, u, w) cut)
+    (λ w.
+    let fits = ltb-false (length v - (at + 1)) (sizeOf operator) w in
+    by-test (endsList operator) (λ x. rw (t, u, w, x) (ends (omega arith) u x)) (λ x. rw (t, u, w, x) (goes (omega arith) u x))))
+    (λ u. rw (t, u) (sized inside)))
+
+-- and likewise of where a prefix ends
+pub prefix-cases : (family : Family) (v : List ℕ) (at : ℕ) (P : BodyEnd → Type 0) → let octets = (getD v at 0 + 7) / 8 in
+    P (RefusedBody 6 (length v)) → (at < length v → P (RefusedBody 5 at))
+    → (at + 1 + octets ≤ length v → getD v at 0 ≤ family .width → P (At (at + 1 + octets))) → P (prefixEnd family v at)
+unfolding prefixEnd
+prefix-cases family v at P cut long ends =
+    by-test (leb (length v) at) (λ t. rw t cut)
+    (λ t.
+    let inside = leb-false (length v) at t in
+    by-test (ltb (family .width) (getD v at 0)) (λ u. rw (t, u) (long inside))
+    (λ u. by-test (ltb (length v - (at + 1)) ((getD v at 0 + 7) / 8)) (λ w. rw (t, u, w) cut)
+    (λ w.
+    let fits = ltb-false (length v - (at + 1)) ((getD v at 0 + 7) / 8) w in
+    rw (t, u, w) (ends (omega arith) (ltb-false (family .width) (getD v at 0) u)))))
+
+-- and of the cursor
+pub component-cases : (family : Family) (v : List ℕ) (at previous : ℕ) (P : Next → Type 0) → let kind = getD v at 0 in
+    (length v ≤ at → P Nothing) → (at < length v → P (Refused 3 at)) → (at < length v → P (Refused 4 at))
+    → (at < length v → (kind ≡ 0 → ⊥) → kind ≤ family .highest → previous < kind → P (found kind (bodyEnd family kind v (at + 1)))) → P (componentAt family v at previous)
+unfolding componentAt
+component-cases family v at previous P none unknown unordered body =
+    let kind = getD v at 0 in
+    by-test (leb (length v) at) (λ t. rw t (none (leb-true (length v) at t)))
+    (λ t.
+    let inside = leb-false (length v) at t in
+    by-test (eqb kind 0) (λ u. rw (t, u) (unknown inside))
+    (λ u. by-test (ltb (family .highest) kind) (λ w. rw (t, u, w) (unknown inside))
+    (λ w. by-test (leb kind previous) (λ x. rw (t, u, w, x) (unordered inside))
+    (λ x. rw (t, u, w, x) (body inside (eqb-false kind 0 u) (ltb-false (family .highest) kind w) (leb-false kind previous x))))))
+
 -- a place behind another and still in the value
 abbrev pub Within : List ℕ → ℕ → ℕ → Type 0
 Within v at next = (at < next) × (next ≤ length v)
@@ -62,19 +112,9 @@ PairWithin v at (RefusedPair number place) = Met v number place
 
 module _ (kind : ℕ) (v : List ℕ) where
   pub pair-within : (at : ℕ) → PairWithin v at (pairAt kind v at)
-  unfolding pairAt
   pair-within at =
-      let operator = getD v at 0 in
-      by-test (leb (length v) at) (λ t. rw t (short v))
-      (λ t.
-      let inside = leb-false (length v) at t in
-      by-test (sizeAllowed kind (sizeOf operator))
-      (λ u. by-test (ltb (length v - (at + 1)) (sizeOf operator)) (λ w. rw (t, u, w) (short v))
-      (λ w.
-      let fits = ltb-false (length v - (at + 1)) (sizeOf operator) w in
-      let q : Within v at (at + 1 + sizeOf operator) = (omega arith, omega arith) in
-      by-test (endsList operator) (λ x. rw (t, u, w, x) q) (λ x. rw (t, u, w, x) q)))
-      (λ u. let q : Met v 7 at = (omega arith, (omega arith, omega arith)) in rw (t, u) q))
+      pair-cases kind v at (PairWithin v at) (short v) (λ h. (omega arith, (omega arith, omega arith)))
+      (λ h u e. (omega arith, omega arith)) (λ h u e. (omega arith, omega arith))
 
   pub more-within : (at next : ℕ) → pairAt kind v at ≡ More next → Within v at next
   more-within at next e = subst (PairWithin v at) e (pair-within at)
@@ -175,17 +215,8 @@ module _ (v : List ℕ) where
       further i next (RefusedBody number place) h k = k
 
   pub prefix-within : (family : Family) (at : ℕ) → EndWithin v at (prefixEnd family v at)
-  unfolding prefixEnd
   prefix-within family at =
-      by-test (leb (length v) at) (λ t. rw t (short v))
-      (λ t.
-      let inside = leb-false (length v) at t in
-      by-test (ltb (family .width) (getD v at 0)) (λ u. let q : Met v 5 at = (omega arith, (omega arith, omega arith)) in rw (t, u) q)
-      (λ u. by-test (ltb (length v - (at + 1)) ((getD v at 0 + 7) / 8)) (λ w. rw (t, u, w) (short v))
-      (λ w.
-      let fits = ltb-false (length v - (at + 1)) ((getD v at 0 + 7) / 8) w in
-      let q : Within v at (at + 1 + (getD v at 0 + 7) / 8) = (omega arith, omega arith) in
-      rw (t, u, w) q)))
+      prefix-cases family v at (EndWithin v at) (short v) (λ h. (omega arith, (omega arith, omega arith))) (λ h k. (omega arith, omega arith))
 
   pub body-within : (family : Family) (kind at : ℕ) → EndWithin v at (bodyEnd family kind v at)
   unfolding bodyEnd

@@ -21,6 +21,7 @@ use Rattle.rule.specs.declared.Checked.the-variants.{Accepted}
 use Rattle.rule.specs.Operator.{isPrefix}
 use Rattle.rule.specs.Component.{prefixEnd, bodyEnd}
 use Rattle.rule.specs.Value.{Part, spelled, between, componentsFrom, components, checkValue}
+use Rattle.rule.proofs.ComponentLaws.{prefix-cases}
 use Rattle.rule.proofs.ValueLaws.{Found, was-found, none-left, components-ind, accepted-walk}
 
 -- the octets up to a place, and those from it on
@@ -92,12 +93,8 @@ PrefixEnds family v at (RefusedBody number place) = Unit {0}
 
 module _ (family : Family) (v : List ℕ) where
   prefix-ends : (at : ℕ) → PrefixEnds family v at (prefixEnd family v at)
-  unfolding prefixEnd PrefixEnds
-  prefix-ends at =
-      by-test (leb (length v) at) (λ t. rw t tt)
-      (λ t. by-test (ltb (family .width) (getD v at 0)) (λ u. rw (t, u) tt)
-      (λ u. by-test (ltb (length v - (at + 1)) ((getD v at 0 + 7) / 8)) (λ w. rw (t, u, w) tt)
-      (λ w. rw (t, u, w) (ltb-false (family .width) (getD v at 0) u, refl))))
+  unfolding PrefixEnds
+  prefix-ends at = prefix-cases family v at (PrefixEnds family v at) tt (λ h. tt) (λ h k. (k, refl))
 
   module _ (at next : ℕ) (some : at < next) (inside : next ≤ length v) where
     body-length : length (between v at next) ≡ next - at

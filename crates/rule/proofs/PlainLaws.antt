@@ -1,13 +1,13 @@
 -- The plain spelling, octet by octet. What clearing keeps of an octet is computed at all 256. Assumes nothing.
-use mathlib.Core.Path.{_≡_, refl, ap}
+use mathlib.Core.Path.{_≡_, refl, sym, ap, _∙_}
 use mathlib.Core.Bool.{Bool, true, false}
 use mathlib.Core.List.{List, [], _∷_}
-use Prim.Native.Nat.{ℕ, suc, _-_, _*_, _/_, _%_, _^_, _<_, _≤_}
+use Prim.Native.Nat.{ℕ, suc, _+_, _-_, _*_, _/_, _%_, _^_, _<_, _≤_}
 use native.Mathlib.Omega.{arith}
-use native.Mathlib.Nat.{mod-eq-of-lt}
+use native.Mathlib.Nat.{mul-assoc, mod-eq-of-lt}
 use lib.Bits.{bitAnd}
 use lib.ListN.{length, getD}
-use lib.Pow.{split}
+use lib.Pow.{pow-add, split}
 use borrow.Author.Tests.{eq-eqb, ne-eqb, le-leb, lt-leb}
 use Rattle.rule.specs.declared.Expected.{Expected}
 use Rattle.rule.specs.declared.Expected.the-variants.{Kind, Length, Address, Operator, Operand}
@@ -24,6 +24,12 @@ shifted-small x k h = rw (shifted x k h) (omega (arith, split x k))
 pub whole-octet : (left x : ℕ) → 8 ≤ left → x ≡ plainAddress left x
 unfolding plainAddress
 whole-octet left x h = let z : 8 - left ≡ 0 = omega arith in rw z (omega arith)
+
+-- an address's first octet above the n octets behind it: the bits still to come and the rest
+pub above : (n left x : ℕ) → 8 < left → left ≤ 8 * suc n → x * 2 ^ (8 * n) ≡ x * 2 ^ (left - 8) * 2 ^ (8 * n - (left - 8))
+above n left x h l =
+    let e : 8 * n ≡ left - 8 + (8 * n - (left - 8)) = omega arith in
+    ap (λ m. x * 2 ^ m) e ∙ rw (pow-add 2 (left - 8) (8 * n - (left - 8))) (sym (mul-assoc x (2 ^ (left - 8)) (2 ^ (8 * n - (left - 8)))))
 
 -- the length never changes
 pub length-plain-from : (e : Expected) (v : List ℕ) → length (plainFrom e v) ≡ length v

@@ -31,7 +31,7 @@ use Rattle.rule.specs.Component.{pairAt, Pair, pairOf, pairsFrom, prefix
 use Rattle.rule.specs.Value.{Part, between, componentsFrom, components, checkValue}
 use Rattle.rule.specs.Plain.{bodyOf, operandAfter, after, plainOperand, cleared, plainFrom, plain}
 use Rattle.rule.proofs.OperatorLaws.{size-positive}
-use Rattle.rule.proofs.ComponentLaws.{pairs-more, pairs-last, pairs-refused, pairs-ind}
+use Rattle.rule.proofs.ComponentLaws.{pair-cases, prefix-cases, component-cases, pairs-more, pairs-last, pairs-refused, pairs-ind}
 use Rattle.rule.proofs.ValueLaws.{was-found, components-more, components-none, components-refused, components-ind}
 use Rattle.rule.proofs.PlainLaws.{length-plain-from}
 use Rattle.rule.proofs.ClearedLaws.{size-kept, end-kept}
@@ -139,32 +139,27 @@ module _ (start : Expected) (v : List ℕ) (o : Octets v) (kind : ℕ) where
       (λ t. let h = leb-false (length v) at t in
       rw (length-plain-from start v, octet-there start v at (Operator kind first) x h, size-kept kind first (getD v at 0) (o at), end-kept kind first (getD v at 0) (o at)))
 
-  pair-then : (at : ℕ) (first : Bool) → Expects start v at (Operator kind first) → PairExpects start v kind first at (pairAt kind v at)
-  unfolding pairAt PairExpects after
-  pair-then at first x =
-      let operator = getD v at 0 in
-      by-test (leb (length v) at) (λ t. rw t tt)
-      (λ t. by-test (sizeAllowed kind (sizeOf operator))
-      (λ u. by-test (ltb (length v - (at + 1)) (sizeOf operator)) (λ w. rw (t, u, w) tt)
-      (λ w.
-      let inside = leb-false (length v) at t in
-      let fits = ltb-false (length v - (at + 1)) (sizeOf operator) w in
-      let some = size-positive operator (o at) in
-      let behind = behind-operator inside in
-      let same = same-pair inside (value-cleared start v (sizeOf operator) (at + 1) kind (endsList operator) behind (omega arith) u) in
-      by-test (endsList operator)
-      (λ y. rw (t, u, w, y) (same, rw y at (value-passed start v (sizeOf operator) (at + 1) kind (endsList operator) behind some (omega arith))))
-      (λ y. rw (t, u, w, y) (same, rw y at (value-passed start v (sizeOf operator) (at + 1) kind (endsList operator) behind some (omega arith))))))
-      (λ u. rw (t, u) tt))
-    where
-      same-pair : at < length v → numberAt (sizeOf (getD v at 0)) (plainFrom start v) (at + 1) ≡ plainOperand kind (numberAt (sizeOf (getD v at 0)) v (at + 1))
-          → pairOf (plainFrom start v) at (at + 1 + sizeOf (getD v at 0)) ≡ plainPair kind first (pairOf v at (at + 1 + sizeOf (getD v at 0)))
-      same-pair h e =
-          let size : at + 1 + sizeOf (getD v at 0) - (at + 1) ≡ sizeOf (getD v at 0) = omega arith in
-          rw size (λ i. record { operator = octet-there start v at (Operator kind first) x h i; value = e i })
+  module _ (at : ℕ) (first : Bool) (x : Expects start v at (Operator kind first)) where
+    abbrev operator : ℕ
+    operator = getD v at 0
 
-      behind-operator : at < length v → Expects start v (at + 1) (Operand kind (sizeOf (getD v at 0)) (endsList (getD v at 0)))
-      behind-operator h = goes-on start v at (Operator kind first) x h
+    behind : at < length v → Expects start v (at + 1) (Operand kind (sizeOf operator) (endsList operator))
+    unfolding after
+    behind h = goes-on start v at (Operator kind first) x h
+
+    same-pair : at + 1 + sizeOf operator ≤ length v → sizeAllowed kind (sizeOf operator) ≡ true
+        → pairOf (plainFrom start v) at (at + 1 + sizeOf operator) ≡ plainPair kind first (pairOf v at (at + 1 + sizeOf operator))
+    same-pair h u =
+        let size : at + 1 + sizeOf operator - (at + 1) ≡ sizeOf operator = omega arith in
+        let value = value-cleared start v (sizeOf operator) (at + 1) kind (endsList operator) (behind (omega arith)) h u in
+        rw size (λ i. record { operator = octet-there start v at (Operator kind first) x (omega arith) i; value = value i })
+
+    passed : at + 1 + sizeOf operator ≤ length v → Expects start v (at + 1 + sizeOf operator) (cond (endsList operator) Kind (Operator kind false))
+    passed h = value-passed start v (sizeOf operator) (at + 1) kind (endsList operator) (behind (omega arith)) (size-positive operator (o at)) h
+
+    pair-then : PairExpects start v kind first at (pairAt kind v at)
+    unfolding PairExpects
+    pair-then = pair-cases kind v at (PairExpects start v kind first at) tt (λ h. tt) (λ h u e. (same-pair h u, rw e at (passed h))) (λ h u e. (same-pair h u, rw e at (passed h)))
 
   -- a list in the plain spelling is the list of its pairs in the plain spelling, and a type is expected behind it
   ListSame : ℕ → Walk Pair BodyEnd → Type 0
@@ -216,14 +211,11 @@ module _ (start : Expected) (v : List ℕ) where
         (λ t. let h = leb-false (length v) at t in rw (length-plain-from start v, octet-there start v at Length x h))
 
     prefix-then : EndExpects start v (prefixEnd family v at)
-    unfolding prefixEnd EndExpects after
+    unfolding EndExpects after
     prefix-then =
-        by-test (leb (length v) at) (λ t. rw t tt)
-        (λ t. by-test (ltb (family .width) (getD v at 0)) (λ u. rw (t, u) tt)
-        (λ u. by-test (ltb (length v - (at + 1)) ((getD v at 0 + 7) / 8)) (λ w. rw (t, u, w) tt)
-        (λ w. rw (t, u, w) (go (leb-false (length v) at t) (ltb-false (length v - (at + 1)) ((getD v at 0 + 7) / 8) w) (eqb (getD v at 0) 0) refl))))
+        prefix-cases family v at (EndExpects start v) tt (λ h. tt) (λ h k. go (omega arith) h (eqb (getD v at 0) 0) refl)
       where
-        go : at < length v → (getD v at 0 + 7) / 8 ≤ length v - (at + 1) → (t : Bool) → eqb (getD v at 0) 0 ≡ t → Expects start v (at + 1 + (getD v at 0 + 7) / 8) Kind
+        go : at < length v → at + 1 + (getD v at 0 + 7) / 8 ≤ length v → (t : Bool) → eqb (getD v at 0) 0 ≡ t → Expects start v (at + 1 + (getD v at 0 + 7) / 8) Kind
         go h k true t =
             let z = eqb-true (getD v at 0) 0 t in
             let e : at + 1 ≡ at + 1 + (getD v at 0 + 7) / 8 = omega arith in
@@ -250,24 +242,19 @@ module _ (start : Expected) (v : List ℕ) (o : Octets v) (family : Family) wher
       → (componentAt family (plainFrom start v) at previous ≡ componentAt family v at previous) × NextExpects start v (componentAt family v at previous)
   unfolding componentAt cleared after NextExpects EndExpects
   component-same at previous x =
-      by-test (leb (length v) at) (λ t. rw (length-plain-from start v, t) (refl, tt))
-      (λ t.
-      let h = leb-false (length v) at t in
-      let kind = getD v at 0 in
-      let same = body-same kind (at + 1) (goes-on start v at Kind x h) in
-      rw (length-plain-from start v, t, octet-there start v at Kind x h, same .0)
-      (refl, then kind (bodyEnd family kind v (at + 1)) (same .1)))
+      (same, component-cases family v at previous (NextExpects start v) (λ h. tt) (λ h. tt) (λ h. tt) (λ h z k r. then (bodyEnd family (getD v at 0) v (at + 1)) (body h .1)))
     where
-      then : (kind : ℕ) (e : BodyEnd) → EndExpects start v e
-          → NextExpects start v (cond (eqb kind 0) (RefusedNext 3 at) (cond (ltb (family .highest) kind) (RefusedNext 3 at) (cond (leb kind previous) (RefusedNext 4 at) (found kind e))))
-      then kind e y =
-          by-test (eqb kind 0) (λ t. rw t tt)
-          (λ t. by-test (ltb (family .highest) kind) (λ u. rw (t, u) tt)
-          (λ u. by-test (leb kind previous) (λ w. rw (t, u, w) tt) (λ w. rw (t, u, w) (last e y))))
-        where
-          last : (e : BodyEnd) → EndExpects start v e → NextExpects start v (found kind e)
-          last (At next) y = y
-          last (RefusedBody number place) y = tt
+      body : (h : at < length v) → (bodyEnd family (getD v at 0) (plainFrom start v) (at + 1) ≡ bodyEnd family (getD v at 0) v (at + 1)) × EndExpects start v (bodyEnd family (getD v at 0) v (at + 1))
+      body h = body-same (getD v at 0) (at + 1) (goes-on start v at Kind x h)
+
+      same : componentAt family (plainFrom start v) at previous ≡ componentAt family v at previous
+      same =
+          by-test (leb (length v) at) (λ t. rw (length-plain-from start v, t))
+          (λ t. let h = leb-false (length v) at t in rw (length-plain-from start v, t, octet-there start v at Kind x h, body h .0))
+
+      then : (e : BodyEnd) → EndExpects start v e → NextExpects start v (found (getD v at 0) e)
+      then (At next) y = y
+      then (RefusedBody number place) y = tt
 
 -- the pairs of a list in the plain spelling are its pairs in the plain spelling
 pub pairs-plain : (kind : ℕ) (v : List ℕ) → Octets v

@@ -19,7 +19,7 @@ use Rattle.rule.specs.declared.Checked.{Checked}
 use Rattle.rule.specs.declared.Checked.the-variants.{Accepted, Refused}
 use Rattle.rule.specs.Component.{bodyEnd, found, componentAt}
 use Rattle.rule.specs.Value.{Part, between, Progress, componentStep, componentsFrom, checkValue}
-use Rattle.rule.proofs.ComponentLaws.{Within, Met, EndWithin, body-within}
+use Rattle.rule.proofs.ComponentLaws.{component-cases, Within, Met, EndWithin, body-within}
 use Rattle.rule.proofs.Refusal.{Refusal, placeless}
 
 -- what the cursor found: a type octet of the family, above the one before, and a body behind it that ends in the value
@@ -39,32 +39,23 @@ Says family v at previous (RefusedNext number place) = Met v number place
 
 module _ (family : Family) (v : List ℕ) where
   pub cursor-says : (at previous : ℕ) → Says family v at previous (componentAt family v at previous)
-  unfolding componentAt
   cursor-says at previous =
-      let kind = getD v at 0 in
-      by-test (leb (length v) at) (λ t. rw t (leb-true _ _ t))
-      (λ t.
-      let inside = leb-false (length v) at t in
-      let unknown : Met v 3 at = (omega arith, (omega arith, omega arith)) in
-      let unordered : Met v 4 at = (omega arith, (omega arith, omega arith)) in
-      by-test (eqb kind 0) (λ u. rw (t, u) unknown)
-      (λ u. by-test (ltb (family .highest) kind) (λ w. rw (t, u, w) unknown)
-      (λ w. by-test (leb kind previous) (λ x. rw (t, u, w, x) unordered)
-      (λ x. rw (t, u, w, x) (go t u w x (bodyEnd family kind v (at + 1)) refl)))))
+      component-cases family v at previous (Says family v at previous) (λ h. h) (λ h. (omega arith, (omega arith, omega arith))) (λ h. (omega arith, (omega arith, omega arith)))
+      (λ h z k r. go h z k r (bodyEnd family (getD v at 0) v (at + 1)) refl)
     where
-      go : leb (length v) at ≡ false → eqb (getD v at 0) 0 ≡ false → ltb (family .highest) (getD v at 0) ≡ false → leb (getD v at 0) previous ≡ false
+      go : at < length v → (getD v at 0 ≡ 0 → ⊥) → getD v at 0 ≤ family .highest → previous < getD v at 0
           → (e : BodyEnd) → bodyEnd family (getD v at 0) v (at + 1) ≡ e → Says family v at previous (found (getD v at 0) e)
-      go t u w x (At next) e =
+      go h z k r (At next) e =
           record {
-            inside = leb-false _ _ t;
+            inside = h;
             is = refl;
-            given = eqb-false _ _ u;
-            had = ltb-false _ _ w;
-            rises = leb-false _ _ x;
+            given = z;
+            had = k;
+            rises = r;
             ends = e;
             within = subst (EndWithin v (at + 1)) e (body-within v family (getD v at 0) (at + 1));
           }
-      go t u w x (RefusedBody number place) e = subst (EndWithin v (at + 1)) e (body-within v family (getD v at 0) (at + 1))
+      go h z k r (RefusedBody number place) e = subst (EndWithin v (at + 1)) e (body-within v family (getD v at 0) (at + 1))
 
   pub was-found : (at previous kind next : ℕ) → componentAt family v at previous ≡ Component kind next → Found family v at previous kind next
   was-found at previous kind next e = subst (Says family v at previous) e (cursor-says at previous)
