@@ -60,17 +60,18 @@ at-most : (w : ℕ) (d : Prefix) (r : Route) (rs : List Route) (n : ℕ) → (co
     → AtMost w d (r ∷ rs) n
 at-most w d r rs n h k s m c = ⊎-elim (λ e. rw e (h (rw e at c))) (λ l. k s l c) (List·Memᴰ·cases-cons m)
 
+-- the longest of a route and others: the one, or the longest of the others
+module _ (w : ℕ) (d : Prefix) (s : Route) (rs : List Route) where
+  first : covers w d s ≡ true → AtMost w d rs (s .prefix .length) → Longest w d (s ∷ rs) s
+  first c k = record { among = List·Memᴰ·head refl; covering = c; longest = at-most w d s rs (s .prefix .length) (λ e. omega arith) k }
+
+  still : (t : Route) → Longest w d rs t → (covers w d s ≡ true → s .prefix .length ≤ t .prefix .length) → Longest w d (s ∷ rs) t
+  still t T h = record { among = List·Memᴰ·tail (T .among); covering = T .covering; longest = at-most w d s rs (t .prefix .length) h (T .longest) }
+
 -- one covering route before others, by the best match of those
 module _ (w : ℕ) (d : Prefix) (s : Route) (rs : List Route) (c : covers w d s ≡ true) where
   alone : bestMatch w d rs ≡ Nothing → Longest w d (s ∷ rs) s
-  alone none =
-      record {
-        among = List·Memᴰ·head refl;
-        covering = c;
-        longest =
-            at-most w d s rs (s .prefix .length) (λ e. omega arith)
-            (λ t m e. let f = none-covers w d rs none t m in apart (cc));
-      }
+  alone none = first w d s rs c (λ t m e. let f = none-covers w d rs none t m in apart (cc))
 
   before : (t : Route) → Longest w d rs t → (r : Route) → longer (Found s) (Found t) ≡ Found r → Longest w d (s ∷ rs) r
   unfolding longer
@@ -79,21 +80,11 @@ module _ (w : ℕ) (d : Prefix) (s : Route) (rs : List Route) (c : covers w d s 
       (λ l.
       let same : t ≡ r = let f = rw l at e in cc in
       let h = ltb-true (s .prefix .length) (t .prefix .length) l in
-      rw (← same)
-      (record {
-        among = List·Memᴰ·tail (T .among);
-        covering = T .covering;
-        longest = at-most w d s rs (t .prefix .length) (λ e. omega arith) (T .longest);
-      }))
+      rw (← same) (still w d s rs t T (λ e. omega arith)))
       (λ l.
       let same : s ≡ r = let f = rw l at e in cc in
       let h = ltb-false (s .prefix .length) (t .prefix .length) l in
-      rw (← same)
-      (record {
-        among = List·Memᴰ·head refl;
-        covering = c;
-        longest = at-most w d s rs (s .prefix .length) (λ e. omega arith) (λ u m f. let k = T .longest u m f in omega arith);
-      }))
+      rw (← same) (first w d s rs c (λ u m f. let k = T .longest u m f in omega arith)))
 
 -- the best match is the longest
 pub best-longest : (w : ℕ) (d : Prefix) (rs : List Route) (r : Route) → bestMatch w d rs ≡ Found r → Longest w d rs r
@@ -101,13 +92,7 @@ unfolding bestMatch longer
 best-longest w d [] r e = apart (cc)
 best-longest w d (s ∷ rs) r e =
     by-test (covers w d s) (λ t. go (bestMatch w d rs) refl t (rw (covering-match w d s t) at e) (best-longest w d rs))
-    (λ t.
-    let below = best-longest w d rs r (rw (no-match w d s t) at e) in
-    record {
-      among = List·Memᴰ·tail (below .among);
-      covering = below .covering;
-      longest = at-most w d s rs (r .prefix .length) (λ f. apart (cc)) (below .longest);
-    })
+    (λ t. still w d s rs r (best-longest w d rs r (rw (no-match w d s t) at e)) (λ f. apart (cc)))
   where
     go : (b : BestMatch) → bestMatch w d rs ≡ b → covers w d s ≡ true → longer (Found s) (bestMatch w d rs) ≡ Found r
         → ((t : Route) → bestMatch w d rs ≡ Found t → Longest w d rs t) → Longest w d (s ∷ rs) r
