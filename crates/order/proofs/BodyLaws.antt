@@ -1,6 +1,6 @@
 -- The body of a component in the plain spelling: that of a prefix spells an address of the family's width with no bit past the length,
 -- and no other body of octets spells the same prefix. Over any width of whole octets. Assumes nothing.
-use mathlib.Core.Path.{_≡_, sym, ap, _∙_}
+use mathlib.Core.Path.{_≡_, ap}
 use mathlib.Core.Bool.{true}
 use mathlib.Core.List.{List, [], _∷_, map}
 use Prim.Native.Nat.{ℕ, zero, suc, _+_, _-_, _*_, _/_, _%_, _^_, _<_, _≤_}

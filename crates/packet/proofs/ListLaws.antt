@@ -5,16 +5,15 @@ use mathlib.Core.List.{List}
 use Prim.Native.Nat.{ℕ, _+_, _-_, _<_}
 use native.Mathlib.Omega.{arith}
 use lib.Bits.{bitAnd}
-use lib.Dec.{leb, ltb, eqb}
+use lib.Dec.{eqb}
 use lib.ListN.{length, getD}
 use borrow.Author.Tests.{eq-eqb, ne-eqb}
 use Rattle.octets.specs.Number.{numberAt}
 use Rattle.octets.specs.Walk.{Walk}
-use Rattle.octets.proofs.Cases.{by-test}
 use Rattle.rule.specs.declared.NextPair.{NextPair}
 use Rattle.rule.specs.declared.NextPair.the-variants.{More, Last, Refused as RefusedPair}
 use Rattle.rule.specs.declared.BodyEnd.{BodyEnd}
-use Rattle.rule.specs.Operator.{endsList, sizeOf, isBitmask, sizeAllowed}
+use Rattle.rule.specs.Operator.{sizeOf, isBitmask}
 use Rattle.rule.specs.Component.{pairAt, Pair, pairOf, pairsFrom}
 use Rattle.rule.specs.Plain.{plainOperand}
 use Rattle.rule.proofs.ComponentLaws.{pair-cases, more-within, last-within, pairs-more, pairs-last, pairs-refused}

@@ -5,11 +5,11 @@ use mathlib.Core.Bool.{Bool, true, false, _&&_}
 use mathlib.Core.List.{List, [], _∷_, map}
 use Prim.Native.Nat.{ℕ, zero, suc, _+_, _-_, _*_, _/_, _^_, _<_, _≤_}
 use native.Mathlib.Omega.{arith}
-use native.Mathlib.Nat.{mul-assoc, mul-add-div-right}
+use native.Mathlib.Nat.{mul-add-div-right}
 use lib.Bits.{bitAnd}
 use lib.Dec.{leb, eqb}
 use lib.ListN.{getD}
-use lib.Pow.{pow-pos, pow-add, high, shl-shr, shr-shr}
+use lib.Pow.{pow-pos, high, shl-shr, shr-shr}
 use borrow.Author.Tests.{leb-true, leb-false, eqb-true, eqb-false}
 use Rattle.octets.specs.Test.{every}
 use Rattle.octets.specs.Number.{numberAt}
@@ -32,7 +32,6 @@ use Rattle.rule.proofs.PartLaws.{Each, each-octets}
 use Rattle.packet.specs.declared.Field.{Field}
 use Rattle.packet.specs.declared.Field.the-variants.{Shown, Hidden}
 use Rattle.packet.specs.declared.Packet.{Packet}
-use Rattle.packet.specs.Operator.{numericHolds, bitmaskHolds}
 use Rattle.packet.specs.PairList.{listHolds}
 use Rattle.packet.specs.Match.{dataFor, holdsFor, pairHolds, bodyHolds, fieldMatches, fieldFor, covers, eitherPort, componentMatches, matches}
 use Rattle.packet.proofs.OperatorLaws.{numeric-alike, mask-alike}

@@ -4,7 +4,6 @@
 ghost use mathlib.Core.Path.{_≡_};
 ghost use Prim.Native.Nat.{_<_, min};
 ghost use lib.ListN.{length};
-ghost use Rattle.rule.specs.Plain.{plainOperand};
 ghost use Rattle.packet.specs.Bit.{bitIf};
 ghost use Rattle.packet.specs.Header.{isUnusable, fragmentData};
 ghost use Rattle.packet.specs.Transport.{transportFound, transportOctets, shownIf, hasPorts, hasIcmp, hasFlags, transportFields};
@@ -251,23 +250,12 @@ fn data_for(kind: u8, operator: u8, data: u64) -> u64
     data
 }
 
-// The value that a pair of a type is judged by: bits of a DSCP or fragment value that are to be ignored count as 0.
-fn value_for(kind: u8, value: u64) -> u64
-    ensures { λ r. ⌜ r ≡ plainOperand kind value ⌝ }
-{
-    match kind {
-        11 => value & 0x3f,
-        12 => value & 0x0f,
-        _ => value,
-    }
-}
-
-// Whether a pair of a list of the given type holds of the data.
+// Whether a pair of a list of the given type holds of the data; bits of its value that are to be ignored count as 0.
 fn pair_holds(kind: u8, operator: u8, value: u64, data: u64) -> bool
     ensures { λ r. ⌜ r ≡ holdsFor kind operator value «data» ⌝ }
 {
     let judged = data_for(kind, operator, data);
-    let wanted = value_for(kind, value);
+    let wanted = rule::plain_operand(kind, value);
     if rule::is_bitmask(kind) {
         return bitmask_holds(operator, judged, wanted);
     }

@@ -5,7 +5,7 @@ use mathlib.Core.Bool.{Bool, true, false, cond, Bool·beq}
 use mathlib.Core.List.{List, [], _∷_}
 use Prim.Native.Nat.{ℕ, zero, suc, _/_, _-_, _^_, _<_}
 use native.Mathlib.Omega.{arith}
-use lib.Bits.{bitAnd, and-le-l, and-mask}
+use lib.Bits.{bitAnd, and-mask}
 use lib.Dec.{ltb, eqb}
 use lib.Pow.{shl-shr, split}
 use borrow.Author.Tests.{ltb-true}
@@ -15,6 +15,7 @@ use Rattle.rule.specs.declared.Expected.{Expected}
 use Rattle.rule.specs.declared.Expected.the-variants.{Kind, Length, Address, Operator, Operand}
 use Rattle.rule.specs.Operator.{endsList, sizeOf, isBitmask}
 use Rattle.rule.specs.Plain.{after, plainOperator, plainOperand, plainAddress, cleared, plainFrom, plain}
+use Rattle.rule.proofs.PlainLaws.{operand-small}
 
 -- an operator is cleared by one of four masks: what holds of each holds of the clearing
 masked : (P : (ℕ → ℕ) → Type 0) → P (λ y. bitAnd (bitAnd y 0xf3) 0xbf) → P (λ y. bitAnd y 0xf3) → P (λ y. bitAnd (bitAnd y 0xf7) 0xbf) → P (λ y. bitAnd y 0xf7)
@@ -91,12 +92,6 @@ operator-small kind first x h =
     (below 256 (λ y. ltb (cleared (Operator kind first) y) 256)
     (masked (λ f. allBelow 256 (λ y. ltb (f y) 256) ≡ true) refl refl refl refl kind first) x h)
 
-operand-small : (kind x : ℕ) → x < 256 → plainOperand kind x < 256
-unfolding plainOperand
-operand-small kind x h =
-    by-test (eqb kind 11) (λ t. rw t (omega (arith, and-le-l x 0x3f)))
-    (λ t. by-test (eqb kind 12) (λ u. rw (t, u) (omega (arith, and-le-l x 0x0f))) (λ u. rw (t, u) h))
-
 -- an octet that is cleared is an octet
 pub cleared-small : (e : Expected) (x : ℕ) → x < 256 → cleared e x < 256
 unfolding cleared plainAddress
@@ -104,7 +99,7 @@ cleared-small Kind x h = h
 cleared-small Length x h = h
 cleared-small (Address left) x h = omega (arith, split x (8 - left))
 cleared-small (Operator kind first) x h = operator-small kind first x h
-cleared-small (Operand kind left last) x h = operand-small kind x h
+cleared-small (Operand kind left last) x h = operand-small kind x (plainOperand kind x) refl h
 
 -- the plain spelling of octets is octets
 pub octets-plain-from : (e : Expected) (v : List ℕ) → Octets v → Octets (plainFrom e v)

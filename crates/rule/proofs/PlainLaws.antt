@@ -5,10 +5,12 @@ use mathlib.Core.List.{List, [], _∷_}
 use Prim.Native.Nat.{ℕ, suc, _+_, _-_, _*_, _/_, _%_, _^_, _<_, _≤_}
 use native.Mathlib.Omega.{arith}
 use native.Mathlib.Nat.{mul-assoc, mod-eq-of-lt}
-use lib.Bits.{bitAnd}
+use lib.Bits.{bitAnd, and-le-l}
+use lib.Dec.{eqb}
 use lib.ListN.{length, getD}
 use lib.Pow.{pow-add, split}
 use borrow.Author.Tests.{eq-eqb, ne-eqb, le-leb, lt-leb}
+use Rattle.octets.proofs.Cases.{by-test}
 use Rattle.rule.specs.declared.Expected.{Expected}
 use Rattle.rule.specs.declared.Expected.the-variants.{Kind, Length, Address, Operator, Operand}
 use Rattle.rule.specs.Operator.{endsList, sizeOf}
@@ -24,6 +26,14 @@ shifted-small x k h = rw (shifted x k h) (omega (arith, split x k))
 pub whole-octet : (left x : ℕ) → 8 ≤ left → x ≡ plainAddress left x
 unfolding plainAddress
 whole-octet left x h = let z : 8 - left ≡ 0 = omega arith in rw z (omega arith)
+
+-- an octet of a value stays an octet
+pub operand-small : (kind x r : ℕ) → r ≡ plainOperand kind x → x < 256 → r < 256
+unfolding plainOperand
+operand-small kind x r e h =
+    rw e
+    (by-test (eqb kind 11) (λ t. rw t (omega (arith, and-le-l x 0x3f)))
+    (λ t. by-test (eqb kind 12) (λ u. rw (t, u) (omega (arith, and-le-l x 0x0f))) (λ u. rw (t, u) h)))
 
 -- an address's first octet above the n octets behind it: the bits still to come and the rest
 pub above : (n left x : ℕ) → 8 < left → left ≤ 8 * suc n → x * 2 ^ (8 * n) ≡ x * 2 ^ (left - 8) * 2 ^ (8 * n - (left - 8))

@@ -1,12 +1,11 @@
 -- The components of a value, from a place on: what the cursor found there, one more and the rest, the end, or a refusal. Assumes nothing.
 use mathlib.Core.Path.{_≡_, refl, sym, ap, subst, _∙_}
-use mathlib.Core.Bool.{false}
 use mathlib.Core.List.{List, [], _∷_}
 use Prim.Native.Nat.{ℕ, _+_, _-_, _<_, _≤_}
 use native.Mathlib.Omega.{arith}
-use lib.Dec.{leb, ltb, eqb}
+use lib.Dec.{ltb, eqb}
 use lib.ListN.{length, getD}
-use borrow.Author.Tests.{leb-false, leb-true, ltb-false, eqb-false, lt-ltb, le-ltb, eq-eqb, ne-eqb}
+use borrow.Author.Tests.{ltb-false, lt-ltb, le-ltb, eq-eqb, ne-eqb}
 use Rattle.octets.specs.Walk.{Step, more, last, stop, Walk, before}
 use Rattle.octets.proofs.Cases.{by-test, apart}
 use Rattle.octets.proofs.WalkLaws.{walk-stop, walk-more, walk-ind}

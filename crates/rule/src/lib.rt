@@ -396,8 +396,8 @@ pub fn plain_operator(kind: u8, x: u8) -> u8
     x & 0xf7
 }
 
-// An octet of a value with the bits that are to be ignored cleared.
-pub fn plain_operand(kind: u8, x: u8) -> u8
+// A value of a type, or an octet of one, with the bits that are to be ignored cleared.
+pub fn plain_operand(kind: u8, x: u64) -> u64
     ensures { λ r. ⌜ r ≡ plainOperand kind x ⌝ }
 {
     match kind {
@@ -438,7 +438,7 @@ pub fn cleared_octet(expected: Expected, x: u8) -> u8
             kind,
             left: _,
             last: _,
-        } => plain_operand(kind, x),
+        } => plain_operand(kind, x as u64) as u8,
     }
 }
 

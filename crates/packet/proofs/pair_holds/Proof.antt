@@ -7,8 +7,8 @@ use Rattle.packet.proofs.pair_holds.Tie as tie
 data-for-requires : tie.Need-data-for-requires
 data-for-requires c κs = search needs
 
-value-for-requires : tie.Need-value-for-requires
-value-for-requires c κs = search needs
+plain-operand-requires : tie.Need-plain-operand-requires
+plain-operand-requires c κs = search needs
 
 is-bitmask-requires : tie.Need-is-bitmask-requires
 is-bitmask-requires c κs = search needs
@@ -30,7 +30,7 @@ pair-holds-spec =
     tie.close
     (tie.spec
     data-for-requires
-    value-for-requires
+    plain-operand-requires
     is-bitmask-requires
     bitmask-holds-requires
     returns

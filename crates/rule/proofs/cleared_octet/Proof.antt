@@ -1,5 +1,5 @@
 -- One law for each return.
-use Rattle.rule.proofs.PlainLaws.{cleared-kind, cleared-length, cleared-address, cleared-first, cleared-later, cleared-operand}
+use Rattle.rule.proofs.PlainLaws.{operand-small, cleared-kind, cleared-length, cleared-address, cleared-first, cleared-later, cleared-operand}
 use borrow.Author.Needs.{needs}
 use Rattle.rule.proofs.cleared_octet.Statement.{statement}
 use Rattle.rule.proofs.cleared_octet.Tie as tie
@@ -36,6 +36,9 @@ enum-known-expected-3 c = search needs
 plain-operand-requires : tie.Need-plain-operand-requires
 plain-operand-requires c κs = search needs
 
+cast-result : tie.Need-cast-result
+cast-result c = search (operand-small, needs)
+
 returns-2 : tie.Need-returns-2
 returns-2 c = search (cleared-kind, needs)
 
@@ -64,6 +67,7 @@ cleared-octet-spec =
     returns
     enum-known-expected-3
     plain-operand-requires
+    cast-result
     returns-2
     returns-3
     returns-4
