@@ -21,10 +21,12 @@ module _ (mask : ℕ) (holds : ℕ → Bool) (low : (x : ℕ) → x < 256 → ho
   row : (rows tests : List Bool) → rows ≡ tests → (x : ℕ) → x < 256 → (k : ℕ) → getD rows k true ≡ holds k → bitAnd x mask ≡ k → getD tests k true ≡ holds x
   row rows tests table x small k is e = ap (λ (l : List Bool). getD l k true) (sym table) ∙ is ∙ ap holds (sym e) ∙ low x small
 
--- a bit of the mask is kept
-kept : (mask bit : ℕ) → allBelow 256 (λ y. eqb (bitAnd (bitAnd y mask) bit) (bitAnd y bit)) ≡ true → (x : ℕ) → x < 256
-    → bitAnd (bitAnd x mask) bit ≡ bitAnd x bit
-kept mask bit = octet (λ y. bitAnd (bitAnd y mask) bit) (λ y. bitAnd y bit)
+-- a mask keeps these bits of every octet
+abbrev pub Keeps : ℕ → ℕ → Type 0
+Keeps mask bits = allBelow 256 (λ y. eqb (bitAnd (bitAnd y mask) bits) (bitAnd y bits)) ≡ true
+
+pub kept : (mask bits : ℕ) → Keeps mask bits → (x : ℕ) → x < 256 → bitAnd (bitAnd x mask) bits ≡ bitAnd x bits
+kept mask bits = octet (λ y. bitAnd (bitAnd y mask) bits) (λ y. bitAnd y bits)
 
 module _ («data» value : ℕ) where
   -- a numeric operator is its low three bits

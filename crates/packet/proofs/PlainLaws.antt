@@ -1,12 +1,12 @@
 -- Whether a packet matches a rule hangs on the rule's plain spelling alone: what the plain spelling clears decides no pair, the first
 -- AND of a list is no matter, and of a prefix only the first bits are compared. Assumes nothing.
 use mathlib.Core.Path.{_≡_, refl, sym, ap, _∙_}
-use mathlib.Core.Bool.{Bool, true, false, _&&_}
+use mathlib.Core.Bool.{Bool, true, false, cond, _&&_}
 use mathlib.Core.List.{List, [], _∷_, map}
 use Prim.Native.Nat.{ℕ, zero, suc, _+_, _-_, _*_, _/_, _^_, _<_, _≤_}
 use native.Mathlib.Omega.{arith}
 use native.Mathlib.Nat.{mul-add-div-right}
-use lib.Bits.{bitAnd}
+use lib.Bits.{bitAnd, and-le-l}
 use lib.Dec.{leb, eqb}
 use lib.ListN.{getD}
 use lib.Pow.{pow-pos, high, shl-shr, shr-shr}
@@ -34,26 +34,27 @@ use Rattle.packet.specs.declared.Field.the-variants.{Shown, Hidden}
 use Rattle.packet.specs.declared.Packet.{Packet}
 use Rattle.packet.specs.PairList.{listHolds}
 use Rattle.packet.specs.Match.{dataFor, holdsFor, pairHolds, bodyHolds, fieldMatches, fieldFor, covers, eitherPort, componentMatches, matches}
-use Rattle.packet.proofs.OperatorLaws.{numeric-alike, mask-alike}
+use Rattle.packet.proofs.OperatorLaws.{Keeps, kept, numeric-alike, mask-alike}
 use Rattle.packet.proofs.PairListLaws.{goesOn, from-first}
 
 -- what clearing keeps of an operator: the bits that choose the test, and the AND of one that is not the first
 module _ (kind operator : ℕ) (small : operator < 256) where
+  masks-kept : (first : Bool) (mask bits : ℕ) → Keeps mask bits → Keeps 0xbf bits
+      → bitAnd (cond first (bitAnd (bitAnd operator mask) 0xbf) (bitAnd operator mask)) bits ≡ bitAnd operator bits
+  masks-kept true mask bits k l = kept 0xbf bits l (bitAnd operator mask) (omega (arith, and-le-l operator mask)) ∙ kept mask bits k operator small
+  masks-kept false mask bits k l = kept mask bits k operator small
+
   numeric-kept : (first : Bool) → isBitmask kind ≡ false → bitAnd (cleared (Operator kind first) operator) 7 ≡ bitAnd operator 7
   unfolding cleared plainOperator
-  numeric-kept true t = rw t (octet (λ x. bitAnd (bitAnd (bitAnd x 0xf7) 0xbf) 7) (λ x. bitAnd x 7) refl operator small)
-  numeric-kept false t = rw t (octet (λ x. bitAnd (bitAnd x 0xf7) 7) (λ x. bitAnd x 7) refl operator small)
+  numeric-kept first t = rw t (masks-kept first 0xf7 7 refl refl)
 
   mask-kept : (first : Bool) → isBitmask kind ≡ true → bitAnd (cleared (Operator kind first) operator) 3 ≡ bitAnd operator 3
   unfolding cleared plainOperator
-  mask-kept true t = rw t (octet (λ x. bitAnd (bitAnd (bitAnd x 0xf3) 0xbf) 3) (λ x. bitAnd x 3) refl operator small)
-  mask-kept false t = rw t (octet (λ x. bitAnd (bitAnd x 0xf3) 3) (λ x. bitAnd x 3) refl operator small)
+  mask-kept first t = rw t (masks-kept first 0xf3 3 refl refl)
 
   and-kept : bitAnd (cleared (Operator kind false) operator) 0x40 ≡ bitAnd operator 0x40
   unfolding cleared plainOperator
-  and-kept =
-      by-test (isBitmask kind) (λ t. rw t (octet (λ x. bitAnd (bitAnd x 0xf3) 0x40) (λ x. bitAnd x 0x40) refl operator small))
-      (λ t. rw t (octet (λ x. bitAnd (bitAnd x 0xf7) 0x40) (λ x. bitAnd x 0x40) refl operator small))
+  and-kept = by-test (isBitmask kind) (λ t. rw t (kept 0xf3 0x40 refl operator small)) (λ t. rw t (kept 0xf7 0x40 refl operator small))
 
 -- a pair in the plain spelling holds where the pair does
 module _ (kind «data» : ℕ) where
