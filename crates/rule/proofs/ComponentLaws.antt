@@ -1,12 +1,12 @@
 -- The cursor's answers: one law for each way in which the code comes to one, and where an answer lies in the value. Assumes nothing.
 use mathlib.Core.Path.{_≡_, refl, sym, ap, subst, _∙_}
-use mathlib.Core.Bool.{Bool, true, false, not}
+use mathlib.Core.Bool.{Bool, true, false, not, _||_}
 use mathlib.Core.List.{List, [], _∷_}
 use Prim.Native.Nat.{ℕ, _+_, _-_, _/_, _<_, _≤_}
 use native.Mathlib.Omega.{arith}
 use lib.Dec.{leb, ltb, eqb}
 use lib.ListN.{length, getD}
-use borrow.Author.Tests.{le-leb, lt-leb, lt-ltb, le-ltb, leb-true, leb-false, ltb-false, eqb-false, not-true, not-false, eq-eqb, ne-eqb}
+use borrow.Author.Tests.{le-leb, lt-leb, lt-ltb, le-ltb, leb-true, leb-false, ltb-false, eqb-false, not-true, not-false}
 use Rattle.octets.specs.Walk.{more, last, stop, Walk, before}
 use Rattle.octets.proofs.Cases.{by-test, apart}
 use Rattle.octets.proofs.WalkLaws.{walk-stop, walk-last, walk-more, walk-ind}
@@ -257,24 +257,22 @@ module _ (family : Family) (v : List ℕ) (at previous : ℕ) where
   unfolding componentAt
   component-none h = rw (le-leb _ _ h)
 
-  pub component-zero : at < length v → getD v at 0 ≡ 0 → Refused 3 at ≡ componentAt family v at previous
-  unfolding componentAt
-  component-zero h e = rw (lt-leb _ _ h, eq-eqb _ _ e)
+  abbrev unknown : Bool
+  unknown = eqb (getD v at 0) 0 || ltb (family .highest) (getD v at 0)
 
-  pub component-above : at < length v → (getD v at 0 ≡ 0 → ⊥) → family .highest < getD v at 0 → Refused 3 at ≡ componentAt family v at previous
+  pub component-unknown : at < length v → unknown ≡ true → Refused 3 at ≡ componentAt family v at previous
   unfolding componentAt
-  component-above h z k = rw (lt-leb _ _ h, ne-eqb _ _ z, lt-ltb _ _ k)
+  component-unknown h t = rw (lt-leb _ _ h, t)
 
-  pub component-order : at < length v → (getD v at 0 ≡ 0 → ⊥) → getD v at 0 ≤ family .highest → getD v at 0 ≤ previous → Refused 4 at ≡ componentAt family v at previous
+  pub component-order : at < length v → unknown ≡ false → getD v at 0 ≤ previous → Refused 4 at ≡ componentAt family v at previous
   unfolding componentAt
-  component-order h z k l = rw (lt-leb _ _ h, ne-eqb _ _ z, le-ltb _ _ k, le-leb _ _ l)
+  component-order h t l = rw (lt-leb _ _ h, t, le-leb _ _ l)
 
-  module _ (within : at < length v) (given : getD v at 0 ≡ 0 → ⊥) (had : getD v at 0 ≤ family .highest) (rises : previous < getD v at 0)
-      (end : BodyEnd) (is : end ≡ bodyEnd family (getD v at 0) v (at + 1)) where
+  module _ (within : at < length v) (known : unknown ≡ false) (rises : previous < getD v at 0) (end : BodyEnd) (is : end ≡ bodyEnd family (getD v at 0) v (at + 1)) where
     pub component-whole : (next : ℕ) → end ≡ At next → Component (getD v at 0) next ≡ componentAt family v at previous
     unfolding componentAt
-    component-whole next e = rw (lt-leb _ _ within, ne-eqb _ _ given, le-ltb _ _ had, lt-leb _ _ rises, ← is, e)
+    component-whole next e = rw (lt-leb _ _ within, known, lt-leb _ _ rises, ← is, e)
 
     pub component-refused : (number place : ℕ) → end ≡ RefusedBody number place → Refused number place ≡ componentAt family v at previous
     unfolding componentAt
-    component-refused number place e = rw (lt-leb _ _ within, ne-eqb _ _ given, le-ltb _ _ had, lt-leb _ _ rises, ← is, e)
+    component-refused number place e = rw (lt-leb _ _ within, known, lt-leb _ _ rises, ← is, e)

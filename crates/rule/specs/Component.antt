@@ -1,7 +1,7 @@
 -- One component of a value (RFC 8955 section 4.2): what stands at a place, where it ends, and why it is refused. A component is its
 -- type octet and its body, all that follows up to its end. A refusal is a number of 01's table and a place in the value.
 use Prim.Native.Nat.{ℕ, _+_, _-_, _/_}
-use mathlib.Core.Bool.{cond}
+use mathlib.Core.Bool.{cond, _||_}
 use mathlib.Core.List.{List}
 use lib.Dec.{leb, ltb, eqb}
 use lib.ListN.{length, getD}
@@ -72,7 +72,6 @@ unfoldable pub componentAt : Family → List ℕ → ℕ → ℕ → Next
 componentAt family v at previous =
     let kind = getD v at 0 in
     cond (leb (length v) at) Nothing
-    (cond (eqb kind 0) (Refused 3 at)
-    (cond (ltb (family .highest) kind) (Refused 3 at)
+    (cond (eqb kind 0 || ltb (family .highest) kind) (Refused 3 at)
     (cond (leb kind previous) (Refused 4 at)
-    (found kind (bodyEnd family kind v (at + 1))))))
+    (found kind (bodyEnd family kind v (at + 1)))))

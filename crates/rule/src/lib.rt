@@ -243,13 +243,7 @@ pub fn component_at(family: Family, value: &[u8], at: usize, previous: u8) -> Ne
         return Next::Nothing;
     }
     let kind = value[at];
-    if kind == 0 {
-        return Next::Refused {
-            number: 3,
-            place: at,
-        };
-    }
-    if family.highest < kind {
+    if (kind == 0) | (family.highest < kind) {
         return Next::Refused {
             number: 3,
             place: at,

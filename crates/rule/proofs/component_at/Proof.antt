@@ -1,5 +1,5 @@
 -- One law for each return.
-use Rattle.rule.proofs.ComponentLaws.{component-none, component-zero, component-above, component-order, component-whole, component-refused}
+use Rattle.rule.proofs.ComponentLaws.{component-none, component-unknown, component-order, component-whole, component-refused}
 use borrow.Author.Needs.{needs}
 use Rattle.rule.proofs.component_at.Statement.{statement}
 use Rattle.rule.proofs.component_at.Tie as tie
@@ -14,13 +14,10 @@ shared-slice-read-kind : tie.Need-shared-slice-read-kind
 shared-slice-read-kind c = search needs
 
 returns-2 : tie.Need-returns-2
-returns-2 c = search (component-zero, needs)
+returns-2 c = search (component-unknown, needs)
 
 returns-3 : tie.Need-returns-3
-returns-3 c = search (component-above, needs)
-
-returns-4 : tie.Need-returns-4
-returns-4 c = search (component-order, needs)
+returns-3 c = search (component-order, needs)
 
 add-body-end : tie.Need-add-body-end
 add-body-end c = search needs
@@ -34,11 +31,11 @@ enum-known-next c = search needs
 enum-known-number : tie.Need-enum-known-number
 enum-known-number c = search needs
 
-returns-5 : tie.Need-returns-5
-returns-5 c = search (component-whole, needs)
+returns-4 : tie.Need-returns-4
+returns-4 c = search (component-whole, needs)
 
-returns-6 : tie.Need-returns-6
-returns-6 c = search (component-refused, needs)
+returns-5 : tie.Need-returns-5
+returns-5 c = search (component-refused, needs)
 
 pub component-at-spec : {M : Type 1} → statement M
 component-at-spec =
@@ -48,10 +45,9 @@ component-at-spec =
     shared-slice-read-kind
     returns-2
     returns-3
-    returns-4
     add-body-end
     body-end-requires
     enum-known-next
     enum-known-number
-    returns-5
-    returns-6)
+    returns-4
+    returns-5)
