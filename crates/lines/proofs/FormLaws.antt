@@ -4,26 +4,20 @@ use mathlib.Core.Bool.{Bool, true, false, _&&_}
 use mathlib.Core.List.{List, [], _∷_}
 use Prim.Native.Nat.{ℕ, _+_, _-_, _<_, _≤_}
 use native.Mathlib.Omega.{arith}
-use lib.Dec.{ltb, eqb}
+use lib.Dec.{ltb}
 use lib.ListN.{length, drop, length-drop}
 use borrow.Author.Tests.{ltb-true, lt-ltb, le-ltb}
 use Rattle.octets.proofs.Cases.{by-test}
 use Rattle.rule.specs.Value.{between}
 use Rattle.text.specs.Decimal.{startsWell, isNumber, numberIn}
-use Rattle.text.specs.Field.{fields, beforeTab, fieldEnd}
-use Rattle.text.proofs.FieldLaws.{fields-from}
+use Rattle.text.specs.Field.{fields, placeOf, fieldEnd}
+use Rattle.text.proofs.FieldLaws.{fields-from, place-within}
 use Rattle.lines.specs.declared.Field.{Field}
 use Rattle.lines.specs.declared.Field.the-variants.{Missing, At}
 use Rattle.lines.specs.declared.Number.{Number}
 use Rattle.lines.specs.declared.Number.the-variants.{NoNumber, Read}
 use Rattle.lines.specs.Line.{field}
 use Rattle.lines.specs.Form.{behind, fieldBehind, numberAt}
-
--- a tab stands within its text
-before-within : (t : List ℕ) → beforeTab t ≤ length t
-unfolding beforeTab
-before-within [] = omega arith
-before-within (x ∷ t) = by-test (eqb x 9) (λ e. rw e (omega arith)) (λ e. rw e (omega (arith, before-within t)))
 
 -- a field that is there: those behind it follow it
 pub record Fielded (line : List ℕ) (end start stop : ℕ) : Type 0 where
@@ -40,7 +34,7 @@ unfolding behind fieldBehind
 field-says line end =
     by-test (ltb end (length line))
     (λ t. let h = ltb-true end (length line) t in
-    let k : beforeTab (drop (end + 1) line) ≤ length line - (end + 1) = simp length-drop at (before-within (drop (end + 1) line)) in
+    let k : placeOf 9 (drop (end + 1) line) ≤ length line - (end + 1) = simp length-drop at (place-within 9 (drop (end + 1) line)) in
     rw t (record {
       is = rw t (fields-from line (end + 1) (fieldEnd line (end + 1)) (omega arith) refl);
       rising = omega arith;

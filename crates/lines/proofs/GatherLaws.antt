@@ -1,36 +1,23 @@
--- Gathering a line: the first LF of a block, and what is laid into the line's buffer. Assumes nothing.
+-- Gathering a line: what is laid into the line's buffer. Assumes nothing.
 use mathlib.Core.Path.{_≡_, refl, ap, sym, _∙_}
 use mathlib.Core.Bool.{true, false}
 use mathlib.Core.List.{List, [], _∷_}
 use Prim.Native.Nat.{ℕ, _+_, _-_, _<_, _≤_, min}
 use native.Mathlib.Omega.{arith}
-use native.Mathlib.Nat.{add-zero}
-use native.Mathlib.Numerals.{add-one}
 use native.Mathlib.Decide.{decLt}
-use lib.Dec.{ltb, eqb}
-use lib.ListN.{length, getD, take, drop, drop-of-length-le, length-take}
-use lib.Seq.{drop-cons, take-take, take-all}
-use borrow.Author.Tests.{eq-eqb, ne-eqb, lt-ltb, le-ltb, ltb-true, ltb-false}
+use lib.Dec.{ltb}
+use lib.ListN.{length, take, length-take}
+use lib.Seq.{take-take, take-all}
+use borrow.Author.Tests.{lt-ltb, le-ltb, ltb-true, ltb-false}
 use Rattle.octets.proofs.Cases.{by-test}
 use Rattle.octets.specs.Store.{stored}
 use Rattle.octets.proofs.StoreLaws.{stored-none}
+use Rattle.text.specs.Field.{placeOf}
 use Rattle.text.specs.Print.{laid}
+use Rattle.text.proofs.FieldLaws.{place-within}
 use Rattle.lines.specs.declared.Gathered.{Gathered}
-use Rattle.lines.specs.Gather.{beforeLf, gathered}
+use Rattle.lines.specs.Gather.{gathered}
 use Rattle.lines.specs.Promise.{Gathers}
-
--- the LF is not met yet
-pub lf-more : (s : List ℕ) (i r : ℕ) → i < length s → (getD s i 0 ≡ 10 → ⊥) → r ≡ i + beforeLf (drop i s) → r ≡ i + 1 + beforeLf (drop (i + 1) s)
-unfolding beforeLf
-lf-more s i r h z e = e ∙ rw (drop-cons s i 0 h, beforeLf, ne-eqb (getD s i 0) 10 z, add-one) (omega arith)
-
-pub lf-here : (s : List ℕ) (i r : ℕ) → i < length s → getD s i 0 ≡ 10 → r ≡ i + beforeLf (drop i s) → i ≡ r
-unfolding beforeLf
-lf-here s i r h z e = sym (e ∙ rw (drop-cons s i 0 h, beforeLf, eq-eqb (getD s i 0) 10 z) (add-zero i))
-
-pub lf-none : (s : List ℕ) (i r : ℕ) → length s ≤ i → r ≡ i + beforeLf (drop i s) → i ≡ r
-unfolding beforeLf
-lf-none s i r h e = sym (e ∙ rw (drop-of-length-le s h, beforeLf) (add-zero i))
 
 -- a part of a text, cut again
 take-min : (n m : ℕ) (s : List ℕ) → take n (take m s) ≡ take (min m n) s
@@ -56,11 +43,11 @@ laid-stored line block held size start count e f =
     ]
 
 -- where a block has an LF, and where it has none
-module _ (block line exit : List ℕ) (held size start count : ℕ) (at : size ≡ beforeLf block) (e : start ≡ min held (length line)) (f : count ≡ min size (length line - start)) (stores : exit ≡ stored line start (take count block)) where
+module _ (block line exit : List ℕ) (held size start count : ℕ) (at : size ≡ placeOf 10 block) (e : start ≡ min held (length line)) (f : count ≡ min size (length line - start)) (stores : exit ≡ stored line start (take count block)) where
   sums : start + count ≡ min (held + size) (length line)
   sums = omega arith
 
-  lays : exit ≡ laid line held (take (beforeLf block) block)
+  lays : exit ≡ laid line held (take (placeOf 10 block) block)
   lays = stores ∙ laid-stored line block held size start count e f ∙ ap (λ n. laid line held (take n block)) at
 
   pub gathered-ended : size < length block → Gathers block line held (record { taken = size + 1; held = start + count; ended = true }) exit (block ∷ [])
@@ -80,19 +67,14 @@ pub record Part (block line : List ℕ) (answer : Gathered) : Type 0 where
   pub within : answer .taken ≤ length block
   pub fits : answer .held ≤ length line
 
-lf-within : (s : List ℕ) → beforeLf s ≤ length s
-unfolding beforeLf
-lf-within [] = omega arith
-lf-within (x ∷ s) = by-test (eqb x 10) (λ e. rw e (omega arith)) (λ e. rw e (omega (arith, lf-within s)))
-
 pub part-of : (block line : List ℕ) (held : ℕ) (answer : Gathered) (exit : List ℕ) (kept : List (List ℕ)) → Gathers block line held answer exit kept → Part block line answer
 unfolding gathered
 part-of block line held answer exit kept gathers =
-    let h = lf-within block in
-    by-test (ltb (beforeLf block) (length block))
+    let h = place-within 10 block in
+    by-test (ltb (placeOf 10 block) (length block))
     (λ t. let e = rw t at (gathers .is) in
-    let k = ltb-true (beforeLf block) (length block) t in
+    let k = ltb-true (placeOf 10 block) (length block) t in
     rw e (record { some = λ z. omega arith; within = omega arith; fits = omega arith }))
     (λ t. let e = rw t at (gathers .is) in
-    let k = ltb-false (beforeLf block) (length block) t in
+    let k = ltb-false (placeOf 10 block) (length block) t in
     rw e (record { some = λ z. omega arith; within = omega arith; fits = omega arith }))

@@ -1,17 +1,13 @@
 -- Parting the input into lines. 01: "A line ends at LF, which the last may lack." The input comes in blocks, and a line is gathered in a
 -- buffer until its LF is met. What passes the buffer's end is dropped: a buffer of one octet more than a line may have still shows that a
 -- line is too long.
-use Prim.Native.Nat.{ℕ, suc, _+_, min}
+use Prim.Native.Nat.{ℕ, _+_, min}
 use mathlib.Core.Bool.{Bool, cond}
-use mathlib.Core.List.{List, [], _∷_}
-use lib.Dec.{ltb, eqb}
+use mathlib.Core.List.{List}
+use lib.Dec.{ltb}
 use lib.ListN.{length, take}
+use Rattle.text.specs.Field.{placeOf}
 use Rattle.text.specs.Print.{laid}
-
--- How many octets stand before the first LF, octet 10; all where there is none.
-unfoldable pub beforeLf : List ℕ → ℕ
-beforeLf [] = 0
-beforeLf (octet ∷ block) = cond (eqb octet 10) 0 (suc (beforeLf block))
 
 -- What gathering from a block leaves: how many octets of it were taken, the LF included; how many the line's buffer holds now; whether
 -- the line has ended; and the buffer.
@@ -21,10 +17,11 @@ pub record Gathering : Type 0 where
   pub ended : Bool
   pub line : List ℕ
 
--- The octets of a block before its first LF are laid into the line's buffer behind the `held` octets that it holds already.
+-- The octets of a block before its first LF, octet 10, or all of them where it has none, are laid into the line's buffer behind the `held`
+-- octets that it holds already.
 unfoldable pub gathered : List ℕ → List ℕ → ℕ → Gathering
 gathered block line held =
-    let size = beforeLf block in
+    let size = placeOf 10 block in
     let ended = ltb size (length block) in
     record {
       taken = cond ended (size + 1) size;

@@ -16,7 +16,6 @@ ghost use Rattle.lines.specs.Line.{mostSigns, isAddress, isRule, said, l
 ghost use Rattle.lines.specs.Form.{behind, fieldBehind, numberAt, Says};
 ghost use Rattle.lines.specs.Answer.{placeText, answerText, unknownText, changeText, countText, ruleText, rulesText, listText, mostText};
 ghost use Rattle.lines.specs.Serve.{routeFits, adding, Changes, Adds};
-ghost use Rattle.lines.specs.Gather.{beforeLf};
 ghost use Rattle.lines.specs.Promise.{Gathers, Serves};
 use flowspec::Change;
 use table::NextRecord;
@@ -87,25 +86,11 @@ fn least(a: usize, b: usize) -> usize
     if a < b { a } else { b }
 }
 
-// How many octets of a block stand before its first LF.
-fn before_lf(block: &[u8]) -> usize
-    ensures { λ r. ⌜ (r ≡ beforeLf (now (block .entry))) × (r ≤ length (now (block .entry))) ⌝ }
-{
-    let mut i = 0;
-    while i < block.len() {
-        if block[i] == b'\n' {
-            return i;
-        }
-        i += 1;
-    }
-    i
-}
-
 // Gathers a line: lays the octets of a block before its first LF behind those that the line's buffer holds, as far as it reaches.
 pub fn gather(block: &[u8], line: &mut [u8], held: usize) -> Gathered
     ensures { λ r. ⌜ Gathers (now (block .entry)) (now (line .entry)) held r (now (line .exit)) (now (block .exit) ∷ []) ⌝ }
 {
-    let size = before_lf(block);
+    let size = text::place_of(b'\n', block);
     let start = least(held, line.len());
     let count = least(size, line.len() - start);
     octets::store(line, start, &block[..count]);

@@ -16,14 +16,14 @@ unfoldable pub fields : List ℕ → List (List ℕ)
 fields [] = [] ∷ []
 fields (sign ∷ text) = cond (eqb sign 9) ([] ∷ fields text) (inFirst sign (fields text))
 
--- How many signs stand before the first tab of a text; all where it has none.
-unfoldable pub beforeTab : List ℕ → ℕ
-beforeTab [] = 0
-beforeTab (sign ∷ text) = cond (eqb sign 9) 0 (suc (beforeTab text))
+-- Where the first octet that is a mark stands: how many stand before it, which are all where there is none.
+unfoldable pub placeOf : ℕ → List ℕ → ℕ
+placeOf mark [] = 0
+placeOf mark (octet ∷ s) = cond (eqb octet mark) 0 (suc (placeOf mark s))
 
 -- Where the field of a line that begins at a place ends.
 abbrev pub fieldEnd : List ℕ → ℕ → ℕ
-fieldEnd line from = from + beforeTab (drop from line)
+fieldEnd line from = from + placeOf 9 (drop from line)
 
 -- Whether two texts are the same, sign by sign.
 unfoldable pub sameText : List ℕ → List ℕ → Bool

@@ -8,7 +8,7 @@ ghost use lib.ListN.{length};
 ghost use Rattle.text.specs.Spelling.{isFrom};
 ghost use Rattle.text.specs.Hex.{isHexDigit, hexValue, hexDigit, areOctets, octetsIn, hexOf, wordIn};
 ghost use Rattle.text.specs.Decimal.{startsWell, isNumber, numberIn, decimalOf};
-ghost use Rattle.text.specs.Field.{fieldEnd, sameText};
+ghost use Rattle.text.specs.Field.{placeOf, fieldEnd, sameText};
 ghost use Rattle.text.specs.Print.{laid};
 use octets::Order;
 use octets::compare_octets;
@@ -16,19 +16,27 @@ use octets::number_at;
 
 // ---- Fields ----
 
-// Where the field of a line that begins at a place ends: at the first tab from there on, or at the line's end.
-pub fn field_end(line: &[u8], from: usize) -> usize
-    requires { ⌜ from ≤ length (now line) ⌝ }
-    ensures { λ r. ⌜ (r ≡ fieldEnd (now (line .entry)) from) × (from ≤ r) × (r ≤ length (now (line .entry))) ⌝ }
+// Where the first octet that is a mark stands, or the end where there is none.
+pub fn place_of(mark: u8, s: &[u8]) -> usize
+    ensures { λ r. ⌜ (r ≡ placeOf mark (now (s .entry))) × (r ≤ length (now (s .entry))) ⌝ }
 {
-    let mut i = from;
-    while i < line.len() {
-        if line[i] == b'\t' {
+    let mut i = 0;
+    while i < s.len() {
+        if s[i] == mark {
             return i;
         }
         i += 1;
     }
     i
+}
+
+// Where the field of a line that begins at a place ends: at the first tab from there on, or at the line's end.
+pub fn field_end(line: &[u8], from: usize) -> usize
+    requires { ⌜ from ≤ length (now line) ⌝ }
+    ensures { λ r. ⌜ (r ≡ fieldEnd (now (line .entry)) from) × (from ≤ r) × (r ≤ length (now (line .entry))) ⌝ }
+{
+    let size = place_of(b'\t', &line[from..]);
+    from + size
 }
 
 // Whether two texts are the same.

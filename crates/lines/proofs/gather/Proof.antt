@@ -9,12 +9,12 @@ use Rattle.lines.proofs.gather.Statement.{statement}
 use Rattle.lines.proofs.gather.Tie as tie
 use Rattle.lines.proofs.gather.Reads as reads
 use Rattle.lines.proofs.gather.Lts as lts
-use Rattle.lines.proofs.before_lf.Reads as before-lf-reads
 use Rattle.lines.proofs.least.Reads as least-reads
 use Rattle.octets.proofs.store.Reads as store-reads
+use Rattle.text.proofs.place_of.Reads as place-of-reads
 
-before-lf-requires : tie.Need-before-lf-requires
-before-lf-requires c κs = search needs
+place-of-requires : tie.Need-place-of-requires
+place-of-requires c κs = search needs
 
 least-requires : tie.Need-least-requires
 least-requires c κs = search needs
@@ -42,20 +42,20 @@ same-length c = search needs
 
 returns : tie.Need-returns
 returns c =
-    gathered-ended _ _ _ _ _ _ _ (c .before .before .before .before .before .before .before .before .before-lf .ensures .0) (c .before .before .before .before .before .before .before .least .ensures) (c .before .before .before .before .before .before .least2 .ensures) (c .before .before .before .store .ensures) (c .if1 .taken)
+    gathered-ended _ _ _ _ _ _ _ (c .before .before .before .before .before .before .before .before .place-of .ensures .0) (c .before .before .before .before .before .before .before .least .ensures) (c .before .before .before .before .before .before .least2 .ensures) (c .before .before .before .store .ensures) (c .if1 .taken)
 
 same-length-2 : tie.Need-same-length-2
 same-length-2 c = search needs
 
 returns-2 : tie.Need-returns-2
 returns-2 c =
-    gathered-on _ _ _ _ _ _ _ (c .before .before .before .before .before .before .before .before .before-lf .ensures .0) (c .before .before .before .before .before .before .before .least .ensures) (c .before .before .before .before .before .before .least2 .ensures) (c .before .before .before .store .ensures) (c .if1 .left)
+    gathered-on _ _ _ _ _ _ _ (c .before .before .before .before .before .before .before .before .place-of .ensures .0) (c .before .before .before .before .before .before .before .least .ensures) (c .before .before .before .before .before .before .least2 .ensures) (c .before .before .before .store .ensures) (c .if1 .left)
 
 pub gather-spec : {M : Type 1} → statement M
 gather-spec =
     tie.close
     (tie.spec
-    before-lf-requires
+    place-of-requires
     least-requires
     sub-least
     least-requires-2

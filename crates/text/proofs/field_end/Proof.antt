@@ -1,50 +1,30 @@
--- No sign passed is a tab, so the end as seen from each place is the same.
+-- The place of the tab in the rest of the line, and what stands before that rest, give the end.
 use borrow.Author.Needs.{needs}
-use Prim.Native.Nat.{_≤_, _-_}
-use mathlib.Core.Path.{_≡_}
-use lib.ListN.{length}
-use Rattle.text.specs.Field.{fieldEnd}
-use Rattle.text.proofs.FieldLaws.{tab-more, tab-here, tab-none}
+use Rattle.text.proofs.FieldLaws.{field-ends}
 use Rattle.text.proofs.field_end.Statement.{statement}
 use Rattle.text.proofs.field_end.Tie as tie
+use Rattle.text.proofs.field_end.Reads as reads
+use Rattle.text.proofs.field_end.Lts as lts
+use Rattle.text.proofs.place_of.Reads as place-of-reads
 
-abbrev Inv-loop : tie.InvT-loop
-Inv-loop line from i₀ i = (from ≤ i) × (i ≤ length line) × (fieldEnd line from ≡ fieldEnd line i)
+sub-place-of : tie.Need-sub-place-of
+sub-place-of c = search needs
 
-abbrev μ-loop : tie.MeasureT-loop
-μ-loop line from i₀ i = length line - i
+part-place-of-start : tie.Need-part-place-of-start
+part-place-of-start c = search needs
 
-loop-holds : tie.Need-loop-holds Inv-loop μ-loop
-loop-holds c = search needs
+part-place-of-end : tie.Need-part-place-of-end
+part-place-of-end c = search needs
 
-shared-slice-read-if1 : tie.Need-shared-slice-read-if1 Inv-loop μ-loop
-shared-slice-read-if1 c = search needs
+place-of-requires : tie.Need-place-of-requires
+place-of-requires c κs = search needs
 
-returns : tie.Need-returns Inv-loop μ-loop
-returns c = search (tab-here, needs)
+add-result : tie.Need-add-result
+add-result c = search needs
 
-add-i : tie.Need-add-i Inv-loop μ-loop
-add-i c = search needs
-
-loop-less : tie.Need-loop-less Inv-loop μ-loop
-loop-less c = search needs
-
-loop-again : tie.Need-loop-again Inv-loop μ-loop
-loop-again c = search (tab-more, needs)
-
-returns-2 : tie.Need-returns-2 Inv-loop μ-loop
-returns-2 c = search (tab-none, needs)
+returns : tie.Need-returns
+returns c = field-ends _ _ _ (search needs) (c .place-of .ensures)
 
 pub field-end-spec : {M : Type 1} → statement M
 field-end-spec =
-    tie.close
-    (tie.spec
-    Inv-loop
-    μ-loop
-    loop-holds
-    shared-slice-read-if1
-    returns
-    add-i
-    loop-less
-    loop-again
-    returns-2)
+    tie.close (tie.spec sub-place-of part-place-of-start part-place-of-end place-of-requires add-result returns)
