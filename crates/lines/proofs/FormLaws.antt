@@ -1,6 +1,6 @@
 -- Reading a line: the fields behind a place, one after the other, and what the fields say as soon as one of them decides. Assumes nothing.
 use mathlib.Core.Path.{_≡_, refl, ap, sym, subst, _∙_}
-use mathlib.Core.Bool.{Bool, true, false, _&&_}
+use mathlib.Core.Bool.{true, false}
 use mathlib.Core.List.{List, [], _∷_}
 use Prim.Native.Nat.{ℕ, _+_, _-_, _<_, _≤_}
 use native.Mathlib.Omega.{arith}
@@ -114,8 +114,3 @@ not-at-end line end h e =
     let f = fields-from line (end + 1) (fieldEnd line (end + 1)) (omega arith) refl in
     let k : length (fields (drop (end + 1) line)) ≡ 0 = rw (lt-ltb end (length line) h) at e in
     absurd (omega (arith, ap length f))
-
--- what stands in every law of a failed test
-pub no-and : (b : Bool) → b && false ≡ false
-no-and true = refl
-no-and false = refl

@@ -1,8 +1,8 @@
 -- Serving a line: a route put behind the others, and what each form of a line leaves. Assumes nothing.
 use mathlib.Core.Path.{_≡_, refl, ap, sym, subst, _∙_}
-use mathlib.Core.Bool.{Bool, true, false, cond}
+use mathlib.Core.Bool.{Bool, true, false, cond, and-false}
 use mathlib.Core.List.{List, [], _∷_}
-use Prim.Native.Nat.{ℕ, suc, _+_, _-_, _*_, _<_, _≤_, min}
+use Prim.Native.Nat.{ℕ, suc, _+_, _*_, _<_, _≤_, min}
 use native.Mathlib.Omega.{arith}
 use native.Mathlib.Decide.{decLt}
 use lib.Dec.{leb}
@@ -28,7 +28,6 @@ use Rattle.lines.specs.Form.{formSays, FormIn, Says}
 use Rattle.lines.specs.Serve.{Outcome, mostWords, routeFits, printing, changing, adding, servedAs, served, Changes, Adds}
 use Rattle.lines.specs.Promise.{servedTold, Serves}
 use Rattle.lines.proofs.CutLaws.{too-long}
-use Rattle.lines.proofs.FormLaws.{no-and}
 
 -- a route is added, or not
 module _ (routes : List ℕ) (used address size originator neighbour : ℕ) where
@@ -43,7 +42,7 @@ module _ (routes : List ℕ) (used address size originator neighbour : ℕ) wher
   add-past h = not-added (rw (lt-leb (used + 4) mostWords (omega arith)))
 
   pub add-short : length routes < used + 4 → Added false routes
-  add-short h = not-added (rw (lt-leb (used + 4) (length routes) h, no-and (leb (used + 4) mostWords)))
+  add-short h = not-added (rw (lt-leb (used + 4) (length routes) h, and-false (leb (used + 4) mostWords)))
 
   pub add-done : used ≤ 16380 → used + 4 ≤ length routes
       → Added true (set (set (set (set routes used address) (used + 1) size) (used + 2) originator) (used + 3) neighbour)

@@ -5,9 +5,10 @@ use mathlib.Core.Bool.{Bool, cond, _&&_}
 use mathlib.Core.List.{List, []}
 use lib.Dec.{ltb, eqb}
 use lib.ListN.{length, getD}
+use Rattle.octets.specs.Test.{sameOctets}
 use Rattle.text.specs.Hex.{areOctets, octetsIn, wordIn}
 use Rattle.text.specs.Decimal.{isNumber, numberIn}
-use Rattle.text.specs.Field.{fields, sameText}
+use Rattle.text.specs.Field.{fields}
 use Rattle.text.specs.Spelling.{spelled}
 
 -- What a line says: a route to add (address, length, originator, neighbour AS), a rule to announce (the rule's octets, its originator,
@@ -38,21 +39,21 @@ isRule text = ltb 0 (length text) && areOctets text
 -- route, an address, its length, an originator and a neighbour AS, and no field more.
 abbrev pub isRouteLine : List (List ℕ) → Bool
 isRouteLine fs =
-    sameText (field 0 fs) (spelled "route")
+    sameOctets (field 0 fs) (spelled "route")
     && (isAddress (field 1 fs) && (isNumber (field 2 fs) && (isNumber (field 3 fs) && (isNumber (field 4 fs) && eqb (length fs) 5))))
 
 -- announce, a rule, its originator and its actions, and no field more: the actions field may be empty, not missing.
 abbrev pub isAnnounceLine : List (List ℕ) → Bool
 isAnnounceLine fs =
-    sameText (field 0 fs) (spelled "announce") && (isRule (field 1 fs) && (isNumber (field 2 fs) && (areOctets (field 3 fs) && eqb (length fs) 4)))
+    sameOctets (field 0 fs) (spelled "announce") && (isRule (field 1 fs) && (isNumber (field 2 fs) && (areOctets (field 3 fs) && eqb (length fs) 4)))
 
 -- "A withdraw line has the rule alone."
 abbrev pub isWithdrawLine : List (List ℕ) → Bool
-isWithdrawLine fs = sameText (field 0 fs) (spelled "withdraw") && (isRule (field 1 fs) && eqb (length fs) 2)
+isWithdrawLine fs = sameOctets (field 0 fs) (spelled "withdraw") && (isRule (field 1 fs) && eqb (length fs) 2)
 
 -- list, alone.
 abbrev pub isListLine : List (List ℕ) → Bool
-isListLine fs = sameText (field 0 fs) (spelled "list") && eqb (length fs) 1
+isListLine fs = sameOctets (field 0 fs) (spelled "list") && eqb (length fs) 1
 
 -- What the fields of a line say.
 unfoldable pub said : List (List ℕ) → Line

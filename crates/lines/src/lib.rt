@@ -260,16 +260,16 @@ fn read_line(line: &[u8]) -> Form
     }
     let end = text::field_end(line, 0);
     let word = &line[..end];
-    if text::same_text(word, b"route") {
+    if octets::same_octets(word, b"route") {
         return read_route(line, end);
     }
-    if text::same_text(word, b"announce") {
+    if octets::same_octets(word, b"announce") {
         return read_announce(line, end);
     }
-    if text::same_text(word, b"withdraw") {
+    if octets::same_octets(word, b"withdraw") {
         return read_withdraw(line, end);
     }
-    if text::same_text(word, b"list") {
+    if octets::same_octets(word, b"list") {
         return read_list(line, end);
     }
     Form::Unknown

@@ -1,7 +1,7 @@
 -- Numbers in decimal: that reading and writing a number are inverse to each other, how long a number is, and what a loop along a text
 -- knows at each turn. Assumes nothing.
 use mathlib.Core.Path.{_≡_, refl, sym, _∙_}
-use mathlib.Core.Bool.{and-eq-true-iff, Bool, true, false, _&&_, not}
+use mathlib.Core.Bool.{Bool, true, false, _&&_, not, and-false, and-eq-true-iff}
 use mathlib.Core.List.{List, [], _∷_, _++_, append-assoc, append-nil}
 use Prim.Native.Nat.{ℕ, zero, suc, _+_, _-_, _*_, _/_, _%_, _<_, _≤_, _^_}
 use native.Mathlib.Omega.{arith}
@@ -221,11 +221,7 @@ number-next t i n h = rw (drop-cons t i 0 h, numberFrom, add-one)
 
 -- what is past 32 bits stays so
 large : (n : ℕ) (t : List ℕ) → 2 ^ 32 ≤ n → goesOn n t ≡ false
-large n t h = rw (le-ltb (numberFrom n t) (2 ^ 32) (omega (arith, number-rises n t))) (never (every isDigit t))
-  where
-    never : (b : Bool) → b && false ≡ false
-    never true = refl
-    never false = refl
+large n t h = rw (le-ltb (numberFrom n t) (2 ^ 32) (omega (arith, number-rises n t))) (and-false (every isDigit t))
 
 -- the test of a number, from its first digit on
 module _ (t : List ℕ) (i n : ℕ) (r : Bool) (so-far : r ≡ goesOn n (drop i t)) where

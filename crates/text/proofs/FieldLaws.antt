@@ -1,23 +1,18 @@
--- The fields of a line: the first of them and those behind it, what a search for a mark knows at each turn, and that a text is the
--- same as another exactly when both are one list. Assumes nothing.
-use mathlib.Core.Path.{_≡_, refl, ap, sym, _∙_}
-use mathlib.Core.Bool.{Bool, true, false, cond}
+-- The fields of a line: the first of them and those behind it, and what a search for a mark knows at each turn. Assumes nothing.
+use mathlib.Core.Path.{_≡_, refl, sym, _∙_}
+use mathlib.Core.Bool.{cond}
 use mathlib.Core.List.{List, [], _∷_}
-use Prim.Native.Nat.{ℕ, suc, _+_, _-_, _<_, _≤_, compare, Ordering, Ordering·lt, Ordering·eq, Ordering·gt}
+use Prim.Native.Nat.{ℕ, suc, _+_, _-_, _<_, _≤_}
 use native.Mathlib.Omega.{arith}
 use native.Mathlib.Numerals.{add-one}
 use native.Mathlib.Nat.{add-zero}
 use native.Mathlib.Decide.{decLt}
-use lib.Dec.{eqb, ltb, isEq, leb·suc-suc}
+use lib.Dec.{eqb, ltb, leb·suc-suc}
 use lib.ListN.{length, getD, take, drop, length-drop, drop-of-length-le}
 use lib.Seq.{drop-cons, drop-drop, take-all}
 use borrow.Author.Tests.{lt-ltb, le-ltb, eq-eqb, ne-eqb}
-use Rattle.octets.specs.declared.Order.{Order}
-use Rattle.octets.specs.declared.Order.the-variants.{First, Second, Same}
-use Rattle.octets.specs.Order.{lex, ordered}
-use Rattle.octets.proofs.OrderLaws.{nat-order, lex-order}
-use Rattle.octets.proofs.Cases.{by-test, apart}
-use Rattle.text.specs.Field.{fields, placeOf, fieldEnd, sameText}
+use Rattle.octets.proofs.Cases.{by-test}
+use Rattle.text.specs.Field.{fields, placeOf, fieldEnd}
 
 -- the first field of a text, and those behind its tab
 fields-first : (t : List ℕ) → fields t ≡ take (placeOf 9 t) t ∷ cond (ltb (placeOf 9 t) (length t)) (fields (drop (placeOf 9 t + 1) t)) []
@@ -72,32 +67,3 @@ module _ (mark : ℕ) (s : List ℕ) (i r : ℕ) (so-far : r ≡ i + placeOf mar
   pub mark-none : length s ≤ i → i ≡ r
   unfolding placeOf
   mark-none h = sym (so-far ∙ rw (drop-of-length-le s h, placeOf) (add-zero i))
-
--- a text is the same as another exactly when both are one list
-pub same-text : (a b : List ℕ) → sameText a b ≡ true → a ≡ b
-unfolding sameText
-same-text a b e = lex-order compare nat-order .only a b (tie (lex compare a b) e)
-  where
-    tie : (o : Ordering) → isEq o ≡ true → o ≡ Ordering·eq
-    tie Ordering·lt e = apart (cc)
-    tie Ordering·eq e = refl
-    tie Ordering·gt e = apart (cc)
-
-pub text-same : (a : List ℕ) → sameText a a ≡ true
-unfolding sameText
-text-same a = rw (lex-order compare nat-order .same a)
-
--- what a comparison says of it
-abbrev pub isSame : Order → Bool
-isSame First = false
-isSame Second = false
-isSame Same = true
-
-pub compared : (r : Order) (a b : List ℕ) → r ≡ ordered (lex compare a b) → isSame r ≡ sameText a b
-unfolding sameText
-compared r a b e = ap isSame e ∙ by (lex compare a b)
-  where
-    by : (o : Ordering) → isSame (ordered o) ≡ isEq o
-    by Ordering·lt = refl
-    by Ordering·eq = refl
-    by Ordering·gt = refl

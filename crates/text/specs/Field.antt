@@ -1,10 +1,9 @@
 -- The fields of a line (01: "lines with fields parted by tabs"). A text with no tab is one field, and so is an empty text.
-use Prim.Native.Nat.{ℕ, suc, _+_, compare}
-use mathlib.Core.Bool.{Bool, cond}
+use Prim.Native.Nat.{ℕ, suc, _+_}
+use mathlib.Core.Bool.{cond}
 use mathlib.Core.List.{List, [], _∷_}
-use lib.Dec.{eqb, isEq}
+use lib.Dec.{eqb}
 use lib.ListN.{drop}
-use Rattle.octets.specs.Order.{lex}
 
 -- A sign in front of the first field.
 abbrev pub inFirst : ℕ → List (List ℕ) → List (List ℕ)
@@ -24,7 +23,3 @@ placeOf mark (octet ∷ s) = cond (eqb octet mark) 0 (suc (placeOf mark s))
 -- Where the field of a line that begins at a place ends.
 abbrev pub fieldEnd : List ℕ → ℕ → ℕ
 fieldEnd line from = from + placeOf 9 (drop from line)
-
--- Whether two texts are the same, sign by sign.
-unfoldable pub sameText : List ℕ → List ℕ → Bool
-sameText a b = isEq (lex compare a b)

@@ -8,10 +8,8 @@ ghost use lib.ListN.{length};
 ghost use Rattle.text.specs.Spelling.{isFrom};
 ghost use Rattle.text.specs.Hex.{isHexDigit, hexValue, hexDigit, areOctets, octetsIn, hexOf, wordIn};
 ghost use Rattle.text.specs.Decimal.{startsWell, isNumber, numberIn, decimalOf};
-ghost use Rattle.text.specs.Field.{placeOf, fieldEnd, sameText};
+ghost use Rattle.text.specs.Field.{placeOf, fieldEnd};
 ghost use Rattle.text.specs.Print.{laid};
-use octets::Order;
-use octets::compare_octets;
 use octets::number_at;
 
 // ---- Fields ----
@@ -37,17 +35,6 @@ pub fn field_end(line: &[u8], from: usize) -> usize
 {
     let size = place_of(b'\t', &line[from..]);
     from + size
-}
-
-// Whether two texts are the same.
-pub fn same_text(a: &[u8], b: &[u8]) -> bool
-    ensures { λ r. ⌜ r ≡ sameText (now (a .entry)) (now (b .entry)) ⌝ }
-{
-    match compare_octets(a, b) {
-        Order::Same => true,
-        Order::First => false,
-        Order::Second => false,
-    }
 }
 
 // ---- Signs ----
