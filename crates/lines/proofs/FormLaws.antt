@@ -1,116 +1,84 @@
--- Reading a line: the fields behind a place, one after the other, and what the fields say as soon as one of them decides. Assumes nothing.
-use mathlib.Core.Path.{_≡_, refl, ap, sym, subst, _∙_}
-use mathlib.Core.Bool.{true, false}
+-- Reading a line: the fields behind a place, one after the other, and whether they are of the kinds that they are to be. Assumes nothing.
+use mathlib.Core.Path.{_≡_, refl, sym, subst, _∙_}
+use mathlib.Core.Bool.{Bool, true, false}
 use mathlib.Core.List.{List, [], _∷_}
-use Prim.Native.Nat.{ℕ, _+_, _-_, _<_, _≤_}
+use Prim.Native.Nat.{ℕ, _+_, _<_, _≤_}
 use native.Mathlib.Omega.{arith}
-use lib.Dec.{ltb}
-use lib.ListN.{length, drop, length-drop}
-use borrow.Author.Tests.{ltb-true, lt-ltb, le-ltb}
-use Rattle.octets.proofs.Cases.{by-test}
+use lib.ListN.{length}
+use borrow.Author.Tests.{lt-ltb, le-ltb}
 use Rattle.rule.specs.Value.{between}
-use Rattle.text.specs.Decimal.{startsWell, isNumber, numberIn}
-use Rattle.text.specs.Field.{fields, placeOf, fieldEnd}
-use Rattle.text.proofs.FieldLaws.{fields-from, place-within}
+use Rattle.text.specs.Decimal.{isNumber, numberIn}
+use Rattle.text.specs.Field.{fields, fieldEnd}
+use Rattle.text.proofs.FieldLaws.{fields-from}
+use Rattle.lines.specs.declared.Kind.{Kind}
 use Rattle.lines.specs.declared.Field.{Field}
 use Rattle.lines.specs.declared.Field.the-variants.{Missing, At}
 use Rattle.lines.specs.declared.Number.{Number}
 use Rattle.lines.specs.declared.Number.the-variants.{NoNumber, Read}
-use Rattle.lines.specs.Line.{field}
-use Rattle.lines.specs.Form.{behind, fieldBehind, numberAt}
+use Rattle.lines.specs.Line.{areOf}
+use Rattle.lines.specs.Form.{behind, isOf, firstIs, Fielded, FieldSays, Numbered, NumberSays}
 
--- a field that is there: those behind it follow it
-pub record Fielded (line : List ℕ) (end start stop : ℕ) : Type 0 where
-  pub is : behind line end ≡ between line start stop ∷ behind line stop
-  pub rising : start ≤ stop
-  pub within : stop ≤ length line
+-- a kind and the answer of its test
+pub kind-is : (kind given : Kind) (text : List ℕ) {r : Bool} → kind ≡ given → r ≡ isOf given text → r ≡ isOf kind text
+kind-is kind given text e h = rw e h
 
-abbrev FieldSays : List ℕ → ℕ → Field → Type 0
-FieldSays line end Missing = behind line end ≡ []
-FieldSays line end (At start stop) = Fielded line end start stop
-
-field-says : (line : List ℕ) (end : ℕ) → FieldSays line end (fieldBehind line end)
-unfolding behind fieldBehind
-field-says line end =
-    by-test (ltb end (length line))
-    (λ t. let h = ltb-true end (length line) t in
-    let k : placeOf 9 (drop (end + 1) line) ≤ length line - (end + 1) = simp length-drop at (place-within 9 (drop (end + 1) line)) in
-    rw t (record {
-      is = rw t (fields-from line (end + 1) (fieldEnd line (end + 1)) (omega arith) refl);
-      rising = omega arith;
-      within = omega arith;
-    }))
-    (λ t. rw t (rw t))
-
--- how `field_behind` comes to its answers
-module _ (line : List ℕ) (end : ℕ) where
-  pub field-none : length line ≤ end → Missing ≡ fieldBehind line end
-  unfolding fieldBehind
-  field-none h = rw (le-ltb end (length line) h)
-
-  pub field-some : (stop : ℕ) → end < length line → stop ≡ fieldEnd line (end + 1) → At (end + 1) stop ≡ fieldBehind line end
-  unfolding fieldBehind
-  field-some stop h e = rw (lt-ltb end (length line) h, e)
-
-module _ (line : List ℕ) (end : ℕ) (field : Field) (e : field ≡ fieldBehind line end) where
-  pub was-missing : field ≡ Missing → behind line end ≡ []
-  was-missing h = subst (FieldSays line end) (sym e ∙ h) (field-says line end)
-
-  pub was-there : (start stop : ℕ) → field ≡ At start stop → Fielded line end start stop
-  was-there start stop h = subst (FieldSays line end) (sym e ∙ h) (field-says line end)
-
--- how `number_behind` comes to its answers
-module _ (line : List ℕ) (end : ℕ) (field : Field) (e : field ≡ fieldBehind line end) where
-  pub number-missing : field ≡ Missing → NoNumber ≡ numberAt line (fieldBehind line end)
-  number-missing h = rw (← e, h)
-
-  module _ (start stop : ℕ) (h : field ≡ At start stop) where
-    pub number-not : isNumber (between line start stop) ≡ false → NoNumber ≡ numberAt line (fieldBehind line end)
-    number-not n = rw (← e, h, n)
-
-    pub number-found : isNumber (between line start stop) ≡ true → (number : ℕ) → number ≡ numberIn (between line start stop)
-        → Read number stop ≡ numberAt line (fieldBehind line end)
-    number-found n number is = rw (← e, h, n, is)
-
--- a field that is a number
-pub record Numbered (line : List ℕ) (end number stop : ℕ) : Type 0 where
-  pub digits : List ℕ
-  pub is : behind line end ≡ digits ∷ behind line stop
-  pub good : isNumber digits ≡ true
-  pub says : numberIn digits ≡ number
-  pub within : stop ≤ length line
-
-abbrev NumberSays : List ℕ → ℕ → Number → Type 0
-NumberSays line end NoNumber = isNumber (field 0 (behind line end)) ≡ false
-NumberSays line end (Read number stop) = Numbered line end number stop
-
-number-says : (line : List ℕ) (end : ℕ) → NumberSays line end (numberAt line (fieldBehind line end))
-unfolding isNumber startsWell
-number-says line end = go (fieldBehind line end) (field-says line end)
-  where
-    go : (f : Field) → FieldSays line end f → NumberSays line end (numberAt line f)
-    go Missing e = rw e
-    go (At start stop) e =
-        by-test (isNumber (between line start stop))
-        (λ t. rw t (record { digits = between line start stop; is = e .is; good = t; says = refl; within = e .within }))
-        (λ t. rw t (rw (e .is) t))
-
-module _ (line : List ℕ) (end : ℕ) (number : Number) (e : number ≡ numberAt line (fieldBehind line end)) where
-  pub was-no-number : number ≡ NoNumber → isNumber (field 0 (behind line end)) ≡ false
-  was-no-number h = subst (NumberSays line end) (sym e ∙ h) (number-says line end)
-
-  pub was-number : (n stop : ℕ) → number ≡ Read n stop → Numbered line end n stop
-  was-number n stop h = subst (NumberSays line end) (sym e ∙ h) (number-says line end)
-
--- where the last field ends nothing is behind it
+-- behind the line's end is no field, and before it is one, with the others behind it
 pub at-end : (line : List ℕ) (end : ℕ) → length line ≤ end → behind line end ≡ []
 unfolding behind
 at-end line end h = rw (le-ltb end (length line) h)
 
--- and where it does not, something is
-pub not-at-end : (line : List ℕ) (end : ℕ) → end < length line → (length (behind line end) ≡ 0 → ⊥)
+next-field : (line : List ℕ) (end stop : ℕ) → end < length line → stop ≡ fieldEnd line (end + 1) → behind line end ≡ between line (end + 1) stop ∷ behind line stop
 unfolding behind
-not-at-end line end h e =
-    let f = fields-from line (end + 1) (fieldEnd line (end + 1)) (omega arith) refl in
-    let k : length (fields (drop (end + 1) line)) ≡ 0 = rw (lt-ltb end (length line) h) at e in
-    absurd (omega (arith, ap length f))
+next-field line end stop h e = rw (lt-ltb end (length line) h) (fields-from line (end + 1) stop (omega arith) e)
+
+-- whether the fields behind a place are of their kinds: the first field decides, or leaves it to those behind it
+module _ (test : List ℕ → Bool) (kinds : List (List ℕ → Bool)) where
+  fails : (fs : List (List ℕ)) → firstIs test fs ≡ false → areOf (test ∷ kinds) fs ≡ false
+  unfolding areOf
+  fails [] e = refl
+  fails (text ∷ fs) e = rw e
+
+  pub passes : (line : List ℕ) (end start stop : ℕ) → Fielded test line end start stop → areOf (test ∷ kinds) (behind line end) ≡ areOf kinds (behind line stop)
+  unfolding areOf
+  passes line end start stop f = rw (f .is, f .good)
+
+-- and a line that goes on where no kind is left decides too
+pub goes-on : (line : List ℕ) (end : ℕ) → end < length line → areOf [] (behind line end) ≡ false
+unfolding areOf
+goes-on line end h = rw (next-field line end (fieldEnd line (end + 1)) h refl)
+
+-- how `field_behind` comes to its answers
+module _ (test : List ℕ → Bool) (line : List ℕ) (end : ℕ) where
+  pub field-none : length line ≤ end → FieldSays test line end Missing
+  field-none h = rw (at-end line end h)
+
+  module _ (inside : end < length line) (stop : ℕ) (ends : (stop ≡ fieldEnd line (end + 1)) × (end + 1 ≤ stop) × (stop ≤ length line))
+      (found : Bool) (is : found ≡ test (between line (end + 1) stop)) where
+    pub field-not : found ≡ false → FieldSays test line end Missing
+    field-not f = rw (next-field line end stop inside (ends .0)) (sym is ∙ f)
+
+    pub field-some : found ≡ true → FieldSays test line end (At (end + 1) stop)
+    field-some f = record { is = next-field line end stop inside (ends .0); good = sym is ∙ f; rising = ends .1; within = ends .2 }
+
+-- what its answers say
+module _ (test : List ℕ → Bool) (line : List ℕ) (end : ℕ) (field : Field) (says : FieldSays test line end field) where
+  pub was-missing : field ≡ Missing → firstIs test (behind line end) ≡ false
+  was-missing h = subst (FieldSays test line end) h says
+
+  pub field-fails : (kinds : List (List ℕ → Bool)) → field ≡ Missing → areOf (test ∷ kinds) (behind line end) ≡ false
+  field-fails kinds h = fails test kinds (behind line end) (was-missing h)
+
+  pub was-there : (start stop : ℕ) → field ≡ At start stop → Fielded test line end start stop
+  was-there start stop h = subst (FieldSays test line end) h says
+
+-- the number in a field that is one
+pub numbered : (line : List ℕ) (end start stop number : ℕ) → Fielded isNumber line end start stop → number ≡ numberIn (between line start stop)
+    → NumberSays line end (Read number stop)
+numbered line end start stop number f e = record { start = start; there = f; says = sym e }
+
+module _ (line : List ℕ) (end : ℕ) (number : Number) (says : NumberSays line end number) where
+  pub number-fails : (kinds : List (List ℕ → Bool)) → number ≡ NoNumber → areOf (isNumber ∷ kinds) (behind line end) ≡ false
+  number-fails kinds h = fails isNumber kinds (behind line end) (subst (NumberSays line end) h says)
+
+  pub was-number : (n stop : ℕ) → number ≡ Read n stop → Numbered line end n stop
+  was-number n stop h = subst (NumberSays line end) h says

@@ -2,34 +2,62 @@
 -- the code's own; what is promised stands in Line.antt.
 use Prim.Native.Nat.{ℕ, _+_, _≤_}
 use mathlib.Core.Path.{_≡_}
-use mathlib.Core.Bool.{cond}
-use mathlib.Core.List.{List, []}
+use mathlib.Core.Bool.{Bool, true, false, cond}
+use mathlib.Core.List.{List, [], _∷_}
 use lib.Dec.{ltb}
 use lib.ListN.{length, drop}
 use Rattle.rule.specs.Value.{between}
-use Rattle.text.specs.Hex.{octetsIn}
+use Rattle.text.specs.Hex.{areOctets, octetsIn}
 use Rattle.text.specs.Decimal.{isNumber, numberIn}
-use Rattle.text.specs.Field.{fields, fieldEnd}
+use Rattle.text.specs.Field.{fields}
+use Rattle.lines.specs.declared.Kind.{Kind}
+use Rattle.lines.specs.declared.Kind.the-variants.{Address, Rule, Decimal, Actions}
 use Rattle.lines.specs.declared.Field.{Field}
 use Rattle.lines.specs.declared.Field.the-variants.{Missing, At}
 use Rattle.lines.specs.declared.Number.{Number}
 use Rattle.lines.specs.declared.Number.the-variants.{NoNumber, Read}
 use Rattle.lines.specs.declared.Form.{Form}
 use Rattle.lines.specs.declared.Form.the-variants.{Route, Announce, Withdraw, Listing, Unknown}
-use Rattle.lines.specs.Line.{Line, route, announce, withdraw, list, other}
+use Rattle.lines.specs.Line.{Line, route, announce, withdraw, list, other, isAddress, isRule}
 
 -- The fields behind the one that ends at a place; none where the line ends there.
 unfoldable pub behind : List ℕ → ℕ → List (List ℕ)
 behind line end = cond (ltb end (length line)) (fields (drop (end + 1) line)) []
 
--- The first of them, by its places.
-unfoldable pub fieldBehind : List ℕ → ℕ → Field
-fieldBehind line end = cond (ltb end (length line)) (At (end + 1) (fieldEnd line (end + 1))) Missing
+-- The test of a kind of field.
+abbrev pub isOf : Kind → List ℕ → Bool
+isOf Address = isAddress
+isOf Rule = isRule
+isOf Decimal = isNumber
+isOf Actions = areOctets
 
--- The number that a field spells, with the place where it ends.
-abbrev pub numberAt : List ℕ → Field → Number
-numberAt line Missing = NoNumber
-numberAt line (At start end) = cond (isNumber (between line start end)) (Read (numberIn (between line start end)) end) NoNumber
+-- Whether there is a first field and it passes a test.
+abbrev pub firstIs : (List ℕ → Bool) → List (List ℕ) → Bool
+firstIs test [] = false
+firstIs test (text ∷ fs) = test text
+
+-- A field from `start` to `stop` is the first behind the one that ends at a place, passes a test, and has the others behind it.
+pub record Fielded (test : List ℕ → Bool) (line : List ℕ) (end start stop : ℕ) : Type 0 where
+  pub is : behind line end ≡ between line start stop ∷ behind line stop
+  pub good : test (between line start stop) ≡ true
+  pub rising : start ≤ stop
+  pub within : stop ≤ length line
+
+-- How the code holds the first field behind a place, if it passes a test.
+abbrev pub FieldSays : (List ℕ → Bool) → List ℕ → ℕ → Field → Type 0
+FieldSays test line end Missing = firstIs test (behind line end) ≡ false
+FieldSays test line end (At start stop) = Fielded test line end start stop
+
+-- A field that is a number.
+pub record Numbered (line : List ℕ) (end number stop : ℕ) : Type 0 where
+  pub start : ℕ
+  pub there : Fielded isNumber line end start stop
+  pub says : numberIn (between line start stop) ≡ number
+
+-- How the code holds the number in it.
+abbrev pub NumberSays : List ℕ → ℕ → Number → Type 0
+NumberSays line end NoNumber = firstIs isNumber (behind line end) ≡ false
+NumberSays line end (Read number stop) = Numbered line end number stop
 
 -- What a form says of its line.
 abbrev pub formSays : List ℕ → Form → Line

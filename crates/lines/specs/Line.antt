@@ -1,8 +1,9 @@
 -- What a line says. 01: "A program reads lines with fields parted by tabs (route, announce, withdraw, list)." A line stands here without
 -- the LF that ends it.
 use Prim.Native.Nat.{ℕ}
-use mathlib.Core.Bool.{Bool, cond, _&&_}
-use mathlib.Core.List.{List, []}
+use Prim.Native.String.{String}
+use mathlib.Core.Bool.{Bool, true, false, cond, _&&_}
+use mathlib.Core.List.{List, [], _∷_}
 use lib.Dec.{ltb, eqb}
 use lib.ListN.{length, getD}
 use Rattle.octets.specs.Test.{sameOctets}
@@ -28,6 +29,10 @@ mostSigns = 16384
 abbrev pub field : ℕ → List (List ℕ) → List ℕ
 field n fs = getD fs n []
 
+-- The quoted word.
+abbrev pub isWord : String → List ℕ → Bool
+isWord word text = sameOctets text (spelled word)
+
 -- An address: exactly eight hex digits.
 abbrev pub isAddress : List ℕ → Bool
 isAddress text = eqb (length text) 8 && areOctets text
@@ -36,24 +41,28 @@ isAddress text = eqb (length text) 8 && areOctets text
 abbrev pub isRule : List ℕ → Bool
 isRule text = ltb 0 (length text) && areOctets text
 
--- route, an address, its length, an originator and a neighbour AS, and no field more.
-abbrev pub isRouteLine : List (List ℕ) → Bool
-isRouteLine fs =
-    sameOctets (field 0 fs) (spelled "route")
-    && (isAddress (field 1 fs) && (isNumber (field 2 fs) && (isNumber (field 3 fs) && (isNumber (field 4 fs) && eqb (length fs) 5))))
+-- Fields of these kinds, one of each in their order, and no field more.
+unfoldable pub areOf : List (List ℕ → Bool) → List (List ℕ) → Bool
+areOf [] [] = true
+areOf [] (text ∷ fs) = false
+areOf (kind ∷ kinds) [] = false
+areOf (kind ∷ kinds) (text ∷ fs) = kind text && areOf kinds fs
 
--- announce, a rule, its originator and its actions, and no field more: the actions field may be empty, not missing.
+-- route, an address, its length, an originator and a neighbour AS.
+abbrev pub isRouteLine : List (List ℕ) → Bool
+isRouteLine fs = areOf (isWord "route" ∷ isAddress ∷ isNumber ∷ isNumber ∷ isNumber ∷ []) fs
+
+-- announce, a rule, its originator and its actions: the actions field may be empty, not missing.
 abbrev pub isAnnounceLine : List (List ℕ) → Bool
-isAnnounceLine fs =
-    sameOctets (field 0 fs) (spelled "announce") && (isRule (field 1 fs) && (isNumber (field 2 fs) && (areOctets (field 3 fs) && eqb (length fs) 4)))
+isAnnounceLine fs = areOf (isWord "announce" ∷ isRule ∷ isNumber ∷ areOctets ∷ []) fs
 
 -- "A withdraw line has the rule alone."
 abbrev pub isWithdrawLine : List (List ℕ) → Bool
-isWithdrawLine fs = sameOctets (field 0 fs) (spelled "withdraw") && (isRule (field 1 fs) && eqb (length fs) 2)
+isWithdrawLine fs = areOf (isWord "withdraw" ∷ isRule ∷ []) fs
 
 -- list, alone.
 abbrev pub isListLine : List (List ℕ) → Bool
-isListLine fs = sameOctets (field 0 fs) (spelled "list") && eqb (length fs) 1
+isListLine fs = areOf (isWord "list" ∷ []) fs
 
 -- What the fields of a line say.
 unfoldable pub said : List (List ℕ) → Line

@@ -13,7 +13,7 @@ ghost use Rattle.text.specs.Spelling.{spelled};
 ghost use Rattle.text.specs.Hex.{octetsIn};
 ghost use Rattle.text.specs.Print.{laid};
 ghost use Rattle.lines.specs.Line.{mostSigns, isAddress, isRule, said, lineOf};
-ghost use Rattle.lines.specs.Form.{behind, fieldBehind, numberAt, Says};
+ghost use Rattle.lines.specs.Form.{behind, isOf, FieldSays, NumberSays, Says};
 ghost use Rattle.lines.specs.Answer.{placeText, answerText, unknownText, changeText, countText, ruleText, rulesText, listText, mostText};
 ghost use Rattle.lines.specs.Serve.{routeFits, adding, Changes, Adds};
 ghost use Rattle.lines.specs.Promise.{Gathers, Serves};
@@ -46,7 +46,15 @@ pub struct Gathered {
     pub ended: bool,
 }
 
-// A field of a line, by the places where it begins and ends, or that there is none.
+// What a field of a line is to be.
+pub enum Kind {
+    Address,
+    Rule,
+    Decimal,
+    Actions,
+}
+
+// A field of a line, by the places where it begins and ends, or that there is none of its kind.
 pub enum Field {
     Missing,
     At { start: usize, end: usize },
@@ -131,45 +139,51 @@ fn is_rule(field: &[u8]) -> bool
     text::are_octets(field)
 }
 
-// The field of a line behind the one that ends at a place.
-fn field_behind(line: &[u8], end: usize) -> Field
-    ensures { λ r. ⌜ r ≡ fieldBehind (now (line .entry)) end ⌝ }
+// Whether a field is of a kind.
+fn is_of(kind: Kind, field: &[u8]) -> bool
+    ensures { λ r. ⌜ r ≡ isOf kind (now (field .entry)) ⌝ }
+{
+    match kind {
+        Kind::Address => is_address(field),
+        Kind::Rule => is_rule(field),
+        Kind::Decimal => text::is_number(field),
+        Kind::Actions => text::are_octets(field),
+    }
+}
+
+// The field of a line behind the one that ends at a place, if it is of a kind.
+fn field_behind(kind: Kind, line: &[u8], end: usize) -> Field
+    ensures { λ r. ⌜ FieldSays (isOf kind) (now (line .entry)) end r ⌝ }
 {
     if line.len() <= end {
         return Field::Missing;
     }
     let start = end + 1;
     let stop = text::field_end(line, start);
-    Field::At { start, end: stop }
+    if is_of(kind, &line[start..stop]) {
+        return Field::At { start, end: stop };
+    }
+    Field::Missing
 }
 
 // The number in the field of a line behind the one that ends at a place.
 fn number_behind(line: &[u8], end: usize) -> Number
-    ensures { λ r. ⌜ r ≡ numberAt (now (line .entry)) (fieldBehind (now (line .entry)) end) ⌝ }
+    ensures { λ r. ⌜ NumberSays (now (line .entry)) end r ⌝ }
 {
-    match field_behind(line, end) {
-        Field::Missing => Number::NoNumber,
-        Field::At { start, end: stop } => {
-            let digits = &line[start..stop];
-            if !text::is_number(digits) {
-                return Number::NoNumber;
-            }
-            let number = text::number_in(digits);
-            Number::Read(number, stop)
-        }
-    }
+    let Field::At { start, end: stop } = field_behind(Kind::Decimal, line, end) else {
+        return Number::NoNumber;
+    };
+    let number = text::number_in(&line[start..stop]);
+    Number::Read(number, stop)
 }
 
 // What a line says whose first field, which ends at a place, is `route`.
 fn read_route(line: &[u8], word: usize) -> Form
     ensures { λ r. ⌜ Says (now (line .entry)) r (said (spelled "route" ∷ behind (now (line .entry)) word)) ⌝ }
 {
-    let Field::At { start, end } = field_behind(line, word) else {
+    let Field::At { start, end } = field_behind(Kind::Address, line, word) else {
         return Form::Unknown;
     };
-    if !is_address(&line[start..end]) {
-        return Form::Unknown;
-    }
     let Number::Read(size, size_end) = number_behind(line, end) else {
         return Form::Unknown;
     };
@@ -195,32 +209,26 @@ fn read_route(line: &[u8], word: usize) -> Form
 fn read_announce(line: &[u8], word: usize) -> Form
     ensures { λ r. ⌜ Says (now (line .entry)) r (said (spelled "announce" ∷ behind (now (line .entry)) word)) ⌝ }
 {
-    let Field::At { start, end } = field_behind(line, word) else {
+    let Field::At { start, end } = field_behind(Kind::Rule, line, word) else {
         return Form::Unknown;
     };
-    if !is_rule(&line[start..end]) {
-        return Form::Unknown;
-    }
-    let Number::Read(number, stop) = number_behind(line, end) else {
+    let Number::Read(originator, stop) = number_behind(line, end) else {
         return Form::Unknown;
     };
     let Field::At {
         start: communities,
         end: last,
-    } = field_behind(line, stop)
+    } = field_behind(Kind::Actions, line, stop)
     else {
         return Form::Unknown;
     };
     if last < line.len() {
         return Form::Unknown;
     }
-    if !text::are_octets(&line[communities..]) {
-        return Form::Unknown;
-    }
     Form::Announce {
         rule: start,
         rule_end: end,
-        originator: number,
+        originator,
         communities,
     }
 }
@@ -229,13 +237,10 @@ fn read_announce(line: &[u8], word: usize) -> Form
 fn read_withdraw(line: &[u8], word: usize) -> Form
     ensures { λ r. ⌜ Says (now (line .entry)) r (said (spelled "withdraw" ∷ behind (now (line .entry)) word)) ⌝ }
 {
-    let Field::At { start, end } = field_behind(line, word) else {
+    let Field::At { start, end } = field_behind(Kind::Rule, line, word) else {
         return Form::Unknown;
     };
     if end < line.len() {
-        return Form::Unknown;
-    }
-    if !is_rule(&line[start..]) {
         return Form::Unknown;
     }
     Form::Withdraw(start)

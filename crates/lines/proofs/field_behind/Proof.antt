@@ -1,14 +1,15 @@
--- A line that ends at the place has no field behind it; any other has one from the octet behind the place on.
-use Rattle.lines.proofs.FormLaws.{field-none, field-some}
+-- A line that ends at the place has no field behind it; any other has one, which the test of its kind decides.
+use Rattle.lines.proofs.FormLaws.{field-none, field-not, field-some}
 use borrow.Author.Needs.{needs}
 use Rattle.lines.proofs.field_behind.Statement.{statement}
 use Rattle.lines.proofs.field_behind.Tie as tie
 use Rattle.lines.proofs.field_behind.Reads as reads
 use Rattle.lines.proofs.field_behind.Lts as lts
+use Rattle.lines.proofs.is_of.Reads as is-of-reads
 use Rattle.text.proofs.field_end.Reads as field-end-reads
 
 returns : tie.Need-returns
-returns c = field-none _ _ (c .if1 .taken)
+returns c = field-none _ _ _ (c .if1 .taken)
 
 add-start : tie.Need-add-start
 add-start c = search needs
@@ -16,8 +17,34 @@ add-start c = search needs
 field-end-requires : tie.Need-field-end-requires
 field-end-requires c κs = search needs
 
+sub-is-of : tie.Need-sub-is-of
+sub-is-of c = search needs
+
+part-is-of-start : tie.Need-part-is-of-start
+part-is-of-start c = search needs
+
+part-is-of-end : tie.Need-part-is-of-end
+part-is-of-end c = search needs
+
+is-of-requires : tie.Need-is-of-requires
+is-of-requires c κs = search needs
+
 returns-2 : tie.Need-returns-2
-returns-2 c = field-some _ _ _ (c .before .if1 .left) (c .field-end .ensures .0)
+returns-2 c = field-some _ _ _ (c .before .before .before .before .if1 .left) _ (c .before .before .before .field-end .ensures) _ (c .before .is-of .ensures) (c .if2 .taken)
+
+returns-3 : tie.Need-returns-3
+returns-3 c = field-not _ _ _ (c .before .before .before .before .if1 .left) _ (c .before .before .before .field-end .ensures) _ (c .before .is-of .ensures) (c .if2 .left)
 
 pub field-behind-spec : {M : Type 1} → statement M
-field-behind-spec = tie.close (tie.spec returns add-start field-end-requires returns-2)
+field-behind-spec =
+    tie.close
+    (tie.spec
+    returns
+    add-start
+    field-end-requires
+    sub-is-of
+    part-is-of-start
+    part-is-of-end
+    is-of-requires
+    returns-2
+    returns-3)

@@ -1,12 +1,13 @@
 -- A line that ends with its first word is the listing, and one that goes on is another line.
-use Rattle.lines.proofs.ReadLaws.{list-more, list-read}
+use Rattle.lines.proofs.FormLaws.{goes-on}
+use Rattle.lines.proofs.ReadLaws.{no-list, list-read}
 use Rattle.lines.proofs.read_list.Statement.{statement}
 use Rattle.lines.proofs.read_list.Tie as tie
 use Rattle.lines.proofs.read_list.Reads as reads
 use Rattle.lines.proofs.read_list.Lts as lts
 
 returns : tie.Need-returns
-returns c = list-more _ _ (c .if1 .taken)
+returns c = no-list _ _ (goes-on _ _ (c .if1 .taken))
 
 returns-2 : tie.Need-returns-2
 returns-2 c = list-read _ _ (c .if1 .left)

@@ -1,35 +1,29 @@
--- Each field read takes the definition one field on, and the first that fails makes it another line.
-use mathlib.Core.Bool.{true}
-use mathlib.Core.Path.{_≡_, sym, _∙_}
+-- Each field read leaves the rest to the fields behind it, and the first that fails makes it another line.
+use mathlib.Core.Path.{_∙_}
 use native.Mathlib.Omega.{arith}
-use borrow.Author.Tests.{not-true, not-false}
-use Rattle.rule.specs.Value.{between}
 use Rattle.lines.specs.Line.{isAddress}
-use Rattle.lines.proofs.FormLaws.{Fielded, Numbered, was-missing, was-there, was-no-number, was-number}
-use Rattle.lines.proofs.ReadLaws.{route-missing, route-no-address, route-no-size, route-no-originator, route-no-neighbour, route-more, route-read}
+use Rattle.lines.specs.Form.{Fielded, Numbered}
+use Rattle.lines.proofs.FormLaws.{was-there, was-number, field-fails, number-fails, passes, goes-on}
+use Rattle.lines.proofs.ReadLaws.{no-route, route-read}
 use borrow.Author.Needs.{needs}
 use Rattle.lines.proofs.read_route.Statement.{statement}
 use Rattle.lines.proofs.read_route.Tie as tie
 use Rattle.lines.proofs.read_route.Reads as reads
 use Rattle.lines.proofs.read_route.Lts as lts
 use Rattle.lines.proofs.field_behind.Reads as field-behind-reads
-use Rattle.lines.proofs.is_address.Reads as is-address-reads
 use Rattle.lines.proofs.number_behind.Reads as number-behind-reads
 use Rattle.text.proofs.word_in.Reads as word-in-reads
 
-there : (c : tie.After-known-told) → Fielded (c .before .before .before .before .before .args .line .now) (c .before .before .before .before .before .args .word) (c .before .start .given .0 .0) (c .before .start .given .0 .1 .0)
-there c = was-there _ _ _ (c .before .before .before .field-behind .ensures) _ _ (c .before .start .given .1)
+there : (c : tie.After-known-told) → Fielded isAddress (c .before .before .before .before .before .args .line .now) (c .before .before .before .before .before .args .word) (c .before .start .given .0 .0) (c .before .start .given .0 .1 .0)
+there c = was-there _ _ _ _ (c .before .before .before .field-behind .ensures) _ _ (c .before .start .given .1)
 
-good : (c : tie.Else1) → isAddress (between (c .before .before .before .before .before .before .before .before .args .line .now) (c .before .before .before .before .start .given .0 .0) (c .before .before .before .before .start .given .0 .1 .0)) ≡ true
-good c = sym (c .before .is-address .ensures) ∙ not-false _ (c .if1 .left)
-
-sized : (c : tie.After-known-told2) → Numbered (c .before .before .before .before .before .before .before .before .before .before .before .before .args .line .now) (c .before .before .before .before .before .before .before .before .start .given .0 .1 .0) (c .before .size .given .0 .0) (c .before .size .given .0 .1 .0)
+sized : (c : tie.After-known-told2) → Numbered (c .before .before .before .before .before .before .before .before .before .args .line .now) (c .before .before .before .before .before .start .given .0 .1 .0) (c .before .size .given .0 .0) (c .before .size .given .0 .1 .0)
 sized c = was-number _ _ _ (c .before .before .before .number-behind .ensures) _ _ (c .before .size .given .1)
 
-from : (c : tie.After-known-told3) → Numbered (c .before .before .before .before .before .before .before .before .before .before .before .before .before .before .before .before .args .line .now) (c .before .before .before .before .before .size .given .0 .1 .0) (c .before .originator .given .0 .0) (c .before .originator .given .0 .1 .0)
+from : (c : tie.After-known-told3) → Numbered (c .before .before .before .before .before .before .before .before .before .before .before .before .before .args .line .now) (c .before .before .before .before .before .size .given .0 .1 .0) (c .before .originator .given .0 .0) (c .before .originator .given .0 .1 .0)
 from c = was-number _ _ _ (c .before .before .before .number-behind2 .ensures) _ _ (c .before .originator .given .1)
 
-by : (c : tie.After-known-told4) → Numbered (c .before .before .before .before .before .before .before .before .before .before .before .before .before .before .before .before .before .before .before .before .args .line .now) (c .before .before .before .before .before .originator .given .0 .1 .0) (c .before .neighbour .given .0 .0) (c .before .neighbour .given .0 .1 .0)
+by : (c : tie.After-known-told4) → Numbered (c .before .before .before .before .before .before .before .before .before .before .before .before .before .before .before .before .before .args .line .now) (c .before .before .before .before .before .originator .given .0 .1 .0) (c .before .neighbour .given .0 .0) (c .before .neighbour .given .0 .1 .0)
 by c = was-number _ _ _ (c .before .before .before .number-behind3 .ensures) _ _ (c .before .neighbour .given .1)
 
 field-behind-requires : tie.Need-field-behind-requires
@@ -42,22 +36,7 @@ enum-told : tie.Need-enum-told
 enum-told c = search needs
 
 returns : tie.Need-returns
-returns c = route-missing _ _ (was-missing _ _ _ (c .before .before .field-behind .ensures) (c .enum-told .given .1))
-
-sub-is-address : tie.Need-sub-is-address
-sub-is-address c = omega (arith, there c)
-
-part-is-address-start : tie.Need-part-is-address-start
-part-is-address-start c = omega (arith, there c)
-
-part-is-address-end : tie.Need-part-is-address-end
-part-is-address-end c = omega (arith, there c)
-
-is-address-requires : tie.Need-is-address-requires
-is-address-requires c κs = search needs
-
-returns-2 : tie.Need-returns-2
-returns-2 c = route-no-address _ _ _ _ (there (c .before .before .before)) (sym (c .before .is-address .ensures) ∙ not-true _ (c .if1 .taken))
+returns c = no-route _ _ (field-fails _ _ _ _ (c .before .before .field-behind .ensures) _ (c .enum-told .given .1))
 
 number-behind-requires : tie.Need-number-behind-requires
 number-behind-requires c κs = search needs
@@ -68,8 +47,8 @@ enum-known-size c = search needs
 enum-told-2 : tie.Need-enum-told-2
 enum-told-2 c = search needs
 
-returns-3 : tie.Need-returns-3
-returns-3 c = route-no-size _ _ _ _ (there (c .before .before .before .before .before .before)) (good (c .before .before .before)) (was-no-number _ _ _ (c .before .before .number-behind .ensures) (c .enum-told2 .given .1))
+returns-2 : tie.Need-returns-2
+returns-2 c = no-route _ _ (passes _ _ _ _ _ _ (there (c .before .before .before)) ∙ number-fails _ _ _ (c .before .before .number-behind .ensures) _ (c .enum-told2 .given .1))
 
 number-behind-requires-2 : tie.Need-number-behind-requires-2
 number-behind-requires-2 c κs = search needs
@@ -80,8 +59,8 @@ enum-known-originator c = search needs
 enum-told-3 : tie.Need-enum-told-3
 enum-told-3 c = search needs
 
-returns-4 : tie.Need-returns-4
-returns-4 c = route-no-originator _ _ _ _ (there (c .before .before .before .before .before .before .before .before .before .before)) (good (c .before .before .before .before .before .before .before)) _ _ (sized (c .before .before .before)) (was-no-number _ _ _ (c .before .before .number-behind2 .ensures) (c .enum-told3 .given .1))
+returns-3 : tie.Need-returns-3
+returns-3 c = no-route _ _ (passes _ _ _ _ _ _ (there (c .before .before .before .before .before .before .before)) ∙ passes _ _ _ _ _ _ (sized (c .before .before .before) .there) ∙ number-fails _ _ _ (c .before .before .number-behind2 .ensures) _ (c .enum-told3 .given .1))
 
 number-behind-requires-3 : tie.Need-number-behind-requires-3
 number-behind-requires-3 c κs = search needs
@@ -92,27 +71,26 @@ enum-known-neighbour c = search needs
 enum-told-4 : tie.Need-enum-told-4
 enum-told-4 c = search needs
 
-returns-5 : tie.Need-returns-5
-returns-5 c = route-no-neighbour _ _ _ _ (there (c .before .before .before .before .before .before .before .before .before .before .before .before .before .before)) (good (c .before .before .before .before .before .before .before .before .before .before .before)) _ _ (sized (c .before .before .before .before .before .before .before)) _ _ (from (c .before .before .before)) (was-no-number _ _ _ (c .before .before .number-behind3 .ensures) (c .enum-told4 .given .1))
+returns-4 : tie.Need-returns-4
+returns-4 c = no-route _ _ (passes _ _ _ _ _ _ (there (c .before .before .before .before .before .before .before .before .before .before .before)) ∙ passes _ _ _ _ _ _ (sized (c .before .before .before .before .before .before .before) .there) ∙ passes _ _ _ _ _ _ (from (c .before .before .before) .there) ∙ number-fails _ _ _ (c .before .before .number-behind3 .ensures) _ (c .enum-told4 .given .1))
 
-returns-6 : tie.Need-returns-6
-returns-6 c = route-more _ _ _ _ (there (c .before .before .before .before .before .before .before .before .before .before .before .before .before .before .before .before)) (good (c .before .before .before .before .before .before .before .before .before .before .before .before .before)) _ _ (sized (c .before .before .before .before .before .before .before .before .before)) _ _ (from (c .before .before .before .before .before)) _ _ (by (c .before)) (c .if2 .taken)
+returns-5 : tie.Need-returns-5
+returns-5 c = no-route _ _ (passes _ _ _ _ _ _ (there (c .before .before .before .before .before .before .before .before .before .before .before .before .before)) ∙ passes _ _ _ _ _ _ (sized (c .before .before .before .before .before .before .before .before .before) .there) ∙ passes _ _ _ _ _ _ (from (c .before .before .before .before .before) .there) ∙ passes _ _ _ _ _ _ (by (c .before) .there) ∙ goes-on _ _ (c .if1 .taken))
 
 sub-word-in : tie.Need-sub-word-in
-sub-word-in c = omega (arith, there (c .before .before .before .before .before .before .before .before .before .before .before .before .before .before .before .before))
+sub-word-in c = omega (arith, there (c .before .before .before .before .before .before .before .before .before .before .before .before .before))
 
 part-word-in-start : tie.Need-part-word-in-start
-part-word-in-start c = omega (arith, there (c .before .before .before .before .before .before .before .before .before .before .before .before .before .before .before .before))
+part-word-in-start c = omega (arith, there (c .before .before .before .before .before .before .before .before .before .before .before .before .before))
 
 part-word-in-end : tie.Need-part-word-in-end
-part-word-in-end c = omega (arith, there (c .before .before .before .before .before .before .before .before .before .before .before .before .before .before .before .before))
+part-word-in-end c = omega (arith, there (c .before .before .before .before .before .before .before .before .before .before .before .before .before))
 
 word-in-requires : tie.Need-word-in-requires
 word-in-requires c κs = search needs
 
-returns-7 : tie.Need-returns-7
-returns-7 c = let k = c .before .before in
-    route-read _ _ _ _ (there (k .before .before .before .before .before .before .before .before .before .before .before .before .before .before .before .before)) (good (k .before .before .before .before .before .before .before .before .before .before .before .before .before)) _ _ (sized (k .before .before .before .before .before .before .before .before .before)) _ _ (from (k .before .before .before .before .before)) _ _ (by (k .before)) (k .if2 .left) _ (c .word-in .ensures)
+returns-6 : tie.Need-returns-6
+returns-6 c = let k = c .before .before in route-read _ _ _ _ (there (k .before .before .before .before .before .before .before .before .before .before .before .before .before)) _ _ (sized (k .before .before .before .before .before .before .before .before .before)) _ _ (from (k .before .before .before .before .before)) _ _ (by (k .before)) (k .if1 .left) _ (c .word-in .ensures)
 
 pub read-route-spec : {M : Type 1} → statement M
 read-route-spec =
@@ -122,26 +100,21 @@ read-route-spec =
     enum-known-start
     enum-told
     returns
-    sub-is-address
-    part-is-address-start
-    part-is-address-end
-    is-address-requires
-    returns-2
     number-behind-requires
     enum-known-size
     enum-told-2
-    returns-3
+    returns-2
     number-behind-requires-2
     enum-known-originator
     enum-told-3
-    returns-4
+    returns-3
     number-behind-requires-3
     enum-known-neighbour
     enum-told-4
+    returns-4
     returns-5
-    returns-6
     sub-word-in
     part-word-in-start
     part-word-in-end
     word-in-requires
-    returns-7)
+    returns-6)

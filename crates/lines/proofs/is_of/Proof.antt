@@ -1,0 +1,64 @@
+-- Each kind has its test.
+use Rattle.lines.proofs.FormLaws.{kind-is}
+use borrow.Author.Needs.{needs}
+use Rattle.lines.proofs.is_of.Statement.{statement}
+use Rattle.lines.proofs.is_of.Tie as tie
+use Rattle.lines.proofs.is_of.Reads as reads
+use Rattle.lines.proofs.is_of.Lts as lts
+use Rattle.lines.proofs.is_address.Reads as is-address-reads
+use Rattle.lines.proofs.is_rule.Reads as is-rule-reads
+use Rattle.text.proofs.are_octets.Reads as are-octets-reads
+use Rattle.text.proofs.is_number.Reads as is-number-reads
+
+enum-told : tie.Need-enum-told
+enum-told c = search needs
+
+is-address-requires : tie.Need-is-address-requires
+is-address-requires c κs = search needs
+
+enum-told-2 : tie.Need-enum-told-2
+enum-told-2 c = search needs
+
+is-rule-requires : tie.Need-is-rule-requires
+is-rule-requires c κs = search needs
+
+enum-told-3 : tie.Need-enum-told-3
+enum-told-3 c = search needs
+
+is-number-requires : tie.Need-is-number-requires
+is-number-requires c κs = search needs
+
+enum-told-4 : tie.Need-enum-told-4
+enum-told-4 c = search needs
+
+are-octets-requires : tie.Need-are-octets-requires
+are-octets-requires c κs = search needs
+
+returns : tie.Need-returns
+returns c = kind-is _ _ _ (c .before .enum-told .given .1) (c .is-address .ensures)
+
+returns-2 : tie.Need-returns-2
+returns-2 c = kind-is _ _ _ (c .before .enum-told2 .given .1) (c .is-rule .ensures)
+
+returns-3 : tie.Need-returns-3
+returns-3 c = kind-is _ _ _ (c .before .enum-told3 .given .1) (c .is-number .ensures)
+
+returns-4 : tie.Need-returns-4
+returns-4 c = kind-is _ _ _ (c .before .enum-told4 .given .1) (c .are-octets .ensures)
+
+pub is-of-spec : {M : Type 1} → statement M
+is-of-spec =
+    tie.close
+    (tie.spec
+    enum-told
+    is-address-requires
+    enum-told-2
+    is-rule-requires
+    enum-told-3
+    is-number-requires
+    enum-told-4
+    are-octets-requires
+    returns
+    returns-2
+    returns-3
+    returns-4)
