@@ -1,6 +1,6 @@
 -- Gathering a line: what is laid into the line's buffer. Assumes nothing.
 use mathlib.Core.Path.{_≡_, refl, ap, sym, _∙_}
-use mathlib.Core.Bool.{true, false}
+use mathlib.Core.Bool.{cond}
 use mathlib.Core.List.{List, [], _∷_}
 use Prim.Native.Nat.{ℕ, _+_, _-_, _<_, _≤_, min}
 use native.Mathlib.Omega.{arith}
@@ -8,7 +8,7 @@ use native.Mathlib.Decide.{decLt}
 use lib.Dec.{ltb}
 use lib.ListN.{length, take, length-take}
 use lib.Seq.{take-take, take-all}
-use borrow.Author.Tests.{lt-ltb, le-ltb, ltb-true, ltb-false}
+use borrow.Author.Tests.{ltb-true, ltb-false}
 use Rattle.octets.proofs.Cases.{by-test}
 use Rattle.octets.specs.Store.{stored}
 use Rattle.octets.proofs.StoreLaws.{stored-none}
@@ -42,7 +42,7 @@ laid-stored line block held size start count e f =
           rw (take-min (length line - held) size block, f, s)
     ]
 
--- where a block has an LF, and where it has none
+-- what the code answers: a block that has no LF is taken to its end
 module _ (block line exit : List ℕ) (held size start count : ℕ) (at : size ≡ placeOf 10 block) (e : start ≡ min held (length line)) (f : count ≡ min size (length line - start)) (stores : exit ≡ stored line start (take count block)) where
   sums : start + count ≡ min (held + size) (length line)
   sums = omega arith
@@ -50,15 +50,18 @@ module _ (block line exit : List ℕ) (held size start count : ℕ) (at : size �
   lays : exit ≡ laid line held (take (placeOf 10 block) block)
   lays = stores ∙ laid-stored line block held size start count e f ∙ ap (λ n. laid line held (take n block)) at
 
-  pub gathered-ended : size < length block → Gathers block line held (record { taken = size + 1; held = start + count; ended = true }) exit (block ∷ [])
-  unfolding gathered
-  gathered-ended h =
-      record { is = rw (← at, lt-ltb size (length block) h) (λ i. record { taken = size + 1; held = sums i; ended = true }); leaves = lays; keeps = refl }
+  takes : min (size + 1) (length block) ≡ cond (ltb size (length block)) (size + 1) size
+  takes =
+      by-test (ltb size (length block))
+      (λ t. let h = ltb-true size (length block) t in rw t (omega arith))
+      (λ t. let h = ltb-false size (length block) t in rw t (omega (arith, place-within 10 block)))
 
-  pub gathered-on : length block ≤ size → Gathers block line held (record { taken = size; held = start + count; ended = false }) exit (block ∷ [])
+  pub gathers : (taken : ℕ) → taken ≡ min (size + 1) (length block)
+      → Gathers block line held (record { taken = taken; held = start + count; ended = ltb size (length block) }) exit (block ∷ [])
   unfolding gathered
-  gathered-on h =
-      record { is = rw (← at, le-ltb size (length block) h) (λ i. record { taken = size; held = sums i; ended = false }); leaves = lays; keeps = refl }
+  gathers taken t =
+      let e = t ∙ takes in
+      record { is = rw (← at) (λ i. record { taken = e i; held = sums i; ended = ltb size (length block) }); leaves = lays; keeps = refl }
 
 -- what a caller sees of an answer: of a block with an octet one is taken, no more is taken than there is, and the buffer holds no more
 -- than its length

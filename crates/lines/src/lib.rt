@@ -102,18 +102,11 @@ pub fn gather(block: &[u8], line: &mut [u8], held: usize) -> Gathered
     let start = least(held, line.len());
     let count = least(size, line.len() - start);
     octets::store(line, start, &block[..count]);
-    let held = start + count;
-    if size < block.len() {
-        return Gathered {
-            taken: size + 1,
-            held,
-            ended: true,
-        };
-    }
+    let taken = least(size + 1, block.len());
     Gathered {
-        taken: size,
-        held,
-        ended: false,
+        taken,
+        held: start + count,
+        ended: size < block.len(),
     }
 }
 

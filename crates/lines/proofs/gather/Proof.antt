@@ -4,7 +4,7 @@ use mathlib.Core.Path.{sym}
 use native.Mathlib.Omega.{arith}
 use lib.ListN.{length-take}
 use lib.Seq.{length-take-le}
-use Rattle.lines.proofs.GatherLaws.{gathered-ended, gathered-on}
+use Rattle.lines.proofs.GatherLaws.{gathers}
 use Rattle.lines.proofs.gather.Statement.{statement}
 use Rattle.lines.proofs.gather.Tie as tie
 use Rattle.lines.proofs.gather.Reads as reads
@@ -31,25 +31,21 @@ slice-aggregate-store c = sym (length-take-le _ _ (omega arith))
 store-requires : tie.Need-store-requires
 store-requires c κs = simp length-take (omega arith)
 
-add-held : tie.Need-add-held
-add-held c = search needs
+add-least : tie.Need-add-least
+add-least c = search needs
 
-add-t16 : tie.Need-add-t16
-add-t16 c = search needs
+least-requires-3 : tie.Need-least-requires-3
+least-requires-3 c κs = search needs
+
+add-t8 : tie.Need-add-t8
+add-t8 c = search needs
 
 same-length : tie.Need-same-length
 same-length c = search needs
 
 returns : tie.Need-returns
 returns c =
-    gathered-ended _ _ _ _ _ _ _ (c .before .before .before .before .before .before .before .before .place-of .ensures .0) (c .before .before .before .before .before .before .before .least .ensures) (c .before .before .before .before .before .before .least2 .ensures) (c .before .before .before .store .ensures) (c .if1 .taken)
-
-same-length-2 : tie.Need-same-length-2
-same-length-2 c = search needs
-
-returns-2 : tie.Need-returns-2
-returns-2 c =
-    gathered-on _ _ _ _ _ _ _ (c .before .before .before .before .before .before .before .before .place-of .ensures .0) (c .before .before .before .before .before .before .before .least .ensures) (c .before .before .before .before .before .before .least2 .ensures) (c .before .before .before .store .ensures) (c .if1 .left)
+    gathers _ _ _ _ _ _ _ (c .before .before .before .before .before .before .before .before .place-of .ensures .0) (c .before .before .before .before .before .before .before .least .ensures) (c .before .before .before .before .before .before .least2 .ensures) (c .before .before .before .store .ensures) _ (c .least3 .ensures)
 
 pub gather-spec : {M : Type 1} → statement M
 gather-spec =
@@ -61,9 +57,8 @@ gather-spec =
     least-requires-2
     slice-aggregate-store
     store-requires
-    add-held
-    add-t16
+    add-least
+    least-requires-3
+    add-t8
     same-length
-    returns
-    same-length-2
-    returns-2)
+    returns)
