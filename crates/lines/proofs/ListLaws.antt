@@ -2,6 +2,9 @@
 use mathlib.Core.Path.{_≡_, refl, ap, sym, _∙_}
 use mathlib.Core.Bool.{Bool, true, false}
 use mathlib.Core.List.{List, [], _∷_, _++_}
+use mathlib.Core.Logic.{⊎-elim}
+use types.Run.{OneOf}
+use denote.Enum.Declared.{tagOf}
 use Prim.Native.Nat.{ℕ, _+_, _-_, _*_, _^_, _<_, _≤_}
 use native.Mathlib.Omega.{arith}
 use native.Mathlib.Nat.{add-zero}
@@ -11,7 +14,9 @@ use borrow.Author.Tests.{leb-true}
 use Rattle.octets.proofs.Cases.{by-test, apart}
 use Rattle.octets.specs.Walk.{Walk, before}
 use Rattle.rule.specs.Value.{between}
+use Rattle.table.specs.declared.NextRecord.{NextRecord}
 use Rattle.table.specs.declared.NextRecord.the-variants.{Nothing, Record, Unsound}
+use Rattle.table.proofs.NextRecord.{the-type}
 use Rattle.rule.specs.Family.{ipv4}
 use Rattle.table.specs.declared.Soundness.{Soundness}
 use Rattle.table.specs.declared.Soundness.the-variants.{Sound, Unsound as NotSound}
@@ -38,11 +43,11 @@ module _ (t : List ℕ) (at : ℕ) where
   pub left-more : (next : ℕ) → recordAt t at ≡ Record next → recordsLeft t at ≡ between t at next ∷ recordsLeft t next
   left-more next e = ap (λ w. w .items) (records-more t at next e)
 
-  pub left-end : recordAt t at ≡ Nothing → recordsLeft t at ≡ []
-  left-end e = ap (λ w. w .items) (records-end t at e)
-
-  pub left-unsound : recordAt t at ≡ Unsound → recordsLeft t at ≡ []
-  left-unsound e = ap (λ w. w .items) (records-unsound t at e)
+  -- what is found there is the first or the third of the variants, and so no record
+  pub left-none : (found : NextRecord) → found ≡ recordAt t at → OneOf (0 ∷ 2 ∷ []) (tagOf the-type found) → recordsLeft t at ≡ []
+  left-none Nothing e h = ap (λ w. w .items) (records-end t at (sym e))
+  left-none Unsound e h = ap (λ w. w .items) (records-unsound t at (sym e))
+  left-none (Record next) e h = absurd (⊎-elim (λ f. omega arith) (λ f. omega arith) h)
 
 -- so many records are counted, and those from a place on are left
 pub record Counting (t : List ℕ) (at count : ℕ) : Type 0 where

@@ -326,18 +326,11 @@ fn count_records(table: &[u8]) -> usize
     let mut at: usize = 0;
     let mut count: usize = 0;
     loop {
-        match table::record_at(table, at) {
-            NextRecord::Nothing => {
-                return count;
-            }
-            NextRecord::Unsound => {
-                return count;
-            }
-            NextRecord::Record(next) => {
-                count += 1;
-                at = next;
-            }
-        }
+        let NextRecord::Record(next) = table::record_at(table, at) else {
+            return count;
+        };
+        count += 1;
+        at = next;
     }
 }
 
@@ -368,18 +361,11 @@ fn put_records(table: &[u8], out: &mut [u8], at: usize) -> usize
     let mut place: usize = 0;
     let mut end = at;
     loop {
-        match table::record_at(table, place) {
-            NextRecord::Nothing => {
-                return end;
-            }
-            NextRecord::Unsound => {
-                return end;
-            }
-            NextRecord::Record(next) => {
-                end = put_record(out, end, &table[place..next]);
-                place = next;
-            }
-        }
+        let NextRecord::Record(next) = table::record_at(table, place) else {
+            return end;
+        };
+        end = put_record(out, end, &table[place..next]);
+        place = next;
     }
 }
 

@@ -7,7 +7,7 @@ use lib.ListN.{length}
 use Rattle.table.specs.declared.NextRecord.the-variants.{Record}
 use Rattle.table.specs.Walk.{recordAt}
 use Rattle.table.proofs.WalkLaws.{was-found}
-use Rattle.lines.proofs.ListLaws.{left-end, left-unsound, Counting, count-starts, count-done, count-more}
+use Rattle.lines.proofs.ListLaws.{left-none, Counting, count-starts, count-done, count-more}
 use Rattle.lines.proofs.count_records.Statement.{statement}
 use Rattle.lines.proofs.count_records.Tie as tie
 use Rattle.lines.proofs.count_records.Reads as reads
@@ -29,20 +29,11 @@ loop-holds c = count-starts _
 record-at-requires : tie.Need-record-at-requires Inv-loop μ-loop
 record-at-requires c κs = search needs
 
-enum-told : tie.Need-enum-told Inv-loop μ-loop
-enum-told c = search needs
-
-returns : tie.Need-returns Inv-loop μ-loop
-returns c = count-done _ _ _ (c .before .before .before .loop .inv) (left-end _ _ (sym (c .before .before .record-at .ensures) ∙ c .enum-told .given .1))
-
-enum-told-2 : tie.Need-enum-told-2 Inv-loop μ-loop
-enum-told-2 c = search needs
-
-returns-2 : tie.Need-returns-2 Inv-loop μ-loop
-returns-2 c = count-done _ _ _ (c .before .before .before .loop .inv) (left-unsound _ _ (sym (c .before .before .record-at .ensures) ∙ c .enum-told2 .given .1))
-
 enum-known-next : tie.Need-enum-known-next Inv-loop μ-loop
 enum-known-next c = search needs
+
+returns : tie.Need-returns Inv-loop μ-loop
+returns c = count-done _ _ _ (c .before .before .loop .inv) (left-none _ _ _ (c .before .record-at .ensures) (c .match .keys2))
 
 add-count : tie.Need-add-count Inv-loop μ-loop
 add-count c = search needs
@@ -61,11 +52,8 @@ count-records-spec =
     μ-loop
     loop-holds
     record-at-requires
-    enum-told
-    returns
-    enum-told-2
-    returns-2
     enum-known-next
+    returns
     add-count
     loop-less
     loop-again)

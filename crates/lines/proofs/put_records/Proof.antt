@@ -8,7 +8,7 @@ use Rattle.table.specs.declared.NextRecord.the-variants.{Record}
 use Rattle.table.specs.Walk.{recordAt}
 use Rattle.table.proofs.WalkLaws.{was-found}
 use Rattle.table.proofs.EntryLaws.{length-there}
-use Rattle.lines.proofs.ListLaws.{left-end, left-unsound, Printing, print-starts, print-done, print-more}
+use Rattle.lines.proofs.ListLaws.{left-none, Printing, print-starts, print-done, print-more}
 use Rattle.lines.proofs.put_records.Statement.{statement}
 use Rattle.lines.proofs.put_records.Tie as tie
 use Rattle.lines.proofs.put_records.Reads as reads
@@ -31,26 +31,14 @@ loop-holds c = print-starts _ _ _
 record-at-requires : tie.Need-record-at-requires Inv-loop μ-loop
 record-at-requires c κs = search needs
 
-enum-told : tie.Need-enum-told Inv-loop μ-loop
-enum-told c = search needs
+enum-known-next : tie.Need-enum-known-next Inv-loop μ-loop
+enum-known-next c = search needs
 
 same-length : tie.Need-same-length Inv-loop μ-loop
 same-length c = search needs
 
 returns : tie.Need-returns Inv-loop μ-loop
-returns c = print-done _ _ _ _ _ _ (c .before .before .before .loop .inv) (left-end _ _ (sym (c .before .before .record-at .ensures) ∙ c .enum-told .given .1))
-
-enum-told-2 : tie.Need-enum-told-2 Inv-loop μ-loop
-enum-told-2 c = search needs
-
-same-length-2 : tie.Need-same-length-2 Inv-loop μ-loop
-same-length-2 c = search needs
-
-returns-2 : tie.Need-returns-2 Inv-loop μ-loop
-returns-2 c = print-done _ _ _ _ _ _ (c .before .before .before .loop .inv) (left-unsound _ _ (sym (c .before .before .record-at .ensures) ∙ c .enum-told2 .given .1))
-
-enum-known-next : tie.Need-enum-known-next Inv-loop μ-loop
-enum-known-next c = search needs
+returns c = print-done _ _ _ _ _ _ (c .before .before .loop .inv) (left-none _ _ _ (c .before .record-at .ensures) (c .match .keys2))
 
 sub-put-record : tie.Need-sub-put-record Inv-loop μ-loop
 sub-put-record c = omega (arith, was-found _ (c .before .before .before .before .before .loop .place) _ (found-here c))
@@ -83,13 +71,9 @@ put-records-spec =
     μ-loop
     loop-holds
     record-at-requires
-    enum-told
+    enum-known-next
     same-length
     returns
-    enum-told-2
-    same-length-2
-    returns-2
-    enum-known-next
     sub-put-record
     part-put-record-start
     part-put-record-end
