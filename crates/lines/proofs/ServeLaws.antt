@@ -1,6 +1,6 @@
 -- Serving a line: a route put behind the others, and what each form of a line leaves. Assumes nothing.
 use mathlib.Core.Path.{_≡_, refl, ap, sym, subst, _∙_}
-use mathlib.Core.Bool.{Bool, true, false, cond, and-false}
+use mathlib.Core.Bool.{Bool, true, false, not}
 use mathlib.Core.List.{List, [], _∷_}
 use Prim.Native.Nat.{ℕ, suc, _+_, _*_, _<_, _≤_, min}
 use native.Mathlib.Omega.{arith}
@@ -8,8 +8,8 @@ use native.Mathlib.Decide.{decLt}
 use lib.Dec.{leb}
 use lib.ListN.{length, set, take, drop}
 use lib.Seq.{sets-eq, take-at, take-all, length-take-le}
-use borrow.Author.Tests.{le-leb, lt-leb, leb-true}
-use Rattle.octets.proofs.Cases.{by-test, apart}
+use borrow.Author.Tests.{le-leb, lt-leb, leb-true, not-true, not-false}
+use Rattle.octets.proofs.Cases.{by-test, apart, both}
 use Rattle.rule.specs.Value.{between}
 use Rattle.octets.specs.Store.{stored}
 use Rattle.flowspec.specs.declared.Change.{Change}
@@ -29,52 +29,43 @@ use Rattle.lines.specs.Serve.{Outcome, mostWords, routeFits, printing, c
 use Rattle.lines.specs.Promise.{servedTold, Serves}
 use Rattle.lines.proofs.CutLaws.{too-long}
 
--- a route is added, or not
-module _ (routes : List ℕ) (used address size originator neighbour : ℕ) where
-  abbrev pub Added : Bool → List ℕ → Type 0
-  Added answer exit =
-      (answer ≡ routeFits used routes) × (exit ≡ cond (routeFits used routes) (stored routes used (address ∷ size ∷ originator ∷ neighbour ∷ [])) routes)
+-- how `route_fits` comes to its answers, and what room it finds
+module _ (routes : List ℕ) (used : ℕ) where
+  pub fits-not : 16380 < used → false ≡ routeFits used routes
+  fits-not h = rw (lt-leb (used + 4) mostWords (omega arith))
 
-  not-added : routeFits used routes ≡ false → Added false routes
-  not-added e = rw e (refl, refl)
+  pub fits-by-length : used ≤ 16380 → leb (used + 4) (length routes) ≡ routeFits used routes
+  fits-by-length h = rw (le-leb (used + 4) mostWords (omega arith))
 
-  pub add-past : 16380 < used → Added false routes
-  add-past h = not-added (rw (lt-leb (used + 4) mostWords (omega arith)))
+pub route-room : (routes : List ℕ) (used : ℕ) (fits : Bool) → fits ≡ routeFits used routes → not fits ≡ false
+    → (used + 4 ≤ mostWords) × (used + 4 ≤ length routes)
+route-room routes used fits is t =
+    let h = both (leb (used + 4) mostWords) (leb (used + 4) (length routes)) (sym is ∙ not-false fits t) in
+    (leb-true (used + 4) mostWords (h .0), leb-true (used + 4) (length routes) (h .1))
 
-  pub add-short : length routes < used + 4 → Added false routes
-  add-short h = not-added (rw (lt-leb (used + 4) (length routes) h, and-false (leb (used + 4) mostWords)))
+-- a route line that was served
+module _ (routes : List ℕ) (used address size originator neighbour : ℕ) (out : List ℕ) (fits : Bool) (is : fits ≡ routeFits used routes) where
+  pub route-not-added : not fits ≡ true → (printed : ℕ) (x : List ℕ) → (x ≡ laid out 0 unknownText) × (printed ≡ length unknownText)
+      → Adds (adding (address ∷ size ∷ originator ∷ neighbour ∷ []) used routes []) out (record { printed = printed; used = used }) routes x
+  route-not-added t printed x p =
+      rw (sym is ∙ not-true fits t)
+      (record { is = λ i. record { printed = p .1 i; used = used }; leaves = refl; prints = p .0; short = let n = p .1 in omega arith })
 
-  pub add-done : used ≤ 16380 → used + 4 ≤ length routes
-      → Added true (set (set (set (set routes used address) (used + 1) size) (used + 2) originator) (used + 3) neighbour)
+  pub route-added : not fits ≡ false
+      → Adds (adding (address ∷ size ∷ originator ∷ neighbour ∷ []) used routes []) out (record { printed = 0; used = used + 4 })
+      (set (set (set (set routes used address) (used + 1) size) (used + 2) originator) (used + 3) neighbour) out
   unfolding stored
-  add-done h k =
+  route-added t =
       let second : used + 1 ≡ suc used = omega arith in
       let third : used + 2 ≡ suc (suc used) = omega arith in
       let fourth : used + 3 ≡ suc (suc (suc used)) = omega arith in
-      rw (le-leb (used + 4) mostWords (omega arith), le-leb (used + 4) (length routes) k)
-      (refl, rw (second, third, fourth) (sets-eq (address ∷ size ∷ originator ∷ neighbour ∷ []) routes used k))
-
--- a route that was added has room
-pub route-fits : (routes : List ℕ) (used : ℕ) (fits : Bool) → fits ≡ routeFits used routes → fits ≡ true → used + 4 ≤ mostWords
-route-fits routes used fits e t =
-    by-test (leb (used + 4) mostWords) (λ h. leb-true (used + 4) mostWords h) (λ h. let z : true ≡ false = sym t ∙ e ∙ rw h in apart (cc))
-
--- a route line that was served
-module _ (routes : List ℕ) (used address size originator neighbour : ℕ) (fits : Bool) (exit : List ℕ)
-    (added : Added routes used address size originator neighbour fits exit) (out : List ℕ) where
-  pub route-added : fits ≡ true
-      → Adds (adding (address ∷ size ∷ originator ∷ neighbour ∷ []) used routes []) out (record { printed = 0; used = used + 4 }) exit out
-  route-added t =
-      let f : routeFits used routes ≡ true = sym (added .0) ∙ t in
-      let e = added .1 in
-      rw f (record { is = refl; leaves = rw f at e; prints = sym (laid-none out 0); short = omega arith })
-
-  pub route-not-added : fits ≡ false → (printed : ℕ) (x : List ℕ) → (x ≡ laid out 0 unknownText) × (printed ≡ length unknownText)
-      → Adds (adding (address ∷ size ∷ originator ∷ neighbour ∷ []) used routes []) out (record { printed = printed; used = used }) exit x
-  route-not-added t printed x p =
-      let f : routeFits used routes ≡ false = sym (added .0) ∙ t in
-      let e = added .1 in
-      rw f (record { is = λ i. record { printed = p .1 i; used = used }; leaves = rw f at e; prints = p .0; short = let n = p .1 in omega arith })
+      rw (sym is ∙ not-false fits t)
+      (record {
+        is = refl;
+        leaves = rw (second, third, fourth) (sets-eq (address ∷ size ∷ originator ∷ neighbour ∷ []) routes used (route-room routes used fits is t .1));
+        prints = sym (laid-none out 0);
+        short = omega arith;
+      })
 
 -- and the table that it leaves alone
 abbrev with-table : Outcome → List ℕ → Outcome

@@ -1,11 +1,10 @@
 // The work on a line of the program, on slices: gathering a line from blocks of input, reading what it says, and serving it. No public
 // call has a `requires`: whatever it is lent, it answers (specs/Promise.antt).
 ghost use mathlib.Core.Path.{_≡_};
-ghost use mathlib.Core.Bool.{false, cond};
+ghost use mathlib.Core.Bool.{false};
 ghost use mathlib.Core.List.{[], _∷_};
 ghost use Prim.Native.Nat.{_+_, _≤_, min};
 ghost use lib.ListN.{length};
-ghost use Rattle.octets.specs.Store.{stored};
 ghost use Rattle.table.specs.Walk.{records};
 ghost use Rattle.flowspec.specs.Announce.{announcing, withdrawing};
 ghost use Rattle.flowspec.specs.Told.{changeTold};
@@ -385,31 +384,14 @@ fn put_list(out: &mut [u8], table: &[u8]) -> usize
 
 // ---- Serving a line ----
 
-// Adds a route behind the words in use and tells whether there was room for it.
-fn add_route(
-    routes: &mut [u32],
-    used: usize,
-    address: u32,
-    size: u32,
-    originator: u32,
-    neighbour: u32,
-) -> bool
-    ensures { λ r. ⌜ (r ≡ routeFits used (now (routes .entry))) × (now (routes .exit) ≡ cond (routeFits used (now (routes .entry))) (stored (now (routes .entry)) used (address ∷ size ∷ originator ∷ neighbour ∷ [])) (now (routes .entry))) ⌝ }
+// Whether there is room for a route behind the words in use.
+fn route_fits(used: usize, routes: &[u32]) -> bool
+    ensures { λ r. ⌜ r ≡ routeFits used (now (routes .entry)) ⌝ }
 {
     if MOST_WORDS - ROUTE_WORDS < used {
         return false;
     }
-    if routes.len() < used + ROUTE_WORDS {
-        return false;
-    }
-    let second = used + 1;
-    let third = used + 2;
-    let fourth = used + 3;
-    routes[used] = address;
-    routes[second] = size;
-    routes[third] = originator;
-    routes[fourth] = neighbour;
-    true
+    used + ROUTE_WORDS <= routes.len()
 }
 
 // Adds the route that a line says, or prints that there is no room for it: how long the text is, and how many words are in use.
@@ -424,14 +406,21 @@ fn serve_route(
 ) -> Served
     ensures { λ r. ⌜ Adds (adding (address ∷ size ∷ originator ∷ neighbour ∷ []) used (now (routes .entry)) []) (now (out .entry)) r (now (routes .exit)) (now (out .exit)) ⌝ }
 {
-    if add_route(routes, used, address, size, originator, neighbour) {
-        return Served {
-            printed: 0,
-            used: used + ROUTE_WORDS,
-        };
+    if !route_fits(used, routes) {
+        let printed = put_unknown(out);
+        return Served { printed, used };
     }
-    let printed = put_unknown(out);
-    Served { printed, used }
+    let second = used + 1;
+    let third = used + 2;
+    let fourth = used + 3;
+    routes[used] = address;
+    routes[second] = size;
+    routes[third] = originator;
+    routes[fourth] = neighbour;
+    Served {
+        printed: 0,
+        used: used + ROUTE_WORDS,
+    }
 }
 
 // Announces the rule and the communities that two parts of a line spell, and prints the answer: how long the text is.

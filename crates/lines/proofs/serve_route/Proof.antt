@@ -1,47 +1,97 @@
--- What `add_route` answers decides between the definition's two cases.
+-- Where there is room the route is four words set in a row, and elsewhere the answer is printed.
+use Prim.Native.Nat.{_+_, _≤_}
 use native.Mathlib.Omega.{arith}
-use Rattle.lines.proofs.ServeLaws.{route-fits, route-added, route-not-added}
+use lib.ListN.{length, length-set}
+use Rattle.lines.specs.Serve.{mostWords}
+use Rattle.lines.proofs.ServeLaws.{route-room, route-added, route-not-added}
 use borrow.Author.Needs.{needs}
 use Rattle.lines.proofs.serve_route.Statement.{statement}
 use Rattle.lines.proofs.serve_route.Tie as tie
 use Rattle.lines.proofs.serve_route.Reads as reads
 use Rattle.lines.proofs.serve_route.Lts as lts
-use Rattle.lines.proofs.add_route.Reads as add-route-reads
 use Rattle.lines.proofs.put_unknown.Reads as put-unknown-reads
+use Rattle.lines.proofs.route_fits.Reads as route-fits-reads
 
-add-route-requires : tie.Need-add-route-requires
-add-route-requires c κs = search needs
+room : (c : tie.Else1) → (c .before .before .before .before .before .args .used + 4 ≤ mostWords) × (c .before .before .before .before .before .args .used + 4 ≤ length (c .before .before .before .before .before .args .routes .now))
+room c = let a = c .before .before .before .before .before .args in route-room (a .routes .now) (a .used) _ (c .before .route-fits .ensures) (c .if1 .left)
 
-add-t12 : tie.Need-add-t12
-add-t12 c = let a = c .before .before .before .before .before .before .before .args in omega (arith, route-fits (a .routes .now) (a .used) _ (c .before .before .before .add-route .ensures .0) (c .if1 .taken))
-
-same-length : tie.Need-same-length
-same-length c = search needs
-
-returns : tie.Need-returns
-returns c = let a = c .before .before .before .before .before .before .before .args in route-added (a .routes .now) (a .used) (a .address) (a .size) (a .originator) (a .neighbour) _ _ (c .before .before .before .add-route .ensures) _ (c .if1 .taken)
+route-fits-requires : tie.Need-route-fits-requires
+route-fits-requires c κs = search needs
 
 put-unknown-requires : tie.Need-put-unknown-requires
 put-unknown-requires c κs = search needs
 
+same-length : tie.Need-same-length
+same-length c = search needs
+
 same-length-2 : tie.Need-same-length-2
 same-length-2 c = search needs
+
+returns : tie.Need-returns
+returns c = let a = c .before .before .before .before .before .before .before .before .before .args in route-not-added (a .routes .now) (a .used) (a .address) (a .size) (a .originator) (a .neighbour) _ _ (c .before .before .before .before .before .route-fits .ensures) (c .before .before .before .before .if1 .taken) _ _ (c .before .before .put-unknown .ensures)
+
+add-second : tie.Need-add-second
+add-second c = omega (arith, room c)
+
+add-third : tie.Need-add-third
+add-third c = omega (arith, room c)
+
+add-fourth : tie.Need-add-fourth
+add-fourth c = omega (arith, room c)
+
+mul-routes : tie.Need-mul-routes
+mul-routes c = omega (arith, room c)
+
+slice-write-routes : tie.Need-slice-write-routes
+slice-write-routes c = omega (arith, room c)
+
+mul-routes-2 : tie.Need-mul-routes-2
+mul-routes-2 c = omega (arith, room c)
+
+slice-write-routes-2 : tie.Need-slice-write-routes-2
+slice-write-routes-2 c = simp length-set (omega (arith, room c))
+
+mul-routes-3 : tie.Need-mul-routes-3
+mul-routes-3 c = omega (arith, room c)
+
+slice-write-routes-3 : tie.Need-slice-write-routes-3
+slice-write-routes-3 c = simp length-set (omega (arith, room c))
+
+mul-routes-4 : tie.Need-mul-routes-4
+mul-routes-4 c = omega (arith, room c)
+
+slice-write-routes-4 : tie.Need-slice-write-routes-4
+slice-write-routes-4 c = simp length-set (omega (arith, room c))
+
+add-t18 : tie.Need-add-t18
+add-t18 c = omega (arith, room c)
 
 same-length-3 : tie.Need-same-length-3
 same-length-3 c = search needs
 
 returns-2 : tie.Need-returns-2
-returns-2 c = let a = c .before .before .before .before .before .before .before .before .before .before .before .args in route-not-added (a .routes .now) (a .used) (a .address) (a .size) (a .originator) (a .neighbour) _ _ (c .before .before .before .before .before .before .before .add-route .ensures) _ (c .before .before .before .before .if1 .left) _ _ (c .before .before .put-unknown .ensures)
+returns-2 c = let a = c .before .before .before .before .before .args in route-added (a .routes .now) (a .used) (a .address) (a .size) (a .originator) (a .neighbour) _ _ (c .before .route-fits .ensures) (c .if1 .left)
 
 pub serve-route-spec : {M : Type 1} → statement M
 serve-route-spec =
     tie.close
     (tie.spec
-    add-route-requires
-    add-t12
-    same-length
-    returns
+    route-fits-requires
     put-unknown-requires
+    same-length
     same-length-2
+    returns
+    add-second
+    add-third
+    add-fourth
+    mul-routes
+    slice-write-routes
+    mul-routes-2
+    slice-write-routes-2
+    mul-routes-3
+    slice-write-routes-3
+    mul-routes-4
+    slice-write-routes-4
+    add-t18
     same-length-3
     returns-2)
