@@ -16,7 +16,7 @@ use Rattle.octets.specs.Test.{every}
 use Rattle.octets.proofs.Cases.{apart}
 use Rattle.text.specs.Decimal.{isDigit, numberFrom, numberIn, startsWell, isNumber, digitsOf, decimalOf}
 use Rattle.text.specs.Print.{laid}
-use Rattle.text.proofs.HexLaws.{from-range}
+use Rattle.text.proofs.HexLaws.{from-range, sign-more, sign-not, sign-all}
 use Rattle.text.proofs.PrintLaws.{laid-behind}
 
 -- more steps than a number change nothing
@@ -219,6 +219,10 @@ pub number-next : (t : List ℕ) (i n : ℕ) → i < length t → numberFrom n (
 unfolding numberFrom
 number-next t i n h = rw (drop-cons t i 0 h, numberFrom, add-one)
 
+pub number-all : (t : List ℕ) (i n : ℕ) → length t ≤ i → numberFrom n (drop i t) ≡ n
+unfolding numberFrom
+number-all t i n h = rw (drop-of-length-le t h)
+
 -- what is past 32 bits stays so
 large : (n : ℕ) (t : List ℕ) → 2 ^ 32 ≤ n → goesOn n t ≡ false
 large n t h = rw (le-ltb (numberFrom n t) (2 ^ 32) (omega (arith, number-rises n t))) (and-false (every isDigit t))
@@ -227,29 +231,21 @@ large n t h = rw (le-ltb (numberFrom n t) (2 ^ 32) (omega (arith, number-rises n
 module _ (t : List ℕ) (i n : ℕ) (r : Bool) (so-far : r ≡ goesOn n (drop i t)) where
   module _ (found : Bool) (is : found ≡ isDigit (getD t i 0)) (inside : i < length t) where
     pub goes-more : (m : ℕ) → not found ≡ false → m ≡ n * 10 + (getD t i 0 - 0x30) → r ≡ goesOn m (drop (i + 1) t)
-    unfolding every
-    goes-more m f e =
-        so-far ∙ rw (number-next t i n inside, ← e, drop-cons t i 0 inside, every, sym is ∙ not-false found f, add-one)
+    goes-more m f e = so-far ∙ rw (number-next t i n inside, ← e, sign-more isDigit t i (every isDigit (drop i t)) refl found is inside f)
 
     pub goes-past : not found ≡ false → 2 ^ 32 ≤ n * 10 + (getD t i 0 - 0x30) → false ≡ r
     goes-past f h = sym (goes-more (n * 10 + (getD t i 0 - 0x30)) f refl ∙ large (n * 10 + (getD t i 0 - 0x30)) (drop (i + 1) t) h)
 
     pub goes-not : not found ≡ true → false ≡ r
-    unfolding every
-    goes-not f = sym (so-far ∙ rw (drop-cons t i 0 inside, every, sym is ∙ not-true found f))
+    goes-not f = sym (so-far ∙ rw (← sign-not isDigit t i (every isDigit (drop i t)) refl found is inside f))
 
   pub goes-all : length t ≤ i → n < 2 ^ 32 → true ≡ r
-  unfolding every numberFrom
-  goes-all h k = sym (so-far ∙ rw (drop-of-length-le t h, every, numberFrom, lt-ltb n (2 ^ 32) k))
+  goes-all h k = sym (so-far ∙ rw (← sign-all isDigit t i (every isDigit (drop i t)) refl h, number-all t i n h) (lt-ltb n (2 ^ 32) k))
 
 -- a number is read from its first digit on
 pub number-within : (t : List ℕ) → isNumber t ≡ true → goesOn 0 t ≡ true
 unfolding isNumber numberIn
 number-within t e = and-eq-true-iff (startsWell t) (goesOn 0 t) .0 e .1
-
-pub number-all : (t : List ℕ) (i n : ℕ) → length t ≤ i → numberFrom n (drop i t) ≡ n
-unfolding numberFrom
-number-all t i n h = rw (drop-of-length-le t h)
 
 -- what is known of a number's next digit: it is one, and what it makes of the digits before it stays within 32 bits and goes on
 pub record NextDigit (t : List ℕ) (i n : ℕ) : Type 0 where
