@@ -3,7 +3,7 @@
 ghost use mathlib.Core.Path.{_≡_};
 ghost use mathlib.Core.Bool.{false};
 ghost use mathlib.Core.List.{[], _∷_};
-ghost use Prim.Native.Nat.{_+_, _≤_, min};
+ghost use Prim.Native.Nat.{_+_, _≤_};
 ghost use lib.ListN.{length};
 ghost use Rattle.table.specs.Walk.{records};
 ghost use Rattle.flowspec.specs.Announce.{announcing, withdrawing};
@@ -86,22 +86,15 @@ pub enum Form {
 
 // ---- Gathering a line ----
 
-// The lesser of two numbers.
-fn least(a: usize, b: usize) -> usize
-    ensures { λ r. ⌜ r ≡ min a b ⌝ }
-{
-    if a < b { a } else { b }
-}
-
 // Gathers a line: lays the octets of a block before its first LF behind those that the line's buffer holds, as far as it reaches.
 pub fn gather(block: &[u8], line: &mut [u8], held: usize) -> Gathered
     ensures { λ r. ⌜ Gathers (now (block .entry)) (now (line .entry)) held r (now (line .exit)) (now (block .exit) ∷ []) ⌝ }
 {
     let size = text::place_of(b'\n', block);
-    let start = least(held, line.len());
-    let count = least(size, line.len() - start);
+    let start = octets::least(held, line.len());
+    let count = octets::least(size, line.len() - start);
     octets::store(line, start, &block[..count]);
-    let taken = least(size + 1, block.len());
+    let taken = octets::least(size + 1, block.len());
     Gathered {
         taken,
         held: start + count,
@@ -486,7 +479,7 @@ pub fn serve(
             originator,
             communities,
         } => {
-            let count = least(used, routes.len());
+            let count = octets::least(used, routes.len());
             serve_announce(
                 &line[rule..rule_end],
                 originator,

@@ -2,7 +2,7 @@
 // octets out of a buffer or making room in it.
 ghost use mathlib.Core.Path.{_≡_};
 ghost use mathlib.Core.List.{_++_};
-ghost use Prim.Native.Nat.{_+_, _<_, _≤_, _^_, compare};
+ghost use Prim.Native.Nat.{_+_, _<_, _≤_, _^_, compare, min};
 ghost use lib.ListN.{length, getD, take, drop};
 ghost use Rattle.octets.specs.Number.{numberAt, octetsOf};
 ghost use Rattle.octets.specs.Order.{lex, ordered};
@@ -52,6 +52,13 @@ pub fn number_at(n: usize, s: &[u8], at: usize) -> u64
     }
     let missing = end - s.len();
     number_of(&s[at..]) << (missing * 8)
+}
+
+// The lesser of two numbers.
+pub fn least(a: usize, b: usize) -> usize
+    ensures { λ r. ⌜ r ≡ min a b ⌝ }
+{
+    if a < b { a } else { b }
 }
 
 // Which of two numbers comes first: the lower.

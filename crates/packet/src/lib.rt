@@ -2,7 +2,7 @@
 // pairs asks of a field, and whether a packet matches a rule. `packet_of` alone reads the packet's octets; what follows goes by what
 // it found. Every public function answers whatever octets it is lent.
 ghost use mathlib.Core.Path.{_≡_};
-ghost use Prim.Native.Nat.{_<_, min};
+ghost use Prim.Native.Nat.{_<_};
 ghost use lib.ListN.{length};
 ghost use Rattle.packet.specs.Bit.{bitIf};
 ghost use Rattle.packet.specs.Header.{isUnusable, fragmentData};
@@ -11,6 +11,7 @@ ghost use Rattle.packet.specs.Packet.{packetOf};
 ghost use Rattle.packet.specs.Operator.{numericHolds, bitmaskHolds};
 ghost use Rattle.packet.specs.Judging.{withPair, judgePair};
 ghost use Rattle.packet.specs.Match.{dataFor, holdsFor, bodyHolds, fieldMatches, fieldFor, covers, eitherPort, part, componentMatches, matches};
+use octets::least;
 use octets::number_at;
 use octets::octet_at;
 use prefix::Prefix;
@@ -100,13 +101,6 @@ fn fragment_data(field: u64) -> u8
     bit_if(whole, 0x01) | bit_if(later, 0x02) | bit_if(first, 0x04) | bit_if(last, 0x08)
 }
 
-// The smaller of two numbers.
-fn smaller(a: usize, b: usize) -> usize
-    ensures { λ r. ⌜ r ≡ min a b ⌝ }
-{
-    if a <= b { a } else { b }
-}
-
 // Whether the transport header is found, behind a header of so many words and at this fragment offset.
 fn transport_found(words: u8, offset: u64) -> bool
     ensures { λ r. ⌜ r ≡ transportFound words offset ⌝ }
@@ -123,7 +117,7 @@ fn transport_octets(octets: &[u8]) -> &[u8]
     let offset = field & 0x1fff;
     let total = number_at(2, octets, 2);
     let start = 4 * words as usize;
-    let end = smaller(octets.len(), total as usize);
+    let end = least(octets.len(), total as usize);
     if !transport_found(words, offset) {
         return &octets[end..end];
     }

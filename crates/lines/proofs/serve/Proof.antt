@@ -11,7 +11,7 @@ use Rattle.lines.proofs.serve.Statement.{statement}
 use Rattle.lines.proofs.serve.Tie as tie
 use Rattle.lines.proofs.serve.Reads as reads
 use Rattle.lines.proofs.serve.Lts as lts
-use Rattle.lines.proofs.least.Reads as least-reads
+use Rattle.octets.proofs.least.Reads as least-reads
 use Rattle.lines.proofs.put_list.Reads as put-list-reads
 use Rattle.lines.proofs.put_unknown.Reads as put-unknown-reads
 use Rattle.lines.proofs.read_line.Reads as read-line-reads

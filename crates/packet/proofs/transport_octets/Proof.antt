@@ -21,8 +21,8 @@ cast-start c = omega (arith, and-le-r (c .before .before .octet-at .result) 15)
 mul-start : tie.Need-mul-start
 mul-start c = omega (arith, and-le-r (c .before .before .octet-at .result) 15)
 
-smaller-requires : tie.Need-smaller-requires
-smaller-requires c κs = search needs
+least-requires : tie.Need-least-requires
+least-requires c κs = search needs
 
 transport-found-requires : tie.Need-transport-found-requires
 transport-found-requires c κs = search needs
@@ -69,7 +69,7 @@ transport-octets-spec =
     number-at-requires-2
     cast-start
     mul-start
-    smaller-requires
+    least-requires
     transport-found-requires
     sub-result
     part-result-start
