@@ -27,12 +27,12 @@ use Rattle.table.proofs.WalkLaws.{was-found, records-more, records-end, records
 use Rattle.table.proofs.EntryLaws.{length-there}
 use Rattle.text.specs.Spelling.{spelled}
 use Rattle.text.specs.Hex.{hexOf}
-use Rattle.text.specs.Print.{laid}
+use Rattle.text.specs.Print.{laid, Printed}
 use Rattle.text.proofs.DecimalLaws.{length-decimal}
 use Rattle.text.proofs.HexLaws.{length-hexOf}
 use Rattle.text.proofs.PrintLaws.{laid-append, laid-none, length-laid}
 use Rattle.lines.specs.Answer.{answerText, countText, ruleText, rulesText, listText, mostText}
-use Rattle.lines.proofs.PrintLaws.{Printed, printed-then, length-count}
+use Rattle.lines.proofs.PrintLaws.{printed-then, length-count}
 
 -- the records from a place on
 abbrev pub recordsLeft : List ℕ → ℕ → List (List ℕ)

@@ -11,14 +11,10 @@ use borrow.Author.Tests.{le-leb, lt-leb}
 use Rattle.octets.proofs.Cases.{by-test}
 use Rattle.text.specs.Spelling.{spelled}
 use Rattle.text.specs.Decimal.{decimalOf}
-use Rattle.text.specs.Print.{laid}
+use Rattle.text.specs.Print.{Printed}
 use Rattle.text.proofs.DecimalLaws.{decimal-short}
-use Rattle.text.proofs.PrintLaws.{laid-append, laid-none}
-use Rattle.lines.specs.Answer.{placeText, answerText, countText, mostText}
-
--- a text was printed from a place on: what the buffer holds then, and where to go on
-abbrev pub Printed : List ℕ → ℕ → List ℕ → List ℕ → ℕ → Type 0
-Printed out at text exit next = (exit ≡ laid out at text) × (next ≡ at + length text)
+use Rattle.text.proofs.PrintLaws.{laid-behind, laid-none}
+use Rattle.lines.specs.Answer.{placeText, answerText, countText, mostText, Answered}
 
 -- nothing was printed
 pub printed-none : (out : List ℕ) (at : ℕ) (text : List ℕ) → text ≡ [] → Printed out at text out at
@@ -29,19 +25,11 @@ module _ (out : List ℕ) (at : ℕ) (s t : List ℕ) where
   pub printed-then : (middle : List ℕ) (place : ℕ) (exit : List ℕ) (next : ℕ) → Printed out at s middle place → Printed middle place t exit next
       → Printed out at (s ++ t) exit next
   printed-then middle place exit next p q =
-      (q .0 ∙ rw (p .0, p .1) (sym (laid-append out at s t)), q .1 ∙ rw (p .1, length-append s t) (omega arith))
+      (laid-behind out middle exit s t at place (p .0) (p .1) (q .0), q .1 ∙ rw (p .1, length-append s t) (omega arith))
 
 -- at the front the place is the text's length
-pub printed-front : (out text exit : List ℕ) (next : ℕ) → Printed out 0 text exit next → (exit ≡ laid out 0 text) × (next ≡ length text)
-printed-front out text exit next p = (p .0, p .1 ∙ zero-add (length text))
-
--- with a bound on the length
-pub printed-short : (out text exit : List ℕ) (next : ℕ) → Printed out 0 text exit next → length text ≤ mostText
-    → (exit ≡ laid out 0 text) × (next ≡ length text) × (next ≤ mostText)
+pub printed-short : (out text exit : List ℕ) (next : ℕ) → Printed out 0 text exit next → length text ≤ mostText → Answered out text exit next
 printed-short out text exit next p h = let e = p .1 ∙ zero-add (length text) in (p .0, e, omega arith)
-
-pub printed-from-front : (out text exit : List ℕ) (next : ℕ) → (exit ≡ laid out 0 text) × (next ≡ length text) → Printed out 0 text exit next
-printed-from-front out text exit next p = (p .0, p .1 ∙ sym (zero-add (length text)))
 
 -- which refusals have a place
 module _ (number place : ℕ) where

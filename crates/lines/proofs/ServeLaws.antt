@@ -19,7 +19,7 @@ use Rattle.text.specs.Hex.{octetsIn}
 use Rattle.text.specs.Print.{laid}
 use Rattle.text.proofs.HexLaws.{length-octetsIn}
 use Rattle.text.proofs.PrintLaws.{laid-stored, length-laid, laid-none}
-use Rattle.lines.specs.Answer.{unknownText, changeText, listText, mostText}
+use Rattle.lines.specs.Answer.{unknownText, changeText, listText, mostText, Answered}
 use Rattle.lines.specs.declared.Served.{Served}
 use Rattle.lines.specs.declared.Form.{Form}
 use Rattle.lines.specs.declared.Form.the-variants.{Route, Announce, Withdraw, Listing, Unknown}
@@ -45,11 +45,11 @@ route-room routes used fits is t =
 
 -- a route line that was served
 module _ (routes : List ℕ) (used address size originator neighbour : ℕ) (out : List ℕ) (fits : Bool) (is : fits ≡ routeFits used routes) where
-  pub route-not-added : not fits ≡ true → (printed : ℕ) (x : List ℕ) → (x ≡ laid out 0 unknownText) × (printed ≡ length unknownText)
+  pub route-not-added : not fits ≡ true → (printed : ℕ) (x : List ℕ) → Answered out unknownText x printed
       → Adds (adding (address ∷ size ∷ originator ∷ neighbour ∷ []) used routes []) out (record { printed = printed; used = used }) routes x
   route-not-added t printed x p =
       rw (sym is ∙ not-true fits t)
-      (record { is = λ i. record { printed = p .1 i; used = used }; leaves = refl; prints = p .0; short = let n = p .1 in omega arith })
+      (record { is = λ i. record { printed = p .1 i; used = used }; leaves = refl; prints = p .0; short = p .2 })
 
   pub route-added : not fits ≡ false
       → Adds (adding (address ∷ size ∷ originator ∷ neighbour ∷ []) used routes []) out (record { printed = 0; used = used + 4 })
@@ -93,8 +93,8 @@ module _ (room exit text : List ℕ) (count : ℕ) (reads : (exit ≡ laid room 
 
 -- a change of the table whose answer was printed
 pub changes : (o : Changed) (out : List ℕ) (change : Change) (t x : List ℕ) (printed : ℕ) → change ≡ o .answer → t ≡ o .table
-    → (x ≡ laid out 0 (changeText (changeTold change))) × (printed ≡ length (changeText (changeTold change))) × (printed ≤ mostText) → Changes o out printed t x
-changes o out change t x printed a e p = record { leaves = e; prints = rw (← a) (p .0); long = rw (← a) (p .1); short = p .2 }
+    → Answered out (changeText (changeTold change)) x printed → Changes o out printed t x
+changes o out change t x printed a e p = record { leaves = e; prints = rw (← a) p }
 
 -- the routes in use, where `used` may pass the buffer's end
 pub in-use : (used count : ℕ) (routes : List ℕ) → count ≡ min used (length routes) → take count routes ≡ take used routes
@@ -147,25 +147,25 @@ module _ (line : List ℕ) (used : ℕ) (routes table out : List ℕ) (form : Fo
     serve-announced count printed t x e c =
         serves (changing (announcing false (take count routes) (octetsIn (between line rule ruleEnd)) originator (octetsIn (between line communities (length line))) table) used routes)
         (served-as (Announce rule ruleEnd originator communities) is ∙ rw (in-use used count routes e)) _ _ _ _
-        (λ i. record { printed = c .long i; used = used }) refl (c .leaves) (c .prints) (c .short)
+        (λ i. record { printed = c .prints .1 i; used = used }) refl (c .leaves) (c .prints .0) (c .prints .2)
 
   module _ (rule : ℕ) (is : form ≡ Withdraw rule) where
     pub serve-withdrawn : (printed : ℕ) (t x : List ℕ) → Changes (withdrawing (octetsIn (between line rule (length line))) table) out printed t x
         → Serves line used routes table out (record { printed = printed; used = used }) routes t x (line ∷ [])
     serve-withdrawn printed t x c =
         serves (changing (withdrawing (octetsIn (between line rule (length line))) table) used routes) (served-as (Withdraw rule) is) _ _ _ _
-        (λ i. record { printed = c .long i; used = used }) refl (c .leaves) (c .prints) (c .short)
+        (λ i. record { printed = c .prints .1 i; used = used }) refl (c .leaves) (c .prints .0) (c .prints .2)
 
   -- a line that prints and changes nothing
   serve-printed : (text : List ℕ) → served line used routes table ≡ printing text used routes table → (printed : ℕ) (x : List ℕ)
-      → (x ≡ laid out 0 text) × (printed ≡ length text) × (printed ≤ mostText)
+      → Answered out text x printed
       → Serves line used routes table out (record { printed = printed; used = used }) routes table x (line ∷ [])
   serve-printed text e printed x p = serves (printing text used routes table) e _ _ _ _ (λ i. record { printed = p .1 i; used = used }) refl refl (p .0) (p .2)
 
-  pub serve-listed : form ≡ Listing → (printed : ℕ) (x : List ℕ) → (x ≡ laid out 0 (listText table)) × (printed ≡ length (listText table)) × (printed ≤ mostText)
+  pub serve-listed : form ≡ Listing → (printed : ℕ) (x : List ℕ) → Answered out (listText table) x printed
       → Serves line used routes table out (record { printed = printed; used = used }) routes table x (line ∷ [])
   serve-listed is = serve-printed (listText table) (served-as Listing is)
 
-  pub serve-unknown : form ≡ Unknown → (printed : ℕ) (x : List ℕ) → (x ≡ laid out 0 unknownText) × (printed ≡ length unknownText)
+  pub serve-unknown : form ≡ Unknown → (printed : ℕ) (x : List ℕ) → Answered out unknownText x printed
       → Serves line used routes table out (record { printed = printed; used = used }) routes table x (line ∷ [])
-  serve-unknown is printed x p = serve-printed unknownText (served-as Unknown is) printed x (let e = p .1 in (p .0, p .1, omega arith))
+  serve-unknown is = serve-printed unknownText (served-as Unknown is)

@@ -1,5 +1,6 @@
 -- What the program prints. Every line of it ends in LF.
-use Prim.Native.Nat.{ℕ}
+use Prim.Native.Nat.{ℕ, _≤_}
+use mathlib.Core.Path.{_≡_}
 use mathlib.Core.Bool.{cond, _&&_}
 use mathlib.Core.List.{List, [], _∷_, _++_}
 use lib.Dec.{leb}
@@ -11,6 +12,7 @@ use Rattle.flowspec.specs.Told.{Told}
 use Rattle.text.specs.Hex.{hexOf}
 use Rattle.text.specs.Decimal.{decimalOf}
 use Rattle.text.specs.Spelling.{spelled}
+use Rattle.text.specs.Print.{laid}
 
 -- "3 to 7 print their place as a further field."
 unfoldable pub placeText : ℕ → ℕ → List ℕ
@@ -49,3 +51,8 @@ listText table = cond (soundTable ipv4 table) (countText (length (records table)
 -- first line has at most 11 octets, and the others have two for each octet of the records and six more each.
 abbrev pub mostText : ℕ
 mostText = 142993
+
+-- A text was printed to the front of a buffer, as far as that reaches: what the buffer holds then, and how long the text is, which is no
+-- more than the most.
+abbrev pub Answered : List ℕ → List ℕ → List ℕ → ℕ → Type 0
+Answered out text exit printed = (exit ≡ laid out 0 text) × (printed ≡ length text) × (printed ≤ mostText)

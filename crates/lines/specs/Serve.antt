@@ -11,7 +11,7 @@ use Rattle.flowspec.specs.Told.{changeTold}
 use Rattle.text.specs.Print.{laid}
 use Rattle.lines.specs.declared.Served.{Served}
 use Rattle.lines.specs.Line.{Line, route, announce, withdraw, list, other, lineOf}
-use Rattle.lines.specs.Answer.{unknownText, changeText, listText, mostText}
+use Rattle.lines.specs.Answer.{unknownText, changeText, listText, mostText, Answered}
 
 -- What serving a line leaves: the text that it prints, how many words of the routes' buffer are in use, that buffer's words, and the table.
 pub record Outcome : Type 0 where
@@ -59,12 +59,10 @@ servedAs other used routes table = printing unknownText used routes table
 unfoldable pub served : List ℕ → ℕ → List ℕ → List ℕ → Outcome
 served line used routes table = servedAs (lineOf line) used routes table
 
--- How the code holds what a line that changes the table leaves: the table, the printed text, and its length, which is short.
+-- How the code holds what a line that changes the table leaves: the table, and the printed text.
 pub record Changes (changed : Changed) (out : List ℕ) (printed : ℕ) (tableExit outExit : List ℕ) : Type 0 where
   pub leaves : tableExit ≡ changed .table
-  pub prints : outExit ≡ laid out 0 (changeText (changeTold (changed .answer)))
-  pub long : printed ≡ length (changeText (changeTold (changed .answer)))
-  pub short : printed ≤ mostText
+  pub prints : Answered out (changeText (changeTold (changed .answer))) outExit printed
 
 -- How the code holds what a route line leaves: the routes, the printed text, and the answer. The table, which it leaves alone, is not lent
 -- to it.

@@ -10,10 +10,10 @@ ghost use Rattle.flowspec.specs.Announce.{announcing, withdrawing};
 ghost use Rattle.flowspec.specs.Told.{changeTold};
 ghost use Rattle.text.specs.Spelling.{spelled};
 ghost use Rattle.text.specs.Hex.{octetsIn};
-ghost use Rattle.text.specs.Print.{laid};
+ghost use Rattle.text.specs.Print.{Printed};
 ghost use Rattle.lines.specs.Line.{mostSigns, isAddress, isRule, said, lineOf};
 ghost use Rattle.lines.specs.Form.{behind, isOf, FieldSays, NumberSays, Says};
-ghost use Rattle.lines.specs.Answer.{placeText, answerText, unknownText, changeText, countText, ruleText, rulesText, listText, mostText};
+ghost use Rattle.lines.specs.Answer.{placeText, answerText, unknownText, changeText, countText, ruleText, rulesText, listText, Answered};
 ghost use Rattle.lines.specs.Serve.{routeFits, adding, Changes, Adds};
 ghost use Rattle.lines.specs.Promise.{Gathers, Serves};
 use flowspec::Change;
@@ -270,7 +270,7 @@ fn read_line(line: &[u8]) -> Form
 // Prints the place of a refusal from 3 to 7: where to go on.
 fn put_place(out: &mut [u8], at: usize, number: u8, place: usize) -> usize
     requires { ⌜ at ≤ 100 ⌝ }
-    ensures { λ r. ⌜ (now (out .exit) ≡ laid (now (out .entry)) at (placeText number place)) × (r ≡ at + length (placeText number place)) ⌝ }
+    ensures { λ r. ⌜ Printed (now (out .entry)) at (placeText number place) (now (out .exit)) r ⌝ }
 {
     if number < 3 {
         return at;
@@ -284,7 +284,7 @@ fn put_place(out: &mut [u8], at: usize, number: u8, place: usize) -> usize
 
 // Prints the answer of a call: how long the text is.
 fn put_answer(out: &mut [u8], number: u8, place: usize) -> usize
-    ensures { λ r. ⌜ (now (out .exit) ≡ laid (now (out .entry)) 0 (answerText number place)) × (r ≡ length (answerText number place)) × (r ≤ mostText) ⌝ }
+    ensures { λ r. ⌜ Answered (now (out .entry)) (answerText number place) (now (out .exit)) r ⌝ }
 {
     let start = text::put_octets(out, 0, b"answer\t");
     let end = text::put_decimal(out, start, number as u64);
@@ -294,7 +294,7 @@ fn put_answer(out: &mut [u8], number: u8, place: usize) -> usize
 
 // Prints the answer of a change of the table: how long the text is.
 fn put_change(out: &mut [u8], change: Change) -> usize
-    ensures { λ r. ⌜ (now (out .exit) ≡ laid (now (out .entry)) 0 (changeText (changeTold change))) × (r ≡ length (changeText (changeTold change))) × (r ≤ mostText) ⌝ }
+    ensures { λ r. ⌜ Answered (now (out .entry)) (changeText (changeTold change)) (now (out .exit)) r ⌝ }
 {
     match change {
         Change::Done => put_answer(out, 0, 0),
@@ -304,7 +304,7 @@ fn put_change(out: &mut [u8], change: Change) -> usize
 
 // Prints the answer to a line of another form: how long the text is.
 fn put_unknown(out: &mut [u8]) -> usize
-    ensures { λ r. ⌜ (now (out .exit) ≡ laid (now (out .entry)) 0 unknownText) × (r ≡ length unknownText) ⌝ }
+    ensures { λ r. ⌜ Answered (now (out .entry)) unknownText (now (out .exit)) r ⌝ }
 {
     text::put_octets(out, 0, b"answer\t?\n")
 }
@@ -328,7 +328,7 @@ fn count_records(table: &[u8]) -> usize
 
 // Prints how many records there are: how long the text is.
 fn put_count(out: &mut [u8], count: usize) -> usize
-    ensures { λ r. ⌜ (now (out .exit) ≡ laid (now (out .entry)) 0 (countText count)) × (r ≡ length (countText count)) ⌝ }
+    ensures { λ r. ⌜ Printed (now (out .entry)) 0 (countText count) (now (out .exit)) r ⌝ }
 {
     let start = text::put_octets(out, 0, b"rules\t");
     let end = text::put_decimal(out, start, count as u64);
@@ -338,7 +338,7 @@ fn put_count(out: &mut [u8], count: usize) -> usize
 // Prints a record from a place on: where to go on.
 fn put_record(out: &mut [u8], at: usize, held: &[u8]) -> usize
     requires { ⌜ (at ≤ 1000000) × (length (now held) ≤ 65536) ⌝ }
-    ensures { λ r. ⌜ (now (out .exit) ≡ laid (now (out .entry)) at (ruleText (now (held .entry)))) × (r ≡ at + length (ruleText (now (held .entry)))) ⌝ }
+    ensures { λ r. ⌜ Printed (now (out .entry)) at (ruleText (now (held .entry))) (now (out .exit)) r ⌝ }
 {
     let start = text::put_octets(out, at, b"rule\t");
     let end = text::put_hex(out, start, held);
@@ -348,7 +348,7 @@ fn put_record(out: &mut [u8], at: usize, held: &[u8]) -> usize
 // Prints the records of a table from a place on: where to go on.
 fn put_records(table: &[u8], out: &mut [u8], at: usize) -> usize
     requires { ⌜ (length (now table) ≤ 65536) × (at ≤ 100) ⌝ }
-    ensures { λ r. ⌜ (now (out .exit) ≡ laid (now (out .entry)) at (rulesText (records (now (table .entry))))) × (r ≡ at + length (rulesText (records (now (table .entry))))) ⌝ }
+    ensures { λ r. ⌜ Printed (now (out .entry)) at (rulesText (records (now (table .entry)))) (now (out .exit)) r ⌝ }
 {
     let mut place: usize = 0;
     let mut end = at;
@@ -363,7 +363,7 @@ fn put_records(table: &[u8], out: &mut [u8], at: usize) -> usize
 
 // Prints the table: how long the text is.
 fn put_list(out: &mut [u8], table: &[u8]) -> usize
-    ensures { λ r. ⌜ (now (out .exit) ≡ laid (now (out .entry)) 0 (listText (now (table .entry)))) × (r ≡ length (listText (now (table .entry)))) × (r ≤ mostText) ⌝ }
+    ensures { λ r. ⌜ Answered (now (out .entry)) (listText (now (table .entry))) (now (out .exit)) r ⌝ }
 {
     match table::sound_table(table) {
         Soundness::Unsound => put_answer(out, 10, 0),

@@ -9,7 +9,7 @@ ghost use Rattle.text.specs.Spelling.{isFrom};
 ghost use Rattle.text.specs.Hex.{isHexDigit, hexValue, hexDigit, areOctets, octetsIn, hexOf, wordIn};
 ghost use Rattle.text.specs.Decimal.{startsWell, isNumber, numberIn, decimalOf};
 ghost use Rattle.text.specs.Field.{placeOf, fieldEnd};
-ghost use Rattle.text.specs.Print.{laid};
+ghost use Rattle.text.specs.Print.{laid, Printed};
 use octets::number_at;
 
 // ---- Fields ----
@@ -172,7 +172,7 @@ pub fn number_in(text: &[u8]) -> u32
 // Prints an octet as it is: where to go on.
 pub fn put_octet(out: &mut [u8], at: usize, octet: u8) -> usize
     requires { ⌜ at + 1 < 2 ^ 64 ⌝ }
-    ensures { λ r. ⌜ (now (out .exit) ≡ laid (now (out .entry)) at (octet ∷ [])) × (r ≡ at + 1) ⌝ }
+    ensures { λ r. ⌜ Printed (now (out .entry)) at (octet ∷ []) (now (out .exit)) r ⌝ }
 {
     if out.len() <= at {
         return at + 1;
@@ -184,7 +184,7 @@ pub fn put_octet(out: &mut [u8], at: usize, octet: u8) -> usize
 // Prints octets as they are: where to go on.
 pub fn put_octets(out: &mut [u8], at: usize, s: &[u8]) -> usize
     requires { ⌜ at + length (now s) < 2 ^ 64 ⌝ }
-    ensures { λ r. ⌜ (now (out .exit) ≡ laid (now (out .entry)) at (now (s .entry))) × (r ≡ at + length (now (s .entry))) ⌝ }
+    ensures { λ r. ⌜ Printed (now (out .entry)) at (now (s .entry)) (now (out .exit)) r ⌝ }
 {
     let mut place = at;
     let mut i = 0;
@@ -206,7 +206,7 @@ fn hex_digit(n: u8) -> u8
 // Prints octets in hex: where to go on.
 pub fn put_hex(out: &mut [u8], at: usize, s: &[u8]) -> usize
     requires { ⌜ at + length (hexOf (now s)) < 2 ^ 64 ⌝ }
-    ensures { λ r. ⌜ (now (out .exit) ≡ laid (now (out .entry)) at (hexOf (now (s .entry)))) × (r ≡ at + length (hexOf (now (s .entry)))) ⌝ }
+    ensures { λ r. ⌜ Printed (now (out .entry)) at (hexOf (now (s .entry))) (now (out .exit)) r ⌝ }
 {
     let mut place = at;
     let mut i = 0;
@@ -224,7 +224,7 @@ pub fn put_hex(out: &mut [u8], at: usize, s: &[u8]) -> usize
 // Prints a number in decimal: where to go on.
 pub fn put_decimal(out: &mut [u8], at: usize, n: u64) -> usize
     requires { ⌜ at + length (decimalOf n) < 2 ^ 64 ⌝ }
-    ensures { λ r. ⌜ (now (out .exit) ≡ laid (now (out .entry)) at (decimalOf n)) × (r ≡ at + length (decimalOf n)) ⌝ }
+    ensures { λ r. ⌜ Printed (now (out .entry)) at (decimalOf n) (now (out .exit)) r ⌝ }
 {
     if n < 10 {
         return put_octet(out, at, b'0' + n as u8);

@@ -2,7 +2,7 @@
 use native.Mathlib.Omega.{arith}
 use Rattle.text.proofs.DecimalLaws.{decimal-short}
 use Rattle.lines.specs.Answer.{countText}
-use Rattle.lines.proofs.PrintLaws.{printed-then, printed-front}
+use Rattle.lines.proofs.PrintLaws.{printed-then}
 use borrow.Author.Needs.{needs}
 use Rattle.lines.proofs.put_count.Statement.{statement}
 use Rattle.lines.proofs.put_count.Tie as tie
@@ -32,7 +32,7 @@ same-length c = search needs
 returns : tie.Need-returns
 unfolding countText
 returns c =
-    printed-front _ _ _ _ (printed-then _ _ _ _ _ _ _ _ (c .before .before .before .before .before .before .before .before .before .before .before .put-octets .ensures) (printed-then _ _ _ _ _ _ _ _ (c .before .before .before .before .before .before .before .put-decimal .ensures) (c .before .before .put-octets2 .ensures)))
+    printed-then _ _ _ _ _ _ _ _ (c .before .before .before .before .before .before .before .before .before .before .before .put-octets .ensures) (printed-then _ _ _ _ _ _ _ _ (c .before .before .before .before .before .before .before .put-decimal .ensures) (c .before .before .put-octets2 .ensures))
 
 pub put-count-spec : {M : Type 1} → statement M
 put-count-spec =

@@ -1,6 +1,6 @@
 -- An unsound table is answer 10; a sound one is its count with its records behind.
 use native.Mathlib.Omega.{arith}
-use Rattle.lines.proofs.PrintLaws.{count-short, printed-short, printed-from-front}
+use Rattle.lines.proofs.PrintLaws.{count-short, printed-short}
 use Rattle.lines.proofs.ListLaws.{list-unsound, list-sound, list-short, list-within}
 use borrow.Author.Needs.{needs}
 use Rattle.lines.proofs.put_list.Statement.{statement}
@@ -46,7 +46,7 @@ same-length-2 c = search needs
 
 returns-2 : tie.Need-returns-2
 returns-2 c =
-    printed-short _ _ _ _ (list-sound _ _ (c .before .before .before .before .before .before .before .before .before .before .before .sound-table .ensures) _ (c .before .before .before .before .before .before .before .before .before .enum-told2 .given .1) _ (c .before .before .before .before .before .before .before .before .count-records .ensures .0) _ _ _ (printed-from-front _ _ _ _ (c .before .before .before .before .before .before .put-count .ensures)) _ _ (c .before .before .put-records .ensures)) (list-within _ _ (c .before .before .before .before .before .before .before .before .before .before .before .sound-table .ensures) _ (c .before .before .before .before .before .before .before .before .before .enum-told2 .given .1))
+    printed-short _ _ _ _ (list-sound _ _ (c .before .before .before .before .before .before .before .before .before .before .before .sound-table .ensures) _ (c .before .before .before .before .before .before .before .before .before .enum-told2 .given .1) _ (c .before .before .before .before .before .before .before .before .count-records .ensures .0) _ _ _ (c .before .before .before .before .before .before .put-count .ensures) _ _ (c .before .before .put-records .ensures)) (list-within _ _ (c .before .before .before .before .before .before .before .before .before .before .before .sound-table .ensures) _ (c .before .before .before .before .before .before .before .before .before .enum-told2 .given .1))
 
 pub put-list-spec : {M : Type 1} → statement M
 put-list-spec =
