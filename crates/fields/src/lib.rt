@@ -1,4 +1,4 @@
-// Vectors as lines, for the programs that run them: a line is a call of the door, and its answer is a line of standard output. A line's
+// Vectors as lines, for the program that runs them: a line is a call of the door, and its answer is a line of standard output. A line's
 // fields are parted by tabs: the call's name, then octets in hex, and from a `;` on a reason for the reader. Octets are parts joined by
 // `+`, and `00*3` is a part three times. An answer is what the call says in 01's terms: numbers in decimal and octets in hex, parted by
 // tabs. A line that has no call's name, as one that begins with `#`, is for the reader alone.
@@ -10,7 +10,7 @@ use action::Actions;
 use libc::STDOUT_FILENO;
 use octets::number_at;
 
-// How many octets the lines of a program may have together.
+// How many octets the lines may have together.
 pub const INPUT: usize = 1000000;
 
 // How many octets a field may hold.

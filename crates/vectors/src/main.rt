@@ -1,30 +1,57 @@
-// Runs the vectors of reading, writing and comparing rules (crate `fields` says what a line is). Each call has a function of its own and
-// an arm in `answer`; where a buffer is lent, the answer has the whole buffer at exit.
+// Runs the vectors (crate `fields` says what a line is): each call has a function of its own and an arm in `answer_call`. A table stands
+// until the next line that sets one, and each call on a table is made on it as the calls before left it.
 ghost use mathlib.Core.Path.{_≡_};
 ghost use Prim.Native.Nat.{_≤_};
 ghost use lib.ListN.{length};
+ghost use Rattle.io.specs.Counts.{Counts};
 ghost use Rattle.flowspec.specs.Told.{readingTold, writingTold, comparisonTold};
+use action::Actions;
 use fields::FIELD;
 use fields::FIELDS;
 use fields::INPUT;
+use fields::WORDS;
 use fields::print_end;
+use fields::print_first;
 use fields::print_number;
 use fields::print_octets;
 use fields::print_refusal;
 use fields::put_octets;
+use flowspec::Change;
 use flowspec::Comparison;
+use flowspec::Feasibility;
+use flowspec::Looked;
 use libc::STDIN_FILENO;
+use libc::STDOUT_FILENO;
+use packet::Sight;
+use rule::Checked;
 use rule::Reading;
 use rule::Writing;
+use table::Verdict;
 
-// A call's name by its first two letters: `co`, `re`, `wr`.
+// A call's name by its first two letters: `ac`, `an`, `co`, `fe`, `fi`, `lo`, `ma`, `re`, `ta`, `wi`, `wr`.
+const ACTIONS: u64 = 0x6163;
+
+const ANNOUNCE: u64 = 0x616e;
+
 const COMPARE: u64 = 0x636f;
+
+const FEASIBLE: u64 = 0x6665;
+
+const FIRST: u64 = 0x6669;
+
+const LOOKUP: u64 = 0x6c6f;
+
+const MATCH: u64 = 0x6d61;
 
 const READ: u64 = 0x7265;
 
+const TABLE: u64 = 0x7461;
+
+const WITHDRAW: u64 = 0x7769;
+
 const WRITE: u64 = 0x7772;
 
-// ---- What an answer says ----
+// ---- What an answer on rules says ----
 
 // What a reading says in 01's terms.
 struct ReadingTold {
@@ -113,7 +140,7 @@ fn comparison_told(comparison: Comparison) -> ComparisonTold
     }
 }
 
-// ---- Calls ----
+// ---- Reading, writing and comparing ----
 
 // read RULE.
 fn answer_read(line: &[u8], octets: &mut [u8]) {
@@ -126,9 +153,10 @@ fn answer_read(line: &[u8], octets: &mut [u8]) {
 }
 
 // write VALUE BUFFER: the answer, then the buffer at exit.
-fn answer_write(line: &[u8], octets: &mut [u8], buffer: &mut [u8]) {
+fn answer_write(line: &[u8], octets: &mut [u8]) {
+    let mut buffer = io::large_buffer();
     let end = put_octets(line, 1, octets);
-    let room = put_octets(line, 2, buffer);
+    let room = put_octets(line, 2, &mut buffer);
     write_and_print(&octets[..end], &mut buffer[..room]);
     print_end();
 }
@@ -157,43 +185,217 @@ fn compare_and_print(octets: &[u8], middle: usize, end: usize)
     print_number(told.order as u64);
 }
 
-// Answers a line: an arm for each call.
-fn answer(line: &[u8], octets: &mut [u8], buffer: &mut [u8]) {
+// ---- Actions ----
+
+// actions COMMUNITIES: the number, and then the actions, each 0 where the communities are refused.
+fn answer_actions(line: &[u8], octets: &mut [u8]) {
+    let end = put_octets(line, 1, octets);
+    match flowspec::read_actions(&octets[..end]) {
+        action::Reading::Read(actions) => {
+            print_first(0);
+            fields::print_actions(actions);
+        }
+        action::Reading::Unsound => {
+            print_first(13);
+            fields::print_actions(action::no_actions());
+        }
+    }
+    print_end();
+}
+
+// ---- Feasibility ----
+
+// feasible RELAXED ROUTES RULE ORIGINATOR: the setting is 00 or 01, and a route is four words.
+fn answer_feasible(line: &[u8], octets: &mut [u8], words: &mut [u32]) {
+    let relaxed = fields::number_of(line, 1) != 0;
+    let count = fields::put_words(line, 2, octets, words);
+    let end = put_octets(line, 3, octets);
+    let originator = fields::number_of(line, 4);
+    match flowspec::judge_rule(relaxed, &words[..count], &octets[..end], originator) {
+        Feasibility::Feasible => print_refusal(0, 0),
+        Feasibility::Refused { number, place } => print_refusal(number, place),
+    }
+    print_end();
+}
+
+// ---- Matching ----
+
+// match VALUE PACKET.
+fn answer_match(line: &[u8], octets: &mut [u8]) {
+    let both = fields::put_two(line, 1, 2, octets);
+    check_and_match(octets, both.middle, both.end);
+    print_end();
+}
+
+// Prints why the value that stands before a place is refused, or whether it matches the packet that stands behind it.
+fn check_and_match(octets: &[u8], middle: usize, end: usize)
+    requires { ⌜ (middle ≤ end) × (end ≤ length (now octets)) ⌝ }
+{
+    match rule::check_value(rule::ipv4(), &octets[0..middle]) {
+        Checked::Refused { number, place } => {
+            io::write_all(STDOUT_FILENO, b"value\t");
+            print_refusal(number, place);
+        }
+        Checked::Accepted => print_first(verdict_of(&octets[0..middle], &octets[middle..end])),
+    }
+}
+
+// 1 where an accepted value matches a packet, 0 where it does not, and 12 where the packet is unusable.
+fn verdict_of(value: &[u8], packet: &[u8]) -> u64 {
+    match packet::packet_of(packet) {
+        Sight::Unusable => 12,
+        Sight::Usable(seen) => packet::matches_rule(rule::ipv4(), value, seen) as u64,
+    }
+}
+
+// ---- Changing a table ----
+
+// Prints a table's octets; of one that has over 400 the first 200.
+fn print_table(table: &[u8]) {
+    if table.len() <= 400 {
+        print_octets(table);
+        return;
+    }
+    let shown = io::count(200, table);
+    print_octets(&table[..shown]);
+}
+
+// Prints the answer of a change, and the table at exit.
+fn print_change(change: Change, table: &[u8]) {
+    match change {
+        Change::Done => print_refusal(0, 0),
+        Change::Refused { number, place } => print_refusal(number, place),
+    }
+    print_table(table);
+    print_end();
+}
+
+// announce RELAXED ROUTES RULE ORIGINATOR COMMUNITIES: the setting is 00 or 01, and a route is four words.
+fn answer_announce(line: &[u8], octets: &mut [u8], words: &mut [u32], table: &mut [u8]) {
+    let count = fields::put_words(line, 2, octets, words);
+    let both = fields::put_two(line, 3, 5, octets);
+    announce(line, &words[..count], octets, both.middle, both.end, table);
+}
+
+// Announces the rule that stands before a place with the communities that stand behind it, and prints the answer.
+fn announce(line: &[u8], routes: &[u32], octets: &[u8], middle: usize, end: usize, table: &mut [u8])
+    requires { ⌜ (middle ≤ end) × (end ≤ length (now octets)) ⌝ }
+{
+    let relaxed = fields::number_of(line, 1) != 0;
+    let originator = fields::number_of(line, 4);
+    let change = flowspec::announce(
+        table,
+        relaxed,
+        routes,
+        &octets[0..middle],
+        originator,
+        &octets[middle..end],
+    );
+    print_change(change, table);
+}
+
+// withdraw RULE.
+fn answer_withdraw(line: &[u8], octets: &mut [u8], table: &mut [u8]) {
+    let end = put_octets(line, 1, octets);
+    let change = flowspec::withdraw(table, &octets[..end]);
+    print_change(change, table);
+}
+
+// ---- Looking up ----
+
+// Prints a refusal's number and place, how many rules were collected, and their merged actions.
+fn print_lookup(number: u8, place: usize, count: usize, actions: Actions) {
+    print_refusal(number, place);
+    print_number(count as u64);
+    fields::print_actions(actions);
+    print_end();
+}
+
+// Prints a verdict: where nothing matches, no rule and no actions.
+fn print_verdict(verdict: Verdict) {
+    match verdict {
+        Verdict::Unmatched => print_lookup(0, 0, 0, action::no_actions()),
+        Verdict::Matched { actions, count } => print_lookup(0, 0, count, actions),
+    }
+}
+
+// lookup PACKET.
+fn answer_lookup(line: &[u8], octets: &mut [u8], table: &[u8]) {
+    let end = put_octets(line, 1, octets);
+    match flowspec::lookup(table, &octets[..end]) {
+        Looked::Judged(verdict) => print_verdict(verdict),
+        Looked::Refused { number, place } => {
+            print_lookup(number, place, 0, action::no_actions());
+        }
+    }
+}
+
+// first PACKET: how many octets the first match's record has, and the record.
+fn answer_first(line: &[u8], octets: &mut [u8], table: &[u8]) {
+    let end = put_octets(line, 1, octets);
+    let part = flowspec::first_match(table, &octets[..end]);
+    print_first(part.len() as u64);
+    print_octets(part);
+    print_end();
+}
+
+// ---- Lines ----
+
+// Answers a call, the last ones on a table: an arm for each.
+fn answer_call(line: &[u8], octets: &mut [u8], words: &mut [u32], table: &mut [u8]) {
     match fields::name_of(line) {
-        READ => {
-            answer_read(line, octets);
-            return;
-        }
-        WRITE => {
-            answer_write(line, octets, buffer);
-            return;
-        }
-        COMPARE => {
-            answer_compare(line, octets);
-            return;
-        }
+        READ => answer_read(line, octets),
+        WRITE => answer_write(line, octets),
+        COMPARE => answer_compare(line, octets),
+        ACTIONS => answer_actions(line, octets),
+        FEASIBLE => answer_feasible(line, octets, words),
+        MATCH => answer_match(line, octets),
+        ANNOUNCE => answer_announce(line, octets, words, table),
+        WITHDRAW => answer_withdraw(line, octets, table),
+        LOOKUP => answer_lookup(line, octets, table),
+        FIRST => answer_first(line, octets, table),
         _ => return,
     }
 }
 
+// Answers a line on the table in the first octets of a buffer: how many they are then. The line `table OCTETS` sets them.
+fn answer(
+    line: &[u8],
+    octets: &mut [u8],
+    words: &mut [u32],
+    buffer: &mut [u8],
+    size: usize,
+) -> usize
+    requires { ⌜ Counts size (now buffer) ⌝ }
+    ensures { λ r. ⌜ Counts r (now (buffer .exit)) ⌝ }
+{
+    if fields::name_of(line) == TABLE {
+        return put_octets(line, 1, buffer);
+    }
+    answer_call(line, octets, words, &mut buffer[..size]);
+    size
+}
+
 // Answers every line of the input.
-fn answer_all(input: &[u8], octets: &mut [u8], buffer: &mut [u8]) {
+fn answer_all(input: &[u8], octets: &mut [u8], words: &mut [u32], buffer: &mut [u8]) {
     let mut at = 0;
+    let mut size = 0;
     while at < input.len() {
-        answer(fields::call_at(input, at), octets, buffer);
+        size = answer(fields::call_at(input, at), octets, words, buffer, size);
         at = fields::line_after(input, at);
     }
 }
 
 // Reads the input and answers its lines.
-fn run(input: &mut [u8], octets: &mut [u8], buffer: &mut [u8]) {
+fn run(input: &mut [u8], octets: &mut [u8], words: &mut [u32], buffer: &mut [u8]) {
     let end = io::read_full(STDIN_FILENO, input);
-    answer_all(&input[..end], octets, buffer);
+    answer_all(&input[..end], octets, words, buffer);
 }
 
 fn main() {
     let mut input = [0u8; INPUT];
     let mut octets = [0u8; FIELDS];
+    let mut words = [0u32; WORDS];
     let mut buffer = [0u8; FIELD];
-    run(&mut input, &mut octets, &mut buffer);
+    run(&mut input, &mut octets, &mut words, &mut buffer);
 }

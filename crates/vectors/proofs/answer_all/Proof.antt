@@ -1,16 +1,17 @@
--- Each turn begins behind the line that it answers, and leaves what is lent at its length.
+-- Each turn begins behind the line that it answers, and leaves what is lent at its length and the table within its buffer.
 use borrow.Author.Needs.{needs}
 use Prim.Native.Nat.{_≤_, _-_, _+_}
 use mathlib.Core.Path.{_≡_}
 use lib.ListN.{length}
+use Rattle.io.specs.Counts.{Counts}
 use Rattle.vectors.proofs.answer_all.Statement.{statement}
 use Rattle.vectors.proofs.answer_all.Tie as tie
 
 abbrev Inv-loop : tie.InvT-loop
-Inv-loop input octets₀ buffer₀ at₀ octets buffer at = (at ≤ length input + 1) × (length octets ≡ length octets₀) × (length buffer ≡ length buffer₀)
+Inv-loop input octets₀ words₀ buffer₀ at₀ size₀ octets words buffer at size = (at ≤ length input + 1) × Counts size buffer × (length octets ≡ length octets₀) × (length words ≡ length words₀) × (length buffer ≡ length buffer₀)
 
 abbrev μ-loop : tie.MeasureT-loop
-μ-loop input octets₀ buffer₀ at₀ octets buffer at = length input + 1 - at
+μ-loop input octets₀ words₀ buffer₀ at₀ size₀ octets words buffer at size = length input + 1 - at
 
 loop-holds : tie.Need-loop-holds Inv-loop μ-loop
 loop-holds c = search needs
@@ -36,6 +37,9 @@ same-length c = search needs
 same-length-2 : tie.Need-same-length-2 Inv-loop μ-loop
 same-length-2 c = search needs
 
+same-length-3 : tie.Need-same-length-3 Inv-loop μ-loop
+same-length-3 c = search needs
+
 returns : tie.Need-returns Inv-loop μ-loop
 returns c = search needs
 
@@ -53,4 +57,5 @@ answer-all-spec =
     loop-again
     same-length
     same-length-2
+    same-length-3
     returns)

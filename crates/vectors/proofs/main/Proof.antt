@@ -1,4 +1,4 @@
--- Each of the three arrays is lent at its length.
+-- Each of the four arrays is lent at its length.
 use Prim.Native.Nat.{ℕ}
 use mathlib.Core.Path.{sym}
 use lib.ListN.{length-replicate}
@@ -12,7 +12,10 @@ slice-aggregate-run-2 : tie.Need-slice-aggregate-run-2
 slice-aggregate-run-2 c = sym (length-replicate {A = ℕ} 350000 0)
 
 slice-aggregate-run-3 : tie.Need-slice-aggregate-run-3
-slice-aggregate-run-3 c = sym (length-replicate {A = ℕ} 70000 0)
+slice-aggregate-run-3 c = sym (length-replicate {A = ℕ} 17500 0)
+
+slice-aggregate-run-4 : tie.Need-slice-aggregate-run-4
+slice-aggregate-run-4 c = sym (length-replicate {A = ℕ} 70000 0)
 
 run-requires : tie.Need-run-requires
 run-requires c κs = tt
@@ -27,5 +30,6 @@ main-spec =
     slice-aggregate-run
     slice-aggregate-run-2
     slice-aggregate-run-3
+    slice-aggregate-run-4
     run-requires
     returns)

@@ -1,8 +1,8 @@
 -- A call leaves the table at its length.
 use Rattle.io.proofs.Counting.{counts}
 use borrow.Author.Needs.{needs}
-use Rattle.vectors_table.proofs.answer.Statement.{statement}
-use Rattle.vectors_table.proofs.answer.Tie as tie
+use Rattle.vectors.proofs.answer.Statement.{statement}
+use Rattle.vectors.proofs.answer.Tie as tie
 
 name-of-requires : tie.Need-name-of-requires
 name-of-requires c κs = search needs
