@@ -2,13 +2,14 @@
 // fields are parted by tabs: the call's name, then octets in hex, and from a `;` on a reason for the reader. Octets are parts joined by
 // `+`, and `00*3` is a part three times. An answer is what the call says in 01's terms: numbers in decimal and octets in hex, parted by
 // tabs. A line that has no call's name, as one that begins with `#`, is for the reader alone.
-ghost use mathlib.Core.Path.{_≡_};
 ghost use Prim.Native.Nat.{_+_, _<_, _≤_};
 ghost use lib.ListN.{length};
 ghost use Rattle.io.specs.Counts.{Counts};
 use action::Actions;
 use libc::STDOUT_FILENO;
 use octets::number_at;
+use text::field_end;
+use text::place_of;
 
 // How many octets the lines may have together.
 pub const INPUT: usize = 1000000;
@@ -24,29 +25,15 @@ pub const WORDS: usize = 17500;
 
 // ---- Lines ----
 
-// Where a mark first stands, or the end.
-fn place_of(mark: u8, s: &[u8]) -> usize
-    ensures { λ r. ⌜ Counts r (now (s .entry)) ⌝ }
-{
-    let mut at = 0;
-    while at < s.len() {
-        if s[at] == mark {
-            return at;
-        }
-        at += 1;
-    }
-    at
-}
-
 // The call in the line that begins at a place of the input: what the line has before its `;`.
 pub fn call_at(input: &[u8], at: usize) -> &[u8]
     requires { ⌜ at ≤ length (now input) ⌝ }
 {
     let rest = &input[at..];
     let end = place_of(b'\n', rest);
-    let line = &rest[..end];
+    let line = &rest[0..end];
     let stop = place_of(b';', line);
-    &line[..stop]
+    &line[0..stop]
 }
 
 // Where the line behind the one that begins at a place of the input begins.
@@ -65,74 +52,41 @@ pub fn name_of(call: &[u8]) -> u64 {
 
 // ---- Fields ----
 
-// The lesser of two numbers.
-fn least(a: usize, b: usize) -> usize
-    ensures { λ r. ⌜ (r ≤ a) × (r ≤ b) ⌝ }
-{
-    if a < b {
-        return a;
-    }
-    b
-}
-
 // The field of a line behind so many tabs, empty where the line has fewer.
 fn field_of(line: &[u8], number: usize) -> &[u8] {
     let mut at = 0;
     let mut left = number;
     while 0 < left {
-        let tab = at + place_of(b'\t', &line[at..]);
+        let tab = field_end(line, at);
         if line.len() <= tab {
             return &line[..0];
         }
         at = tab + 1;
         left -= 1;
     }
-    let end = at + place_of(b'\t', &line[at..]);
+    let end = field_end(line, at);
     &line[at..end]
 }
 
-// What a digit stands for, and 0 for any other sign.
-fn digit_of(sign: u8) -> u8
-    ensures { λ r. ⌜ r < 16 ⌝ }
-{
-    match sign {
-        b'0'..=b'9' => sign - b'0',
-        b'a'..=b'f' => sign - b'a' + 10,
-        _ => 0,
-    }
-}
-
-// How often a part is to stand: the number behind its star, and once where it has none.
+// How often a part is to stand: once where it has no star, else the number behind the star, and 0 where that is none.
 fn times_of(star: &[u8]) -> usize {
     if star.len() == 0 {
         return 1;
     }
-    let mut times: usize = 0;
-    let mut i = 1;
-    while i < star.len() {
-        if FIELD < times {
-            return times;
-        }
-        let digit = digit_of(star[i]);
-        times = times * 10 + digit as usize;
-        i += 1;
+    let number = &star[1..];
+    if text::is_number(number) {
+        return text::number_in(number) as usize;
     }
-    times
+    0
 }
 
 // Fills the front of a room with the octets that digits spell, as far as it reaches: how many there are.
 fn put_digits(digits: &[u8], room: &mut [u8]) -> usize
     ensures { λ r. ⌜ r ≤ length (now (room .entry)) ⌝ }
 {
-    let count = least(digits.len() / 2, room.len());
-    let mut i = 0;
-    while i < count {
-        let place = i * 2;
-        let next = place + 1;
-        let high = digit_of(digits[place]);
-        let low = digit_of(digits[next]);
-        room[i] = high * 16 + low;
-        i += 1;
+    let count = text::read_octets(digits, room);
+    if room.len() < count {
+        return room.len();
     }
     count
 }
@@ -142,7 +96,7 @@ fn put_part(part: &[u8], room: &mut [u8]) -> usize
     ensures { λ r. ⌜ r ≤ length (now (room .entry)) ⌝ }
 {
     let star = place_of(b'*', part);
-    let digits = &part[..star];
+    let digits = &part[0..star];
     let mut left = times_of(&part[star..]);
     let mut at = 0;
     while 0 < left {
@@ -193,23 +147,23 @@ pub fn put_two(line: &[u8], first: usize, second: usize, room: &mut [u8]) -> Two
 
 // The number in a line's field of four octets.
 pub fn number_of(line: &[u8], number: usize) -> u32 {
-    let mut room = [0u8; 4];
-    put_octets(line, number, &mut room);
-    number_at(4, &room, 0) as u32
+    text::word_in(field_of(line, number))
 }
 
 // Fills the front of words with the numbers in octets, four each, as far as they reach: how many there are.
 fn fill_words(octets: &[u8], words: &mut [u32]) -> usize
     ensures { λ r. ⌜ r ≤ length (now (words .entry)) ⌝ }
 {
-    let count = least(octets.len() / 4, words.len());
     let mut i = 0;
-    while i < count {
+    while i < words.len() {
         let place = i * 4;
+        if octets.len() < place + 4 {
+            return i;
+        }
         words[i] = number_at(4, octets, place) as u32;
         i += 1;
     }
-    count
+    i
 }
 
 // Fills the front of words with those of a line's field, whose octets a room holds meanwhile: how many there are.

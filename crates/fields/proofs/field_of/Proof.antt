@@ -1,7 +1,6 @@
 -- Fields are passed tab by tab: the place stays within the line, and fewer tabs are left each turn.
 use borrow.Author.Needs.{needs}
 use Prim.Native.Nat.{_≤_}
-use native.Mathlib.Omega.{arith}
 use lib.ListN.{length}
 use Rattle.fields.proofs.field_of.Statement.{statement}
 use Rattle.fields.proofs.field_of.Tie as tie
@@ -13,55 +12,31 @@ abbrev μ-loop : tie.MeasureT-loop
 μ-loop line number at₀ left₀ at left = left
 
 loop-holds : tie.Need-loop-holds Inv-loop μ-loop
-loop-holds c = omega arith
+loop-holds c = search needs
 
-sub-place-of : tie.Need-sub-place-of Inv-loop μ-loop
-sub-place-of c = search needs
-
-part-place-of-start : tie.Need-part-place-of-start Inv-loop μ-loop
-part-place-of-start c = search needs
-
-part-place-of-end : tie.Need-part-place-of-end Inv-loop μ-loop
-part-place-of-end c = search needs
-
-place-of-requires : tie.Need-place-of-requires Inv-loop μ-loop
-place-of-requires c κs = tt
-
-add-tab : tie.Need-add-tab Inv-loop μ-loop
-add-tab c = omega arith
+field-end-requires : tie.Need-field-end-requires Inv-loop μ-loop
+field-end-requires c κs = search needs
 
 slice-aggregate-result : tie.Need-slice-aggregate-result Inv-loop μ-loop
 slice-aggregate-result c = search needs
 
 returns : tie.Need-returns Inv-loop μ-loop
-returns c = omega arith
+returns c = search needs
 
 add-at : tie.Need-add-at Inv-loop μ-loop
-add-at c = omega arith
+add-at c = search needs
 
 sub-left : tie.Need-sub-left Inv-loop μ-loop
-sub-left c = omega arith
+sub-left c = search needs
 
 loop-less : tie.Need-loop-less Inv-loop μ-loop
-loop-less c = omega arith
+loop-less c = search needs
 
 loop-again : tie.Need-loop-again Inv-loop μ-loop
-loop-again c = omega arith
+loop-again c = search needs
 
-sub-place-of-2 : tie.Need-sub-place-of-2 Inv-loop μ-loop
-sub-place-of-2 c = search needs
-
-part-place-of-start-2 : tie.Need-part-place-of-start-2 Inv-loop μ-loop
-part-place-of-start-2 c = search needs
-
-part-place-of-end-2 : tie.Need-part-place-of-end-2 Inv-loop μ-loop
-part-place-of-end-2 c = search needs
-
-place-of-requires-2 : tie.Need-place-of-requires-2 Inv-loop μ-loop
-place-of-requires-2 c κs = tt
-
-add-end : tie.Need-add-end Inv-loop μ-loop
-add-end c = omega arith
+field-end-requires-2 : tie.Need-field-end-requires-2 Inv-loop μ-loop
+field-end-requires-2 c κs = search needs
 
 sub-result : tie.Need-sub-result Inv-loop μ-loop
 sub-result c = search needs
@@ -73,7 +48,7 @@ part-result-end : tie.Need-part-result-end Inv-loop μ-loop
 part-result-end c = search needs
 
 returns-2 : tie.Need-returns-2 Inv-loop μ-loop
-returns-2 c = omega arith
+returns-2 c = search needs
 
 pub field-of-spec : {M : Type 1} → statement M
 field-of-spec =
@@ -82,22 +57,14 @@ field-of-spec =
     Inv-loop
     μ-loop
     loop-holds
-    sub-place-of
-    part-place-of-start
-    part-place-of-end
-    place-of-requires
-    add-tab
+    field-end-requires
     slice-aggregate-result
     returns
     add-at
     sub-left
     loop-less
     loop-again
-    sub-place-of-2
-    part-place-of-start-2
-    part-place-of-end-2
-    place-of-requires-2
-    add-end
+    field-end-requires-2
     sub-result
     part-result-start
     part-result-end

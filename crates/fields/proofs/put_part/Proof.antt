@@ -2,7 +2,6 @@
 use borrow.Author.Needs.{needs}
 use Prim.Native.Nat.{_≤_}
 use mathlib.Core.Path.{_≡_}
-use native.Mathlib.Omega.{arith}
 use lib.ListN.{length}
 use Rattle.fields.proofs.put_part.Statement.{statement}
 use Rattle.fields.proofs.put_part.Tie as tie
@@ -14,10 +13,16 @@ abbrev μ-loop : tie.MeasureT-loop
 μ-loop part room₀ star digits left₀ at₀ room left at = left
 
 place-of-requires : tie.Need-place-of-requires Inv-loop μ-loop
-place-of-requires c κs = tt
+place-of-requires c κs = search needs
 
-slice-aggregate-digits : tie.Need-slice-aggregate-digits Inv-loop μ-loop
-slice-aggregate-digits c = search needs
+sub-digits : tie.Need-sub-digits Inv-loop μ-loop
+sub-digits c = search needs
+
+part-digits-start : tie.Need-part-digits-start Inv-loop μ-loop
+part-digits-start c = search needs
+
+part-digits-end : tie.Need-part-digits-end Inv-loop μ-loop
+part-digits-end c = search needs
 
 sub-times-of : tie.Need-sub-times-of Inv-loop μ-loop
 sub-times-of c = search needs
@@ -29,10 +34,10 @@ part-times-of-end : tie.Need-part-times-of-end Inv-loop μ-loop
 part-times-of-end c = search needs
 
 times-of-requires : tie.Need-times-of-requires Inv-loop μ-loop
-times-of-requires c κs = tt
+times-of-requires c κs = search needs
 
 loop-holds : tie.Need-loop-holds Inv-loop μ-loop
-loop-holds c = (omega arith, omega arith)
+loop-holds c = search needs
 
 sub-put-digits : tie.Need-sub-put-digits Inv-loop μ-loop
 sub-put-digits c = search needs
@@ -44,25 +49,25 @@ part-put-digits-end : tie.Need-part-put-digits-end Inv-loop μ-loop
 part-put-digits-end c = search needs
 
 put-digits-requires : tie.Need-put-digits-requires Inv-loop μ-loop
-put-digits-requires c κs = tt
+put-digits-requires c κs = search needs
 
 add-at : tie.Need-add-at Inv-loop μ-loop
-add-at c = omega arith
+add-at c = search needs
 
 sub-left : tie.Need-sub-left Inv-loop μ-loop
-sub-left c = omega arith
+sub-left c = search needs
 
 loop-less : tie.Need-loop-less Inv-loop μ-loop
-loop-less c = omega arith
+loop-less c = search needs
 
 loop-again : tie.Need-loop-again Inv-loop μ-loop
-loop-again c = (omega arith, omega arith)
+loop-again c = search needs
 
 same-length : tie.Need-same-length Inv-loop μ-loop
 same-length c = search needs
 
 returns : tie.Need-returns Inv-loop μ-loop
-returns c = omega arith
+returns c = search needs
 
 pub put-part-spec : {M : Type 1} → statement M
 put-part-spec =
@@ -71,7 +76,9 @@ put-part-spec =
     Inv-loop
     μ-loop
     place-of-requires
-    slice-aggregate-digits
+    sub-digits
+    part-digits-start
+    part-digits-end
     sub-times-of
     part-times-of-start
     part-times-of-end
