@@ -193,6 +193,12 @@ pub fn print_refusal(number: u8, place: usize) {
     print_number(place as u64);
 }
 
+// Prints a refusal's number and place, and a value.
+pub fn print_valued(number: u8, place: usize, value: usize) {
+    print_refusal(number, place);
+    print_number(value as u64);
+}
+
 // Prints an octet as two digits.
 fn print_octet(octet: u8) {
     io::print_hex(STDOUT_FILENO, octet as u64, 2);

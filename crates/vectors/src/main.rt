@@ -1,10 +1,8 @@
 // Runs the vectors (crate `fields` says what a line is): each call has a function of its own and an arm in `answer_call`. A table stands
 // until the next line that sets one, and each call on a table is made on it as the calls before left it.
-ghost use mathlib.Core.Path.{_≡_};
 ghost use Prim.Native.Nat.{_≤_};
 ghost use lib.ListN.{length};
 ghost use Rattle.io.specs.Counts.{Counts};
-ghost use Rattle.flowspec.specs.Told.{readingTold, writingTold, comparisonTold};
 use action::Actions;
 use fields::FIELD;
 use fields::FIELDS;
@@ -15,6 +13,7 @@ use fields::print_first;
 use fields::print_number;
 use fields::print_octets;
 use fields::print_refusal;
+use fields::print_valued;
 use fields::put_octets;
 use flowspec::Change;
 use flowspec::Comparison;
@@ -51,105 +50,22 @@ const WITHDRAW: u64 = 0x7769;
 
 const WRITE: u64 = 0x7772;
 
-// ---- What an answer on rules says ----
-
-// What a reading says in 01's terms.
-struct ReadingTold {
-    number: u8,
-    place: usize,
-    start: usize,
-    size: usize,
-}
-
-// What a writing says in 01's terms.
-struct WritingTold {
-    number: u8,
-    place: usize,
-    octets: usize,
-}
-
-// What a comparison says in 01's terms.
-struct ComparisonTold {
-    number: u8,
-    place: usize,
-    order: usize,
-}
-
-// What a reading says.
-fn reading_told(reading: Reading) -> ReadingTold
-    ensures { λ r. ⌜ (r .number ≡ readingTold reading .number) × (r .place ≡ readingTold reading .place) × (r .start ≡ readingTold reading .start) × (r .size ≡ readingTold reading .size) ⌝ }
-{
-    match reading {
-        Reading::Rule { start, size } => ReadingTold {
-            number: 0,
-            place: 0,
-            start,
-            size,
-        },
-        Reading::Refused { number, place } => ReadingTold {
-            number,
-            place,
-            start: 0,
-            size: 0,
-        },
-    }
-}
-
-// What a writing says.
-fn writing_told(writing: Writing) -> WritingTold
-    ensures { λ r. ⌜ (r .number ≡ writingTold writing .number) × (r .place ≡ writingTold writing .place) × (r .octets ≡ writingTold writing .octets) ⌝ }
-{
-    match writing {
-        Writing::Written(octets) => WritingTold {
-            number: 0,
-            place: 0,
-            octets,
-        },
-        Writing::Refused { number, place } => WritingTold {
-            number,
-            place,
-            octets: 0,
-        },
-    }
-}
-
-// A comparison that is done says which rule comes first.
-fn ordered(order: usize) -> ComparisonTold
-    ensures { λ r. ⌜ (r .number ≡ 0) × (r .place ≡ 0) × (r .order ≡ order) ⌝ }
-{
-    ComparisonTold {
-        number: 0,
-        place: 0,
-        order,
-    }
-}
-
-// What a comparison says.
-fn comparison_told(comparison: Comparison) -> ComparisonTold
-    ensures { λ r. ⌜ (r .number ≡ comparisonTold comparison .number) × (r .place ≡ comparisonTold comparison .place) × (r .order ≡ comparisonTold comparison .order) ⌝ }
-{
-    match comparison {
-        Comparison::First => ordered(1),
-        Comparison::Second => ordered(2),
-        Comparison::Same => ordered(3),
-        Comparison::Refused { number, place } => ComparisonTold {
-            number,
-            place,
-            order: 0,
-        },
-    }
-}
-
 // ---- Reading, writing and comparing ----
 
 // read RULE.
 fn answer_read(line: &[u8], octets: &mut [u8]) {
     let end = put_octets(line, 1, octets);
-    let told = reading_told(flowspec::read_rule(&octets[..end]));
-    print_refusal(told.number, told.place);
-    print_number(told.start as u64);
-    print_number(told.size as u64);
+    match flowspec::read_rule(&octets[..end]) {
+        Reading::Rule { start, size } => print_reading(0, 0, start, size),
+        Reading::Refused { number, place } => print_reading(number, place, 0, 0),
+    }
     print_end();
+}
+
+// Prints a refusal's number and place, and the start and size of a rule's value.
+fn print_reading(number: u8, place: usize, start: usize, size: usize) {
+    print_valued(number, place, start);
+    print_number(size as u64);
 }
 
 // write VALUE BUFFER: the answer, then the buffer at exit.
@@ -163,9 +79,10 @@ fn answer_write(line: &[u8], octets: &mut [u8]) {
 
 // Writes a rule to a buffer, and prints the answer and the buffer.
 fn write_and_print(value: &[u8], buffer: &mut [u8]) {
-    let told = writing_told(flowspec::write_rule(value, buffer));
-    print_refusal(told.number, told.place);
-    print_number(told.octets as u64);
+    match flowspec::write_rule(value, buffer) {
+        Writing::Written(octets) => print_valued(0, 0, octets),
+        Writing::Refused { number, place } => print_valued(number, place, 0),
+    }
     print_octets(buffer);
 }
 
@@ -180,9 +97,12 @@ fn answer_compare(line: &[u8], octets: &mut [u8]) {
 fn compare_and_print(octets: &[u8], middle: usize, end: usize)
     requires { ⌜ (middle ≤ end) × (end ≤ length (now octets)) ⌝ }
 {
-    let told = comparison_told(flowspec::compare_rules(&octets[0..middle], &octets[middle..end]));
-    print_refusal(told.number, told.place);
-    print_number(told.order as u64);
+    match flowspec::compare_rules(&octets[0..middle], &octets[middle..end]) {
+        Comparison::First => print_valued(0, 0, 1),
+        Comparison::Second => print_valued(0, 0, 2),
+        Comparison::Same => print_valued(0, 0, 3),
+        Comparison::Refused { number, place } => print_valued(number, place, 0),
+    }
 }
 
 // ---- Actions ----
@@ -305,8 +225,7 @@ fn answer_withdraw(line: &[u8], octets: &mut [u8], table: &mut [u8]) {
 
 // Prints a refusal's number and place, how many rules were collected, and their merged actions.
 fn print_lookup(number: u8, place: usize, count: usize, actions: Actions) {
-    print_refusal(number, place);
-    print_number(count as u64);
+    print_valued(number, place, count);
     fields::print_actions(actions);
     print_end();
 }
