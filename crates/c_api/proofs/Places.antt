@@ -1,11 +1,14 @@
 -- Every refusal of a call is a number of 01's table at a place that is at most 4,095. Assumes nothing.
-use mathlib.Core.Path.{_≡_, subst}
+use mathlib.Core.Path.{_≡_, refl, subst}
 use mathlib.Core.Bool.{Bool, true, false}
 use mathlib.Core.List.{List}
-use Prim.Native.Nat.{ℕ, _≤_, Ordering, Ordering·lt, Ordering·eq, Ordering·gt}
+use Prim.Native.Nat.{ℕ, _≤_}
 use native.Mathlib.Omega.{arith}
 use lib.Dec.{eqb}
 use borrow.Author.Tests.{eqb-false}
+use Rattle.octets.specs.Order.{ordered}
+use Rattle.octets.specs.declared.Order.{Order}
+use Rattle.octets.specs.declared.Order.the-variants.{First as OrderFirst, Second as OrderSecond, Same as OrderSame}
 use Rattle.octets.proofs.Cases.{by-test}
 use Rattle.rule.specs.declared.Reading.{Reading}
 use Rattle.rule.specs.declared.Reading.the-variants.{Rule, Refused as NotRead}
@@ -36,10 +39,11 @@ use Rattle.flowspec.specs.declared.Change.{Change}
 use Rattle.flowspec.specs.declared.Change.the-variants.{Done, Refused as NotChanged}
 use Rattle.flowspec.specs.declared.Looked.{Looked}
 use Rattle.flowspec.specs.declared.Looked.the-variants.{Judged, Refused as NotLookedUp}
-use Rattle.flowspec.specs.Compare.{compared, compareRead, compareRules}
-use Rattle.flowspec.specs.Feasibility.{isFeasible, judged, judgeRead, judgement}
+use Rattle.flowspec.specs.Told.{changeTold}
+use Rattle.flowspec.specs.Compare.{comparisonOf, compareRead, compareRules}
+use Rattle.flowspec.specs.Feasibility.{readWithRoutes, isFeasible, judged, judgeRead, judgement}
 use Rattle.flowspec.specs.Announce.{announcedEntry, changeOf, askedBy, asked, announcedBy, announcing, withdrawnBy, withdrawing}
-use Rattle.flowspec.specs.Look.{lookedUp, lookingUp}
+use Rattle.flowspec.specs.Look.{shown, seen, lookedUp, lookingUp}
 
 -- ---- comparing ----
 
@@ -53,15 +57,15 @@ pub not-compared : (a b : List ℕ) (number place : ℕ) → compareRules a b �
 unfolding compareRules
 not-compared a b number place e = subst Compares e (go (oneRule ipv4 a) (oneRule ipv4 b) (one-says ipv4 a) (one-says ipv4 b))
   where
-    order : (o : Ordering) → Compares (compared o)
-    order Ordering·lt = tt
-    order Ordering·eq = tt
-    order Ordering·gt = tt
+    order : (o : Order) → Compares (comparisonOf o)
+    order OrderFirst = tt
+    order OrderSecond = tt
+    order OrderSame = tt
 
     go : (r q : Reading) → SaysRule ipv4 a r → SaysRule ipv4 b q → Compares (compareRead a r b q)
     go (NotRead number place) q h k = h
     go (Rule start size) (NotRead number place) h k = k
-    go (Rule start size) (Rule begin length) h k = order (precedence ipv4 (valueOf a start size) (valueOf b begin length))
+    go (Rule start size) (Rule begin length) h k = order (ordered (precedence ipv4 (valueOf a start size) (valueOf b begin length)))
 
 -- ---- judging ----
 
@@ -69,18 +73,30 @@ abbrev Judges : Feasibility → Type 0
 Judges (NotFeasible number place) = Refusal number place
 Judges Feasible = Unit {0}
 
+-- a reading once the routes are found sound
+abbrev Reads : Reading → Type 0
+Reads (NotRead number place) = Refusal number place
+Reads (Rule start size) = Unit {0}
+
+with-says : (words rule : List ℕ) → Reads (readWithRoutes words rule)
+unfolding readWithRoutes
+with-says words rule =
+    by-test (soundRoutes 32 words) (λ t. rw t (go (oneRule ipv4 rule) (one-says ipv4 rule))) (λ t. rw t (placeless 9 (omega arith) (omega arith)))
+  where
+    go : (r : Reading) → SaysRule ipv4 rule r → Reads r
+    go (NotRead number place) h = h
+    go (Rule start size) h = tt
+
 pub not-feasible : (relaxed : Bool) (words rule : List ℕ) (originator number place : ℕ) → judgement relaxed words rule originator ≡ NotFeasible number place
     → Refusal number place
 unfolding judgement
-not-feasible relaxed words rule originator number place e =
-    subst Judges e
-    (by-test (soundRoutes 32 words) (λ t. rw t (go (oneRule ipv4 rule) (one-says ipv4 rule))) (λ t. rw t (placeless 9 (omega arith) (omega arith))))
+not-feasible relaxed words rule originator number place e = subst Judges e (go (readWithRoutes words rule) (with-says words rule))
   where
     verdict : (b : Bool) → Judges (judged b)
     verdict true = tt
     verdict false = placeless 8 (omega arith) (omega arith)
 
-    go : (r : Reading) → SaysRule ipv4 rule r → Judges (judgeRead relaxed words rule originator r)
+    go : (r : Reading) → Reads r → Judges (judgeRead relaxed words rule originator r)
     go (NotRead number place) h = h
     go (Rule start size) h = verdict (isFeasible relaxed words (valueOf rule start size) originator)
 
@@ -89,6 +105,11 @@ not-feasible relaxed words rule originator number place e =
 abbrev Changes : Change → Type 0
 Changes (NotChanged number place) = Refusal number place
 Changes Done = Unit {0}
+
+-- a change is near where each of its refusals is one of 01's table
+pub change-near : (c : Change) → ((number place : ℕ) → c ≡ NotChanged number place → Refusal number place) → changeTold c .place ≤ 4095
+change-near (NotChanged number place) h = h number place refl .near
+change-near Done h = omega arith
 
 changes : (number : ℕ) → number ≤ 16 → Changes (changeOf number)
 unfolding changeOf
@@ -102,11 +123,9 @@ Asks (Announce start size actions feasible) = Unit {0}
 module _ (relaxed : Bool) (words rule : List ℕ) (originator : ℕ) (communities : List ℕ) where
   asks : Asks (asked relaxed words rule originator communities)
   unfolding asked
-  asks =
-      by-test (soundRoutes 32 words) (λ t. rw t (go (oneRule ipv4 rule) (one-says ipv4 rule) (actionsOf communities)))
-      (λ t. rw t (placeless 9 (omega arith) (omega arith)))
+  asks = go (readWithRoutes words rule) (with-says words rule) (actionsOf communities)
     where
-      go : (r : Reading) → SaysRule ipv4 rule r → (a : ActionsReading) → Asks (askedBy relaxed words rule originator r a)
+      go : (r : Reading) → Reads r → (a : ActionsReading) → Asks (askedBy relaxed words rule originator r a)
       go (NotRead number place) h a = h
       go (Rule start size) h Unsound = placeless 13 (omega arith) (omega arith)
       go (Rule start size) h (Read actions) = tt
@@ -151,11 +170,10 @@ Looks (NotLookedUp number place) = Refusal number place
 Looks (Judged verdict) = Unit {0}
 
 pub not-looked-up : (t octets : List ℕ) (number place : ℕ) → lookingUp t octets ≡ NotLookedUp number place → Refusal number place
-unfolding lookingUp
+unfolding lookingUp seen
 not-looked-up t octets number place e =
-    subst Looks e
-    (by-test (soundTable ipv4 t) (λ s. rw s (go (packetOf octets))) (λ s. rw s (placeless 10 (omega arith) (omega arith))))
+    subst Looks e (by-test (soundTable ipv4 t) (λ s. rw s (go (packetOf octets))) (λ s. rw s (placeless 10 (omega arith) (omega arith))))
   where
-    go : (s : Sight) → Looks (lookedUp t s)
+    go : (s : Sight) → Looks (lookedUp t (shown s))
     go Unusable = placeless 12 (omega arith) (omega arith)
     go (Usable packet) = tt

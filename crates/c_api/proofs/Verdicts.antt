@@ -21,7 +21,7 @@ use Rattle.table.specs.Sound.{soundTable}
 use Rattle.table.specs.Lookup.{hit, collected, mergedOnto, verdictOf, verdictFor}
 use Rattle.flowspec.specs.declared.Looked.{Looked}
 use Rattle.flowspec.specs.declared.Looked.the-variants.{Judged, Refused}
-use Rattle.flowspec.specs.Look.{lookedUp, lookingUp}
+use Rattle.flowspec.specs.Look.{shown, seen, lookedUp, lookingUp}
 
 onto-no-T : (a : Actions) (es : List Entry) → a .onward ≡ false → mergedOnto a es .onward ≡ false
 unfolding mergedOnto
@@ -34,10 +34,10 @@ NoT (Judged (Matched actions count)) = actions .onward ≡ false
 NoT (Refused number place) = Unit {0}
 
 pub lookup-no-T : (t octets : List ℕ) → NoT (lookingUp t octets)
-unfolding lookingUp verdictFor verdictOf
+unfolding lookingUp seen verdictFor verdictOf
 lookup-no-T t octets = by-test (soundTable ipv4 t) (λ s. rw s (go (packetOf octets))) (λ s. rw s tt)
   where
-    go : (s : Sight) → NoT (lookedUp t s)
+    go : (s : Sight) → NoT (lookedUp t (shown s))
     go Unusable = tt
     go (Usable packet) =
         let es = collected (hit ipv4 packet) (entries t) in

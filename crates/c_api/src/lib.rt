@@ -4,8 +4,8 @@ ghost use mathlib.Core.Path.{_≡_};
 ghost use mathlib.Core.List.{[], _∷_};
 ghost use Prim.Native.Nat.{_≤_};
 ghost use Rattle.action.specs.Actions.{valuesOf};
-ghost use Rattle.flowspec.specs.Told.{verdictTold};
-ghost use Rattle.c_api.specs.Word.{word, isOn};
+ghost use Rattle.flowspec.specs.Told.{changeTold, verdictTold};
+ghost use Rattle.c_api.specs.Word.{word, wordOf, isOn};
 ghost use Rattle.c_api.specs.Promise.{ReadCall, WriteCall, CompareCall, FeasibleCall, ActionsCall, AnnounceCall, WithdrawCall, LookupCall, FirstMatchCall};
 use action::Actions;
 use flowspec::Change;
@@ -22,6 +22,17 @@ fn word_of(number: u8, place: usize) -> u64
     ensures { λ r. ⌜ r ≡ word number place ⌝ }
 {
     number as u64 + place as u64 * 0x1_0000_0000
+}
+
+// The word of a change: its refusal's, and 0 where it is done.
+fn change_word(change: Change) -> u64
+    requires { ⌜ changeTold change .place ≤ 4095 ⌝ }
+    ensures { λ r. ⌜ r ≡ wordOf (changeTold change) ⌝ }
+{
+    match change {
+        Change::Refused { number, place } => word_of(number, place),
+        Change::Done => 0,
+    }
 }
 
 // Whether a setting, the header's `allow_no_destination`, is on: 0 is off and any other number on.
@@ -159,10 +170,8 @@ pub extern "C" fn flowspec4_announce(
     ensures { λ r. ⌜ AnnounceCall (now (table .entry)) (now (routes .entry)) setting (now (rule .entry)) originator (now (communities .entry)) r (now (table .exit)) (now (routes .exit) ∷ now (rule .exit) ∷ now (communities .exit) ∷ []) ⌝ }
 {
     let relaxed = is_on(setting);
-    match flowspec::announce(table, relaxed, routes, rule, originator, communities) {
-        Change::Refused { number, place } => word_of(number, place),
-        Change::Done => 0,
-    }
+    let change = flowspec::announce(table, relaxed, routes, rule, originator, communities);
+    change_word(change)
 }
 
 // Withdraws a rule from a table.
@@ -170,10 +179,8 @@ pub extern "C" fn flowspec4_announce(
 pub extern "C" fn flowspec4_withdraw(table: &mut [u8], rule: &[u8]) -> u64
     ensures { λ r. ⌜ WithdrawCall (now (table .entry)) (now (rule .entry)) r (now (table .exit)) (now (rule .exit) ∷ []) ⌝ }
 {
-    match flowspec::withdraw(table, rule) {
-        Change::Refused { number, place } => word_of(number, place),
-        Change::Done => 0,
-    }
+    let change = flowspec::withdraw(table, rule);
+    change_word(change)
 }
 
 // Looks a packet up in a table. out: the count, 0 where unmatched, and the merged actions' values, 0 where unmatched.

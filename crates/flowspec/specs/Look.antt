@@ -18,13 +18,14 @@ use Rattle.flowspec.specs.declared.Seen.{Seen}
 use Rattle.flowspec.specs.declared.Seen.the-variants.{Shows, Refused as NotSeen}
 use Rattle.flowspec.specs.Told.{lookupTold}
 
+-- An unusable packet is 12.
+abbrev pub shown : Sight → Seen
+shown Unusable = NotSeen 12
+shown (Usable packet) = Shows packet
+
 -- 01: "lookup 10, 12": what the packet shows, or the number of the refusal.
 unfoldable pub seen : List ℕ → List ℕ → Seen
 seen t octets = cond (soundTable ipv4 t) (shown (packetOf octets)) (NotSeen 10)
-  where
-    shown : Sight → Seen
-    shown Unusable = NotSeen 12
-    shown (Usable packet) = Shows packet
 
 -- What a table says of a packet.
 abbrev pub lookedUp : List ℕ → Seen → Looked

@@ -1,53 +1,24 @@
 -- The door's answer as a word; a refusal is one of 01's table.
 use mathlib.Core.Path.{refl, sym, _∙_}
-use Rattle.rule.proofs.Refusal.{Refusal}
 use Rattle.flowspec.specs.Told.{changeTold}
-use Rattle.c_api.proofs.Places.{not-withdrawn}
 use Rattle.c_api.proofs.CallLaws.{word-is}
+use Rattle.c_api.proofs.Places.{change-near, not-withdrawn}
 use borrow.Author.Needs.{needs}
 use Rattle.c_api.proofs.flowspec4_withdraw.Statement.{statement}
 use Rattle.c_api.proofs.flowspec4_withdraw.Tie as tie
-use Rattle.c_api.proofs.flowspec4_withdraw.Reads as reads
-use Rattle.c_api.proofs.flowspec4_withdraw.Lts as lts
-use Rattle.c_api.proofs.word_of.Reads as word-of-reads
-use Rattle.flowspec.proofs.withdraw.Reads as withdraw-reads
-
-refusal : (c : tie.After-known-told) → Refusal (c .before .number .given .0 .0) (c .before .number .given .0 .1 .0)
-refusal c = not-withdrawn _ _ _ _ (sym (c .before .before .before .before .before .withdraw .ensures .is) ∙ c .before .number .given .1)
 
 withdraw-requires : tie.Need-withdraw-requires
 withdraw-requires c κs = search needs
 
-enum-known-number : tie.Need-enum-known-number
-enum-known-number c = search needs
-
-word-of-requires : tie.Need-word-of-requires
-word-of-requires c κs = refusal c .near
-
-enum-told : tie.Need-enum-told
-enum-told c = search needs
+change-word-requires : tie.Need-change-word-requires
+change-word-requires c κs = change-near _ (λ n p e. not-withdrawn _ _ n p (sym (c .before .before .withdraw .ensures .is) ∙ e))
 
 same-length : tie.Need-same-length
 same-length c = search needs
 
 returns : tie.Need-returns
-returns c = record { is = word-is changeTold _ _ (c .before .before .before .before .before .before .withdraw .ensures .is) _ (c .before .before .number .given .1) _ (c .word-of .ensures); leaves = c .before .before .before .before .before .before .withdraw .ensures .leaves; keeps = refl }
-
-same-length-2 : tie.Need-same-length-2
-same-length-2 c = search needs
-
-returns-2 : tie.Need-returns-2
-returns-2 c = record { is = word-is changeTold _ _ (c .before .before .before .before .withdraw .ensures .is) _ (c .enum-told .given .1) _ refl; leaves = c .before .before .before .before .withdraw .ensures .leaves; keeps = refl }
+returns c =
+    record { is = word-is changeTold _ _ (c .before .before .before .withdraw .ensures .is) _ refl _ (c .change-word .ensures); leaves = c .before .before .before .withdraw .ensures .leaves; keeps = refl }
 
 pub flowspec4-withdraw-spec : {M : Type 1} → statement M
-flowspec4-withdraw-spec =
-    tie.close
-    (tie.spec
-    withdraw-requires
-    enum-known-number
-    word-of-requires
-    enum-told
-    same-length
-    returns
-    same-length-2
-    returns-2)
+flowspec4-withdraw-spec = tie.close (tie.spec withdraw-requires change-word-requires same-length returns)
