@@ -3,8 +3,8 @@
 //! A run makes so few calls that it takes a millisecond or two, and there are many runs: what else
 //! the machine does then falls into few of them, and the middle one is not touched.
 
-use crate::load::{Load, PACKETS, TABLE};
-use crate::sides::{Library, Reference, Side};
+use crate::load::{Load, ORIGINATOR, PACKETS, TABLE};
+use comparison::sides::{Reference, Side, Words, Wrapper};
 use std::time::{Duration, Instant};
 
 /// How many packets a run looks up; all packets are looked up once.
@@ -46,62 +46,29 @@ pub struct Job {
     pub reference: RunOf,
 }
 
-/// A job from the two forms of its run.
-const fn job(name: &'static str, runs: usize, library: RunOf, reference: RunOf) -> Job {
-    Job {
-        name,
-        runs,
-        library,
-        reference,
-    }
+/// A job from the function of its runs.
+macro_rules! job {
+    ($name:literal, $runs:expr, $run:ident) => {
+        Job {
+            name: $name,
+            runs: $runs,
+            library: $run::<Wrapper>,
+            reference: $run::<Reference>,
+        }
+    };
 }
 
 /// All jobs.
 pub const JOBS: [Job; 9] = [
-    job("read", SHORT_RUNS, read::<Library>, read::<Reference>),
-    job("write", SHORT_RUNS, write::<Library>, write::<Reference>),
-    job(
-        "compare",
-        SHORT_RUNS,
-        compare::<Library>,
-        compare::<Reference>,
-    ),
-    job(
-        "actions",
-        SHORT_RUNS,
-        actions::<Library>,
-        actions::<Reference>,
-    ),
-    job(
-        "feasible",
-        SHORT_RUNS,
-        feasible::<Library>,
-        feasible::<Reference>,
-    ),
-    job(
-        "announce",
-        CHANGING_RUNS,
-        announce::<Library>,
-        announce::<Reference>,
-    ),
-    job(
-        "withdraw",
-        CHANGING_RUNS,
-        withdraw::<Library>,
-        withdraw::<Reference>,
-    ),
-    job(
-        "lookup",
-        LOOKING_RUNS,
-        lookup::<Library>,
-        lookup::<Reference>,
-    ),
-    job(
-        "first match",
-        LOOKING_RUNS,
-        first_match::<Library>,
-        first_match::<Reference>,
-    ),
+    job!("read", SHORT_RUNS, read),
+    job!("write", SHORT_RUNS, write),
+    job!("compare", SHORT_RUNS, compare),
+    job!("actions", SHORT_RUNS, actions),
+    job!("feasible", SHORT_RUNS, feasible),
+    job!("announce", CHANGING_RUNS, announce),
+    job!("withdraw", CHANGING_RUNS, withdraw),
+    job!("lookup", LOOKING_RUNS, lookup),
+    job!("first match", LOOKING_RUNS, first_match),
 ];
 
 impl Setting<'_> {
@@ -109,8 +76,8 @@ impl Setting<'_> {
     pub fn new(load: &Load, rules: usize) -> Setting<'_> {
         let mut table = vec![0; TABLE];
         for (rule, communities) in load.rules[..rules].iter().zip(&load.communities) {
-            let answer = Library::announce(&mut table, &load.routes, rule, communities);
-            assert_eq!(answer, 1, "each rule is held");
+            Wrapper::announce(&mut table, &load.routes, 0, rule, ORIGINATOR, communities)
+                .expect("each rule is held");
         }
         Setting { load, rules, table }
     }
@@ -126,10 +93,21 @@ impl Setting<'_> {
     }
 }
 
+/// What stands for a refusal in a sum.
+const REFUSED: u64 = 1 << 40;
+
+/// The sum of what a call gave back.
+fn sum_of<const N: usize>(words: Words<N>) -> u64 {
+    words.map_or(REFUSED, |words| {
+        words.into_iter().fold(0, u64::wrapping_add)
+    })
+}
+
 /// Times the calls of a run, made one after the other; each is told its number in all runs.
-fn timed(run: usize, calls: usize, call: impl FnMut(usize) -> u64) -> Run {
+fn timed<const N: usize>(run: usize, calls: usize, mut call: impl FnMut(usize) -> Words<N>) -> Run {
     let start = Instant::now();
-    let sum = (run * calls..(run + 1) * calls).map(call).sum();
+    let numbers = run * calls..(run + 1) * calls;
+    let sum = numbers.fold(0, |sum: u64, number| sum.wrapping_add(sum_of(call(number))));
     Run {
         time: start.elapsed(),
         calls,
@@ -167,7 +145,7 @@ fn actions<S: Side>(setting: &Setting, run: usize) -> Run {
 /// Judges rules by all routes.
 fn feasible<S: Side>(setting: &Setting, run: usize) -> Run {
     timed(run, SHORT_CALLS / 4, |number| {
-        S::feasible(&setting.load.routes, setting.rule(number))
+        S::feasible(&setting.load.routes, 0, setting.rule(number), ORIGINATOR)
     })
 }
 
@@ -187,15 +165,22 @@ fn first_match<S: Side>(setting: &Setting, run: usize) -> Run {
 
 /// Withdraws rules and announces each again at once; gives the time of both, summed up.
 fn changed<S: Side>(setting: &Setting, run: usize) -> [Run; 2] {
-    let mut table = setting.table.clone();
+    let (mut table, routes) = (setting.table.clone(), &setting.load.routes);
     let mut times = [Duration::ZERO; 2];
     let mut sum = 0;
     for number in run * CHANGES..(run + 1) * CHANGES {
         let (rule, communities) = (setting.rule(number * 31), setting.communities(number * 31));
         let start = Instant::now();
-        sum += S::withdraw(&mut table, rule);
+        sum += sum_of(S::withdraw(&mut table, rule));
         let between = Instant::now();
-        sum += S::announce(&mut table, &setting.load.routes, rule, communities);
+        sum += sum_of(S::announce(
+            &mut table,
+            routes,
+            0,
+            rule,
+            ORIGINATOR,
+            communities,
+        ));
         times[0] += between - start;
         times[1] += between.elapsed();
     }

@@ -5,11 +5,10 @@
 
 mod jobs;
 mod load;
-mod sides;
 
+use comparison::sides::{Reference, Side};
 use jobs::{Job, Run, Setting, JOBS};
 use load::{Load, PACKETS, TABLE};
-use sides::{Reference, Side};
 
 /// The sizes between which growth is measured.
 const SIZES: [usize; 2] = [100, 1_200];
@@ -51,8 +50,11 @@ fn describe(load: &Load) {
     let short = load.short_destinations(rules);
     let setting = Setting::new(load, rules);
     let packets = load.packets.iter();
-    let matched = packets.filter(|packet| Reference::lookup(&setting.table, packet) > 0);
-    let matched = matched.count();
+    let matched = packets
+        .filter(|packet| {
+            Reference::lookup(&setting.table, packet).is_ok_and(|[count, ..]| count > 0)
+        })
+        .count();
     let part = |count: usize, all: usize| 100.0 * count as f64 / all as f64;
     println!("tables of {TABLE} octets; {} routes", load.routes.len() / 4);
     println!(

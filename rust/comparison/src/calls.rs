@@ -1,5 +1,7 @@
 //! A call with all that it is lent, and the form in which answers to it are compared.
 
+use crate::sides::{Side, Words};
+
 /// One call and what is lent to it.
 #[derive(Clone, PartialEq, Eq)]
 pub enum Call {
@@ -55,8 +57,11 @@ pub struct Answer {
     pub octets: Vec<u8>,
 }
 
-/// What each word of `out` is before a call.
-pub const UNTOUCHED: u64 = 0xa5a5_a5a5_a5a5_a5a5;
+/// How many octets stand on either side of a lent buffer, to see that none is touched.
+const MARGIN: usize = 16;
+
+/// What each octet beside a lent buffer is.
+const BESIDE: u8 = 0x5a;
 
 impl Call {
     /// The call's name.
@@ -74,29 +79,70 @@ impl Call {
         }
     }
 
-    /// How many words of `out` the call sets.
-    fn words(&self) -> usize {
+    /// What a side answers to the call.
+    pub fn answer_of<S: Side>(&self) -> Answer {
         match self {
-            Call::Feasible(_) | Call::Announce { .. } | Call::Withdraw { .. } => 0,
-            Call::Write { .. } | Call::Compare { .. } => 1,
-            Call::Read { .. } | Call::FirstMatch { .. } => 2,
-            Call::Actions { .. } => 5,
-            Call::Lookup { .. } => 6,
+            Call::Read { rule } => answer(S::read(rule)),
+            Call::Write { value, buffer } => lend(buffer, |buffer| S::write(value, buffer)),
+            Call::Compare { first, second } => answer(S::compare(first, second)),
+            Call::Feasible(judged) => answer(S::feasible(
+                &judged.routes,
+                judged.allow_no_destination,
+                &judged.rule,
+                judged.originator,
+            )),
+            Call::Actions { communities } => answer(S::actions(communities)),
+            Call::Announce {
+                table,
+                judged,
+                communities,
+            } => lend(table, |table| {
+                S::announce(
+                    table,
+                    &judged.routes,
+                    judged.allow_no_destination,
+                    &judged.rule,
+                    judged.originator,
+                    communities,
+                )
+            }),
+            Call::Withdraw { table, rule } => lend(table, |table| S::withdraw(table, rule)),
+            Call::Lookup { table, packet } => answer(S::lookup(table, packet)),
+            Call::FirstMatch { table, packet } => answer(S::first_match(table, packet)),
         }
     }
+}
 
-    /// The answer to this call from what Rust code gives back: the words, or a refusal's number and
-    /// place, which leave `out` as it was.
-    pub fn answered(&self, result: Result<Vec<u64>, (u32, u32)>, octets: Vec<u8>) -> Answer {
-        let (number, place, out) = match result {
-            Ok(out) => (0, 0, out),
-            Err((number, place)) => (number, place, vec![UNTOUCHED; self.words()]),
-        };
-        Answer {
-            number,
-            place,
-            out,
-            octets,
-        }
+/// The answer of a call that writes no buffer.
+fn answer<const N: usize>(words: Words<N>) -> Answer {
+    let (number, place, out) = match words {
+        Ok(out) => (0, 0, out.to_vec()),
+        Err(refused) => (refused.number, refused.place, Vec::new()),
+    };
+    Answer {
+        number,
+        place,
+        out,
+        octets: Vec::new(),
+    }
+}
+
+/// Lends a copy of the octets, with a margin on both sides that no call may write, and gives it
+/// back with the answer.
+fn lend<const N: usize>(octets: &[u8], call: impl FnOnce(&mut [u8]) -> Words<N>) -> Answer {
+    let mut wide = vec![BESIDE; octets.len() + 2 * MARGIN];
+    let end = MARGIN + octets.len();
+    wide[MARGIN..end].copy_from_slice(octets);
+    let words = call(&mut wide[MARGIN..end]);
+    let mut beside = wide[..MARGIN].iter().chain(&wide[end..]);
+    assert!(
+        beside.all(|octet| *octet == BESIDE),
+        "an octet beside the lent buffer was written"
+    );
+    wide.truncate(end);
+    wide.drain(..MARGIN);
+    Answer {
+        octets: wide,
+        ..answer(words)
     }
 }

@@ -8,6 +8,7 @@ use crate::random::Random;
 use crate::report::Distribution;
 use crate::routes;
 use crate::rules::{self, Component};
+use crate::sides::action_words;
 use crate::world;
 use flowspec::Table;
 use std::collections::BTreeMap;
@@ -138,13 +139,11 @@ fn listed(table: &[u8]) -> Result<Vec<u8>, String> {
     let table = Table::over(table);
     let mut octets = Vec::new();
     for record in table.records().map_err(|refused| refused.to_string())? {
-        let actions = record.actions;
+        let [flags, dscp, numbers @ ..] = action_words(record.actions);
         octets.extend((record.value.len() as u16).to_be_bytes());
         octets.extend(record.originator.to_be_bytes());
-        octets.extend([actions.flags(), actions.marking.unwrap_or(0)]);
-        for number in [actions.byte_rate, actions.packet_rate, actions.redirect] {
-            octets.extend(number.unwrap_or(0).to_be_bytes());
-        }
+        octets.extend([flags as u8, dscp as u8]);
+        octets.extend(numbers.map(u64::to_be_bytes).concat());
         octets.extend(record.value);
     }
     octets.resize(table.octets().len().max(octets.len()), 0);

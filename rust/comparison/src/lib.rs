@@ -11,45 +11,57 @@ pub mod histories;
 mod library;
 pub mod lines;
 mod packets;
-mod plain;
 pub mod random;
 pub mod report;
 mod routes;
 mod rules;
+pub mod sides;
 mod tables;
-mod typed;
 mod world;
 
 use calls::{Answer, Call};
 use cases::Cases;
+use library::Library;
 use report::Distribution;
+use sides::{Reference, Side, Wrapper};
+use std::hint::black_box;
 use std::panic;
 
 /// The seed of the tests.
 pub const SEED: u64 = 8955;
 
-/// One of the implementations that are compared.
-type Side = fn(&Call) -> Answer;
+/// What one side answers, or what is to be said if it stops or writes what is lent to be read.
+fn answer_of<S: Side>(call: &Call) -> Result<Answer, String> {
+    let lent = black_box(call.clone());
+    let answer = panic::catch_unwind(|| lent.answer_of::<S>());
+    match answer {
+        Err(_) => Err(format!("the {} stopped at\n{call}", S::NAME)),
+        Ok(_) if black_box(&lent) != call => Err(format!(
+            "the {} wrote what it may only read of\n{call}",
+            S::NAME
+        )),
+        Ok(answer) => Ok(answer),
+    }
+}
 
-/// What one side answers, or what is to be said if it stops instead.
-fn answer_of(name: &str, side: Side, call: &Call) -> Result<Answer, String> {
-    panic::catch_unwind(|| side(call)).map_err(|_| format!("the {name} stopped at\n{call}"))
+/// Says how one side departs from the expected answer, if it does.
+fn check<S: Side>(call: &Call, expected: &Answer) -> Result<(), String> {
+    let found = answer_of::<S>(call)?;
+    match found == *expected {
+        true => Ok(()),
+        false => Err(format!(
+            "they disagree on\n{call}\n{:9} {found}\nreference {expected}",
+            S::NAME
+        )),
+    }
 }
 
 /// The answer on which the library and the reference agree, and the typed wrapper too if wanted.
 pub fn agreed(call: &Call, wrapper_too: bool) -> Result<Answer, String> {
-    let expected = answer_of("reference", plain::ask, call)?;
-    let mut sides: Vec<(&str, Side)> = vec![("library", library::ask)];
+    let expected = answer_of::<Reference>(call)?;
+    check::<Library>(call, &expected)?;
     if wrapper_too {
-        sides.push(("wrapper", typed::ask));
-    }
-    for (name, side) in sides {
-        let found = answer_of(name, side, call)?;
-        if found != expected {
-            return Err(format!(
-                "they disagree on\n{call}\n{name:9} {found}\nreference {expected}"
-            ));
-        }
+        check::<Wrapper>(call, &expected)?;
     }
     Ok(expected)
 }
