@@ -3,8 +3,9 @@
 //! A run makes so few calls that it takes a millisecond or two, and there are many runs: what else
 //! the machine does then falls into few of them, and the middle one is not touched.
 
-use crate::load::{Load, ORIGINATOR, PACKETS, TABLE};
+use crate::load::{Load, ORIGINATOR, PACKETS};
 use comparison::sides::{Reference, Side, Words, Wrapper};
+use flowspec::Table;
 use std::time::{Duration, Instant};
 
 /// How many packets a run looks up; all packets are looked up once.
@@ -74,7 +75,7 @@ pub const JOBS: [Job; 9] = [
 impl Setting<'_> {
     /// The setting with so many rules.
     pub fn new(load: &Load, rules: usize) -> Setting<'_> {
-        let mut table = vec![0; TABLE];
+        let mut table = vec![0; Table::LONGEST];
         for (rule, communities) in load.rules[..rules].iter().zip(&load.communities) {
             Wrapper::announce(&mut table, &load.routes, 0, rule, ORIGINATOR, communities)
                 .expect("each rule is held");

@@ -4,9 +4,6 @@
 use comparison::random::Random;
 use std::collections::BTreeMap;
 
-/// How many octets a table has.
-pub const TABLE: usize = 65_536;
-
 /// How many packets are looked up at each size.
 pub const PACKETS: usize = 100_000;
 

@@ -7,8 +7,9 @@ mod jobs;
 mod load;
 
 use comparison::sides::{Reference, Side};
+use flowspec::Table;
 use jobs::{Job, Run, Setting, JOBS};
-use load::{Load, PACKETS, TABLE};
+use load::{Load, PACKETS};
 
 /// The sizes between which growth is measured.
 const SIZES: [usize; 2] = [100, 1_200];
@@ -56,7 +57,11 @@ fn describe(load: &Load) {
         })
         .count();
     let part = |count: usize, all: usize| 100.0 * count as f64 / all as f64;
-    println!("tables of {TABLE} octets; {} routes", load.routes.len() / 4);
+    println!(
+        "tables of {} octets; {} routes",
+        Table::LONGEST,
+        load.routes.len() / 4
+    );
     println!(
         "{rules} rules, {short} of them ({:.1} %) with a destination shorter than 16 bits",
         part(short, rules)

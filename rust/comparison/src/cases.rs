@@ -5,6 +5,7 @@ use crate::random::Random;
 use crate::rules::{self, Component};
 use crate::tables::{self, Held};
 use crate::{communities, packets, routes, world};
+use flowspec::Table;
 
 /// The number of no case, from which the tables of the stock are drawn.
 const STOCK: u64 = u64::MAX;
@@ -19,7 +20,12 @@ impl Cases {
     /// Prepares the larger tables, which many cases share since they take long to make.
     pub fn new(seed: u64) -> Cases {
         let mut random = Random::new(seed, STOCK);
-        let sizes = [(2_048, 30), (8_192, 100), (65_536, 300), (65_536, 1_200)];
+        let sizes = [
+            (2_048, 30),
+            (8_192, 100),
+            (Table::LONGEST, 300),
+            (Table::LONGEST, 1_200),
+        ];
         let stock = sizes
             .iter()
             .map(|(length, count)| tables::sound(&mut random, *length, *count))

@@ -190,7 +190,7 @@ pub fn history(seed: u64, number: u64, seen: &mut Distribution) -> Result<(), St
         },
         allow_no_destination: random.pick(&[0, 1]),
     };
-    let length = random.pick(&[150, 700, 2_000, 8_192, 65_536]);
+    let length = random.pick(&[150, 700, 2_000, 8_192, Table::LONGEST]);
     let mut steps: Vec<_> = (0..CALLS).map(|_| step(random, &pool)).collect();
     let (last, table) = run(&setting, length, &steps, seen)?;
     if listed(&table)? != table {
@@ -214,7 +214,7 @@ pub fn history(seed: u64, number: u64, seen: &mut Distribution) -> Result<(), St
             "a history with the same end makes another table",
         ));
     }
-    if last_again != last && length == 65_536 {
+    if last_again != last && length == Table::LONGEST {
         return Err(String::from("a history with room does not count its end"));
     }
     Ok(())

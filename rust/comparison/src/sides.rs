@@ -3,7 +3,6 @@
 //! What the shortest call goes through is inlined, so that the benchmark times the call and not
 //! this interface.
 
-use crate::tables::HEAD;
 use flowspec::{Actions, Error, Record, Table, Verdict};
 use reference::Refusal;
 
@@ -91,7 +90,7 @@ fn place_of(part: &[u8], whole: &[u8]) -> [u64; 2] {
 /// Where a record starts in its table, and how long it is.
 fn record_place(record: Record, table: &[u8]) -> [u64; 2] {
     let [start, length] = place_of(record.value, table);
-    [start - HEAD as u64, length + HEAD as u64]
+    [start - Record::HEAD as u64, length + Record::HEAD as u64]
 }
 
 impl Side for Wrapper {

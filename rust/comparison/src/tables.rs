@@ -4,9 +4,7 @@ use crate::communities;
 use crate::random::Random;
 use crate::rules::{self, Component};
 use crate::world;
-
-/// How many octets of a record stand before its value.
-pub const HEAD: usize = 32;
+use flowspec::{Record, Table};
 
 /// The community that sets T: go on to later rules.
 const GO_ON: [u8; 8] = [0x80, 0x07, 0, 0, 0, 0, 0, 0x01];
@@ -22,10 +20,10 @@ pub struct Held {
 pub fn records(octets: &[u8]) -> Vec<(usize, usize)> {
     let mut found = Vec::new();
     let mut at = 0;
-    while at + HEAD < octets.len() && octets[at..at + 2] != [0, 0] {
+    while at + Record::HEAD < octets.len() && octets[at..at + 2] != [0, 0] {
         let length = usize::from(octets[at]) << 8 | usize::from(octets[at + 1]);
-        found.push((at, at + HEAD + length));
-        at += HEAD + length;
+        found.push((at, at + Record::HEAD + length));
+        at += Record::HEAD + length;
     }
     found
 }
@@ -97,7 +95,7 @@ pub fn small(random: &mut Random) -> Held {
 pub fn long(random: &mut Random) -> Held {
     let length = random.pick(&[4_094, 4_095, 4_096, 4_097, 5_000]);
     let components = rules::components_of_length(random, length);
-    let mut octets = vec![0; HEAD];
+    let mut octets = vec![0; Record::HEAD];
     octets[..2].copy_from_slice(&(length as u16).to_be_bytes());
     octets.extend(rules::value_of(&components));
     let room = random.pick(&[0, 1, 33, 5_000]);
@@ -110,7 +108,7 @@ pub fn long(random: &mut Random) -> Held {
 
 /// Leaves so much room behind the records that a rule of this length just fits or just does not.
 pub fn narrow(random: &mut Random, octets: &mut Vec<u8>, value_length: usize) {
-    let room = (HEAD + value_length + 2).saturating_sub(random.below(5));
+    let room = (Record::HEAD + value_length + 2).saturating_sub(random.below(5));
     octets.resize(used(octets) + room, 0);
 }
 
@@ -170,7 +168,7 @@ pub fn damage(random: &mut Random, held: &mut Held) {
     let records = records(&held.octets);
     if records.is_empty() || random.one_in(8) {
         match random.below(4) {
-            0 => held.octets.resize(65_536 + 1 + random.below(2), 0),
+            0 => held.octets.resize(Table::LONGEST + 1 + random.below(2), 0),
             1 => random.flip_bit(&mut held.octets),
             2 => held.octets.truncate(random.below(held.octets.len() + 1)),
             _ => held.octets.push(random.octet()),

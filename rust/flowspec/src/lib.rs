@@ -17,7 +17,7 @@
 //! // A byte rate of 0: drop.
 //! let drop = [0x80, 0x06, 0, 0, 0, 0, 0, 0];
 //!
-//! let mut table = Table::new(65_536);
+//! let mut table = Table::new(Table::LONGEST);
 //! table.announce(&routes, false, &rule, 7, &drop)?;
 //! let held = table.records()?.next().expect("one rule is held");
 //! assert_eq!((held.originator, held.value), (7, &rule[1..]));

@@ -4,9 +4,6 @@ use crate::actions::Actions;
 use crate::error::{done, Error};
 use crate::ffi;
 
-/// How many octets of a record stand before its value.
-const HEAD: usize = 32;
-
 /// The refusal of an unsound table.
 const TABLE_UNSOUND: u32 = 10;
 
@@ -44,7 +41,10 @@ pub struct Record<'a> {
 }
 
 impl Table<Vec<u8>> {
-    /// An empty table of this many octets; a rule costs 32 plus its value's length.
+    /// The most octets that a table may have.
+    pub const LONGEST: usize = 65_536;
+
+    /// An empty table of this many octets; a rule costs [`Record::HEAD`] plus its value's length.
     pub fn new(length: usize) -> Self {
         Table::over(vec![0; length])
     }
@@ -130,9 +130,12 @@ impl<B: AsRef<[u8]> + AsMut<[u8]>> Table<B> {
 }
 
 impl<'a> Record<'a> {
+    /// How many octets of a record stand before its value.
+    pub const HEAD: usize = 32;
+
     /// Takes the first record off, if there is one: a value length of 0 ends the records.
     fn split(octets: &'a [u8]) -> Option<(Record<'a>, &'a [u8])> {
-        let (head, rest) = octets.split_at_checked(HEAD)?;
+        let (head, rest) = octets.split_at_checked(Record::HEAD)?;
         let length = number(&head[..2]) as usize;
         let (value, rest) = rest.split_at_checked(length)?;
         let words = [

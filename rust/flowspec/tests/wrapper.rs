@@ -75,7 +75,7 @@ fn tables_are_over_lent_octets() -> Result<(), Error> {
 
 #[test]
 fn records_of_a_full_table_end() -> Result<(), Error> {
-    let mut table = Table::new(2 * (32 + 11));
+    let mut table = Table::new(2 * (Record::HEAD + HELD.value.len()));
     let mut other = RULE;
     other[11] = 26;
     table.announce(&ROUTES, false, &other, 7, &COMMUNITIES)?;
