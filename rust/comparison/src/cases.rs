@@ -81,7 +81,7 @@ impl Cases {
         }
         let originator = world::originator(random);
         let routes = match random.one_in(2) {
-            true => vec![0, 0, originator, 64500],
+            true => routes::covering_all(originator).to_vec(),
             false => routes::routes(random),
         };
         Call::Announce {
@@ -133,10 +133,8 @@ fn rule_near(random: &mut Random, held: &Held) -> Vec<u8> {
     if held.rules.is_empty() || random.one_in(2) {
         return rules::rule(random);
     }
-    let mut components = held.rules[random.below(held.rules.len())].clone();
-    rules::respell(random, &mut components);
-    let two_octets = random.one_in(2);
-    rules::rule_of(&rules::value_of(&components), two_octets)
+    let value = rules::respelled(random, &held.rules);
+    rules::rule_of(&value, random.one_in(2))
 }
 
 /// A value and a buffer, which is often just long enough or just too short.

@@ -80,7 +80,7 @@ pub fn communities(random: &mut Random) -> Vec<u8> {
 pub fn any(random: &mut Random) -> Vec<u8> {
     let mut octets = communities(random);
     match random.below(24) {
-        0 => octets.truncate(random.below(octets.len() + 1)),
+        0 => random.cut(&mut octets),
         1 => {
             let more = 1 + random.below(7);
             octets.extend(random.octets(more));

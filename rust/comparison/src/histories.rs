@@ -78,20 +78,16 @@ impl Step {
 
 /// A step about one of the rules, in some spelling, or rarely about a rule that may be damaged.
 fn step(random: &mut Random, pool: &[Vec<Component>]) -> Step {
-    let mut components = pool[random.below(pool.len())].clone();
-    rules::respell(random, &mut components);
+    let value = rules::respelled(random, pool);
     let rule = match random.one_in(20) {
         true => rules::rule(random),
-        false => rules::rule_of(&rules::value_of(&components), random.one_in(3)),
+        false => rules::rule_of(&value, random.one_in(3)),
     };
     match random.one_in(4) {
         true => Step::Withdraw { rule },
         false => Step::Announce {
             rule,
-            originator: match random.one_in(4) {
-                true => world::originator(random),
-                false => 1,
-            },
+            originator: world::usual_originator(random),
             communities: match random.one_in(20) {
                 true => communities::any(random),
                 false => communities::communities(random),
@@ -185,7 +181,7 @@ pub fn history(seed: u64, number: u64, seen: &mut Distribution) -> Result<(), St
     let pool: Vec<_> = (0..rules).map(|_| rules::components(random)).collect();
     let setting = Setting {
         routes: match random.one_in(2) {
-            true => vec![0, 0, 1, 64500],
+            true => routes::covering_all(1).to_vec(),
             false => routes::sound_words(random),
         },
         allow_no_destination: random.pick(&[0, 1]),

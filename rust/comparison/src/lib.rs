@@ -13,11 +13,11 @@ pub mod lines;
 mod packets;
 pub mod random;
 pub mod report;
-mod routes;
-mod rules;
+pub mod routes;
+pub mod rules;
 pub mod sides;
 mod tables;
-mod world;
+pub mod world;
 
 use calls::{Answer, Call};
 use cases::Cases;

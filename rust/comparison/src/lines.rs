@@ -10,25 +10,25 @@ use crate::world;
 /// The longest line that is looked at.
 const LONGEST: usize = 16_384;
 
-/// The most routes that the program takes.
-const MOST_ROUTES: u32 = 4_096;
+/// The line of a route.
+fn route_line([address, length, originator, neighbour]: [u32; 4]) -> String {
+    format!("route\t{address:08x}\t{length}\t{originator}\t{neighbour}")
+}
 
 /// A line for each route of a list.
 fn route_lines(words: &[u32]) -> Vec<Vec<u8>> {
-    words
-        .chunks_exact(4)
-        .map(|route| {
-            let [address, length, originator, neighbour] = [0, 1, 2, 3].map(|at| route[at]);
-            format!("route\t{address:08x}\t{length}\t{originator}\t{neighbour}").into_bytes()
-        })
+    let (routes, _) = words.as_chunks();
+    routes
+        .iter()
+        .map(|route| route_line(*route).into_bytes())
         .collect()
 }
 
 /// A few more routes than the program takes, in order, with one line in between that it takes.
 fn many_routes(random: &mut Random) -> Vec<Vec<u8>> {
     let over = random.below(4) as u32;
-    let words: Vec<u32> = (0..MOST_ROUTES + over)
-        .flat_map(|number| [number << 12, 24, 1, 64500])
+    let words: Vec<u32> = (0..routes::MOST + over)
+        .flat_map(|number| [number << 12, 24, 1, routes::NEIGHBOUR])
         .collect();
     let mut lines = route_lines(&words);
     let at = random.below(lines.len());
@@ -38,7 +38,7 @@ fn many_routes(random: &mut Random) -> Vec<Vec<u8>> {
 
 /// Announcements of long rules, of which the last find no room.
 fn long_rules(random: &mut Random) -> Vec<Vec<u8>> {
-    let mut lines = vec![b"route\t00000000\t0\t1\t64500".to_vec()];
+    let mut lines = route_lines(&routes::covering_all(1));
     for last in 0..20 {
         let mut value = vec![0x01, 0x08, last];
         let length = 4_000 + random.below(93);
@@ -53,11 +53,10 @@ fn long_rules(random: &mut Random) -> Vec<Vec<u8>> {
 
 /// A rule as text: one of the pool in some spelling, or any.
 fn rule_text(random: &mut Random, pool: &[Vec<Component>]) -> String {
-    let mut components = pool[random.below(pool.len())].clone();
-    rules::respell(random, &mut components);
+    let value = rules::respelled(random, pool);
     match random.one_in(5) {
         true => hex(&rules::rule(random)),
-        false => hex(&rules::rule_of(&rules::value_of(&components), false)),
+        false => hex(&rules::rule_of(&value, false)),
     }
 }
 
@@ -66,17 +65,14 @@ fn formed(random: &mut Random, pool: &[Vec<Component>]) -> Vec<u8> {
     let rule = rule_text(random, pool);
     let line = match random.below(40) {
         0 if random.one_in(4) => {
-            let word = random.word() as u32;
-            format!("route\t{word:08x}\t{}\t1\t64500", random.below(34))
+            let (address, length) = (random.word() as u32, random.below(34) as u32);
+            route_line([address, length, 1, routes::NEIGHBOUR])
         }
         1..=7 => String::from("list"),
         8..=17 => format!("withdraw\t{rule}"),
         _ => {
             let communities = hex(&communities::any(random));
-            let originator = match random.one_in(4) {
-                true => world::originator(random),
-                false => 1,
-            };
+            let originator = world::usual_originator(random);
             format!("announce\t{rule}\t{originator}\t{communities}")
         }
     };
@@ -132,7 +128,7 @@ fn damage(random: &mut Random, line: &mut Vec<u8>) {
     match random.below(8) {
         0 => *line = random.pick(&ODD_LINES).as_bytes().to_vec(),
         1 => line.push(b'\r'),
-        2 => line.truncate(random.below(line.len() + 1)),
+        2 => random.cut(line),
         3 => random.flip_bit(line),
         4 => line.make_ascii_uppercase(),
         5 => {
@@ -155,7 +151,7 @@ pub fn input(seed: u64, number: u64) -> Vec<u8> {
     let mut lines = match number % 50 {
         7 => many_routes(random),
         23 => long_rules(random),
-        number if number % 2 == 0 => route_lines(&[0, 0, 1, 64500]),
+        number if number % 2 == 0 => route_lines(&routes::covering_all(1)),
         _ => route_lines(&routes::sound_words(random)),
     };
     for _ in 0..random.below(60) {

@@ -1,7 +1,7 @@
 //! Packets: aimed at a rule or not, fragments, options, cut short, odd.
 
 use crate::random::Random;
-use crate::rules::Component;
+use crate::rules::{self, Component};
 use crate::world;
 
 /// What a packet is made from.
@@ -58,7 +58,7 @@ fn fields(random: &mut Random) -> Fields {
 fn asked(random: &mut Random, body: &[u8]) -> u64 {
     let mut at = 0;
     loop {
-        let width = 1 << (body[at] >> 4 & 3);
+        let width = rules::width(body[at]);
         let octets = &body[at + 1..at + 1 + width];
         let number = octets
             .iter()
@@ -73,10 +73,8 @@ fn asked(random: &mut Random, body: &[u8]) -> u64 {
 
 /// An address within the prefix of a body.
 fn within(random: &mut Random, body: &[u8]) -> u32 {
-    let mut octets = [0; 4];
-    octets[..body.len() - 1].copy_from_slice(&body[1..]);
     let mask = world::prefix_mask(body[0]);
-    u32::from_be_bytes(octets) & mask | random.word() as u32 & !mask
+    rules::address_of(body) & mask | random.word() as u32 & !mask
 }
 
 /// Sets the field that a component asks about to what it asks for.
@@ -154,7 +152,7 @@ fn transport(random: &mut Random, fields: &Fields) -> Vec<u8> {
 /// Makes a packet odd: cut, longer than it says, of another version, with lengths that cannot be.
 fn damage(random: &mut Random, packet: &mut Vec<u8>) {
     match random.below(6) {
-        0 => packet.truncate(random.below(packet.len() + 1)),
+        0 => random.cut(packet),
         1 => {
             let more = 1 + random.below(20);
             packet.extend(random.octets(more));

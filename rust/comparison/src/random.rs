@@ -60,6 +60,11 @@ impl Random {
         }
     }
 
+    /// Cuts a list short, to any length from nothing to all of it.
+    pub fn cut<T>(&mut self, list: &mut Vec<T>) {
+        list.truncate(self.below(list.len() + 1));
+    }
+
     /// Turns one bit over, if there is any.
     pub fn flip_bit(&mut self, octets: &mut [u8]) {
         if !octets.is_empty() {

@@ -6,11 +6,22 @@ use crate::world;
 /// The words of a route: address, length, originator, neighbour AS.
 type Route = [u32; 4];
 
+/// The most routes that a list may have.
+pub const MOST: u32 = 4_096;
+
+/// The AS that most routes are from.
+pub const NEIGHBOUR: u32 = 64500;
+
+/// The route that covers all.
+pub fn covering_all(originator: u32) -> Route {
+    [0, 0, originator, NEIGHBOUR]
+}
+
 /// A route of the small world.
 fn route(random: &mut Random) -> Route {
     let length = world::prefix_length(random);
     let address = world::address(random) & world::prefix_mask(length);
-    let neighbour = random.pick(&[64500, 64500, 64500, 64501, 0]);
+    let neighbour = random.pick(&[NEIGHBOUR, NEIGHBOUR, NEIGHBOUR, 64501, 0]);
     [
         address,
         u32::from(length),
@@ -24,7 +35,7 @@ fn sound(random: &mut Random) -> Vec<Route> {
     let count = random.pick(&[0, 1, 2, 3, 4, 6, 9, 20]);
     let mut routes: Vec<Route> = (0..count).map(|_| route(random)).collect();
     if random.one_in(2) {
-        routes.push([0, 0, world::originator(random), 64500]);
+        routes.push(covering_all(world::originator(random)));
     }
     routes.sort_by_key(|route| (route[0], route[1]));
     routes.dedup_by_key(|route| (route[0], route[1]));
@@ -34,8 +45,8 @@ fn sound(random: &mut Random) -> Vec<Route> {
 /// So many routes of length 24, all within one of length 0.
 fn many(random: &mut Random, count: u32) -> Vec<Route> {
     let originator = world::originator(random);
-    let rest = (1..count).map(|number| [number << 8, 24, originator, 64500]);
-    std::iter::once([0, 0, originator, 64500])
+    let rest = (1..count).map(|number| [number << 8, 24, originator, NEIGHBOUR]);
+    std::iter::once(covering_all(originator))
         .chain(rest)
         .collect()
 }
@@ -58,11 +69,11 @@ fn damage(random: &mut Random, routes: &mut Vec<Route>) {
     }
 }
 
-/// Any list of routes, as words: mostly sound, sometimes not, rarely at or over the limit of 4,096.
+/// Any list of routes, as words: mostly sound, sometimes not, rarely at or over the most.
 pub fn routes(random: &mut Random) -> Vec<u32> {
     let mut routes = match random.below(4000) {
-        0 => many(random, 4096),
-        1 => many(random, 4097),
+        0 => many(random, MOST),
+        1 => many(random, MOST + 1),
         _ => sound(random),
     };
     if random.one_in(16) {
@@ -70,7 +81,7 @@ pub fn routes(random: &mut Random) -> Vec<u32> {
     }
     let mut words = routes.concat();
     if random.one_in(40) {
-        words.truncate(random.below(words.len() + 1));
+        random.cut(&mut words);
     }
     words
 }

@@ -33,11 +33,23 @@ fn largest_size(kind: u8) -> u8 {
 }
 
 /// A length octet and the octets of an address, with no bit set past the length.
-fn prefix_body(address: u32, length: u8) -> Vec<u8> {
+pub fn prefix_body(address: u32, length: u8) -> Vec<u8> {
     let octets = (address & world::prefix_mask(length)).to_be_bytes();
     let mut body = vec![length];
     body.extend_from_slice(&octets[..usize::from(length).div_ceil(8)]);
     body
+}
+
+/// The address in the body of a prefix.
+pub fn address_of(body: &[u8]) -> u32 {
+    let mut octets = [0; 4];
+    octets[..body.len() - 1].copy_from_slice(&body[1..]);
+    u32::from_be_bytes(octets)
+}
+
+/// How many octets the value behind an operator has.
+pub fn width(operator: u8) -> usize {
+    1 << (operator >> 4 & 3)
 }
 
 /// One pair of a list, with an operator that ends nothing, whose value has this size code.
@@ -108,9 +120,7 @@ pub fn wider(random: &mut Random, components: &[Component]) -> Vec<Component> {
     for Component { kind, body } in &mut found {
         if is_prefix(*kind) {
             let length = random.below(usize::from(body[0]) + 1) as u8;
-            let mut octets = [0; 4];
-            octets[..body.len() - 1].copy_from_slice(&body[1..]);
-            *body = prefix_body(u32::from_be_bytes(octets), length);
+            *body = prefix_body(address_of(body), length);
         }
     }
     found
@@ -138,7 +148,7 @@ fn operators(body: &[u8]) -> Vec<usize> {
     let mut at = 0;
     while at < body.len() {
         places.push(at);
-        at += 1 + (1 << (body[at] >> 4 & 3));
+        at += 1 + width(body[at]);
     }
     places
 }
@@ -173,6 +183,13 @@ pub fn value_of(components: &[Component]) -> Vec<u8> {
         value.extend_from_slice(&component.body);
     }
     value
+}
+
+/// The value of one of the rules, in some spelling.
+pub fn respelled(random: &mut Random, rules: &[Vec<Component>]) -> Vec<u8> {
+    let mut components = rules[random.below(rules.len())].clone();
+    respell(random, &mut components);
+    value_of(&components)
 }
 
 /// A rule: the length field, of one octet below 240 unless two are asked for, and the value.
@@ -218,7 +235,7 @@ fn damage_components(random: &mut Random, components: &mut Vec<Component>) {
 fn damage_value(random: &mut Random, value: &mut Vec<u8>) {
     match random.below(8) {
         0..=2 => random.flip_bit(value),
-        3..=5 => value.truncate(random.below(value.len() + 1)),
+        3..=5 => random.cut(value),
         6 => {
             let more = random.below(4);
             value.extend(random.octets(more));
@@ -234,7 +251,7 @@ fn damage_value(random: &mut Random, value: &mut Vec<u8>) {
 fn damage_rule(random: &mut Random, rule: &mut Vec<u8>) {
     match random.below(6) {
         0 => random.flip_bit(rule),
-        1 | 2 => rule.truncate(random.below(rule.len() + 1)),
+        1 | 2 => random.cut(rule),
         3 => {
             let more = 1 + random.below(4);
             rule.extend(random.octets(more));

@@ -2,6 +2,7 @@
 
 use crate::communities;
 use crate::random::Random;
+use crate::routes;
 use crate::rules::{self, Component};
 use crate::world;
 use flowspec::{Record, Table};
@@ -37,7 +38,7 @@ pub fn used(octets: &[u8]) -> usize {
 fn announce(random: &mut Random, held: &mut Held, components: Vec<Component>) {
     let rule = rules::rule_of(&rules::value_of(&components), false);
     let originator = world::originator(random);
-    let routes = [0, 0, originator, 64500];
+    let routes = routes::covering_all(originator);
     let mut communities = communities::communities(random);
     if random.one_in(2) {
         communities.splice(..0, GO_ON);
@@ -170,7 +171,7 @@ pub fn damage(random: &mut Random, held: &mut Held) {
         match random.below(4) {
             0 => held.octets.resize(Table::LONGEST + 1 + random.below(2), 0),
             1 => random.flip_bit(&mut held.octets),
-            2 => held.octets.truncate(random.below(held.octets.len() + 1)),
+            2 => random.cut(&mut held.octets),
             _ => held.octets.push(random.octet()),
         }
         return;

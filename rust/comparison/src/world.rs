@@ -45,6 +45,14 @@ pub fn originator(random: &mut Random) -> u32 {
     random.pick(&[0, 1, 1, 1, 2, 7, u32::MAX])
 }
 
+/// Originator 1, or sometimes any of this world.
+pub fn usual_originator(random: &mut Random) -> u32 {
+    match random.one_in(4) {
+        true => originator(random),
+        false => 1,
+    }
+}
+
 /// A number that a component of this type may ask for and a packet may show.
 pub fn field(random: &mut Random, kind: u8) -> u64 {
     let usual: &[u64] = match kind {
