@@ -2,6 +2,7 @@
 //! the same in every run.
 
 use comparison::random::Random;
+use comparison::{routes, rules, world};
 use std::collections::BTreeMap;
 
 /// How many packets are looked up at each size.
@@ -46,7 +47,7 @@ fn port(random: &mut Random) -> u16 {
 /// A prefix of 10.0.0.0/8 of this length.
 fn prefix(random: &mut Random, length: u8) -> (u32, u8) {
     let address = 0x0a00_0000 | random.word() as u32 & 0x00ff_ffff;
-    (address & u32::MAX << (32 - length), length)
+    (address & world::prefix_mask(length), length)
 }
 
 /// A flow with a destination, which is rarely short, and a few other things asked for; one with a
@@ -80,9 +81,8 @@ fn value(flow: &Flow) -> Vec<u8> {
     let prefixes = [(1, Some(flow.destination)), (2, flow.source)];
     for (kind, prefix) in prefixes {
         if let Some((address, length)) = prefix {
-            let octets = usize::from(length).div_ceil(8);
-            value.extend([kind, length]);
-            value.extend(&address.to_be_bytes()[..octets]);
+            value.push(kind);
+            value.extend(rules::prefix_body(address, length));
         }
     }
     if let Some(protocol) = flow.protocol {
@@ -99,11 +99,6 @@ fn value(flow: &Flow) -> Vec<u8> {
         value.extend([10, 0x13, 0x01, 0xf4, 0xd5, 0x05, 0xdc]);
     }
     value
-}
-
-/// The rule of a value that is shorter than 240 octets.
-fn rule(value: Vec<u8>) -> Vec<u8> {
-    [vec![value.len() as u8], value].concat()
 }
 
 /// Two communities: a rate, and sampling, marking, redirecting or going on.
@@ -165,12 +160,12 @@ impl Load {
                 packet(random, of_rule.map(|at| &flows[at].1))
             })
             .collect();
-        let rules = flows.into_iter().map(|(value, _)| rule(value)).collect();
+        let rules = flows.iter().map(|(value, _)| rules::rule_of(value, false));
         Load {
             communities: (0..count).map(|_| communities(random)).collect(),
             packets,
-            routes: routes(),
-            rules,
+            routes: known_routes(),
+            rules: rules.collect(),
         }
     }
 
@@ -182,10 +177,11 @@ impl Load {
 }
 
 /// A route that covers all, and routes of length 16 within, all from one neighbour.
-fn routes() -> Vec<u32> {
-    let within = (1..ROUTES).flat_map(|number| [0x0a00_0000 | number << 16, 16, ORIGINATOR, 64500]);
-    [0, 0, ORIGINATOR, 64500]
-        .into_iter()
+fn known_routes() -> Vec<u32> {
+    let within = (1..ROUTES).map(|number| 0x0a00_0000 | number << 16);
+    let within = within.map(|address| [address, 16, ORIGINATOR, routes::NEIGHBOUR]);
+    std::iter::once(routes::covering_all(ORIGINATOR))
         .chain(within)
+        .flatten()
         .collect()
 }
