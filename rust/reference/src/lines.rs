@@ -169,13 +169,11 @@ mod tests {
 
     #[test]
     fn the_printed_example() {
-        let input = "route\tc0000200\t24\t7\t64500\n\
-                     announce\t0b0118c00002038106048119\t7\t8006000000000000\n\
-                     list";
+        let input = format!("{ROUTE}{ANNOUNCE}list");
         let output = "answer\t0\n\
                       rules\t1\n\
                       rule\t000b0000000701000000000000000000000000000000000000000000000000000118c00002038106048119\n";
-        assert_eq!(run(input), output);
+        assert_eq!(run(&input), output);
         assert_eq!(run(&format!("{input}\n")), output);
         let zeros = "0".repeat(50);
         assert!(output.contains(&format!("0701{zeros}0118")));

@@ -1,6 +1,6 @@
 //! The order of two rules (RFC 8955 section 5.1).
 
-use crate::rule::{self, Prefix};
+use crate::rule::{self, Prefix, WORKING_ARRAY};
 use crate::Refusal;
 use std::cmp::Ordering;
 
@@ -18,7 +18,7 @@ pub enum Precedence {
 
 /// Reads two rules and tells which comes first (01, "Precedence").
 pub fn compare(first: &[u8], second: &[u8]) -> Result<Precedence, Refusal> {
-    let (mut first_array, mut second_array) = ([0; 4_096], [0; 4_096]);
+    let (mut first_array, mut second_array) = (WORKING_ARRAY, WORKING_ARRAY);
     let first = rule::read_plain(first, &mut first_array)?;
     let second = rule::read_plain(second, &mut second_array)?;
     Ok(match order(first, second) {
@@ -53,7 +53,7 @@ fn leading_prefix(value: &[u8]) -> Option<LeadingPrefix<'_>> {
     if kind > 2 {
         return None;
     }
-    let (body, after) = rest.split_at_checked(1 + usize::from(length.div_ceil(8)))?;
+    let (body, after) = rest.split_at_checked(rule::prefix_size(length))?;
     Some(LeadingPrefix {
         kind,
         prefix: Prefix::from_body(body),
@@ -153,7 +153,7 @@ mod tests {
     /// Some plain values in no order.
     fn some_plain_values(sequence: &mut Sequence, count: usize) -> Vec<Vec<u8>> {
         let plain = |_| {
-            let mut array = [0; 4_096];
+            let mut array = WORKING_ARRAY;
             let rule = rule_of(&some_value(sequence));
             rule::read_plain(&rule, &mut array).unwrap().to_vec()
         };

@@ -75,8 +75,7 @@ pub fn feasible(
     originator: u32,
 ) -> Result<(), Refusal> {
     let routes = check(routes)?;
-    let (start, length) = rule::read(rule)?;
-    let value = &rule[start..start + length];
+    let value = rule::value(rule)?;
     check_feasible(routes, allow_no_destination, value, originator)
 }
 

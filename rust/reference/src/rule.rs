@@ -7,7 +7,10 @@ use ComponentType::*;
 pub(crate) const LONGEST_VALUE: usize = 4_095;
 
 /// The array in which a plain spelling is built.
-pub(crate) type WorkingArray = [u8; 4_096];
+pub(crate) type WorkingArray = [u8; LONGEST_VALUE + 1];
+
+/// A working array before anything is built in it.
+pub(crate) const WORKING_ARRAY: WorkingArray = [0; LONGEST_VALUE + 1];
 
 /// The AND bit of an operator.
 pub(crate) const AND: u8 = 0x40;
@@ -187,11 +190,16 @@ fn prefix_end(value: &[u8], start: usize) -> Result<usize, Refusal> {
     if length > 32 {
         return Err(Refusal::at(5, start));
     }
-    let end = start + 1 + usize::from(length.div_ceil(8));
+    let end = start + prefix_size(length);
     if end > value.len() {
         return Err(past);
     }
     Ok(end)
+}
+
+/// The number of octets of a prefix's body: the length octet and those of the address.
+pub(crate) fn prefix_size(length: u8) -> usize {
+    1 + usize::from(length.div_ceil(8))
 }
 
 /// The end of a list whose first operator stands at the start; never past the value.
@@ -315,14 +323,20 @@ pub fn read(rule: &[u8]) -> Result<(usize, usize), Refusal> {
     Ok((start, length))
 }
 
+/// The value of the one rule that fills the octets.
+pub(crate) fn value(rule: &[u8]) -> Result<&[u8], Refusal> {
+    let (start, length) = read(rule)?;
+    Ok(&rule[start..start + length])
+}
+
 /// The plain spelling, in the working array, of the one rule that fills the octets.
 pub(crate) fn read_plain<'a>(
     rule: &[u8],
     array: &'a mut WorkingArray,
 ) -> Result<&'a [u8], Refusal> {
-    let (start, length) = read(rule)?;
-    let plain = &mut array[..length];
-    spell_plainly(&rule[start..start + length], plain);
+    let value = value(rule)?;
+    let plain = &mut array[..value.len()];
+    spell_plainly(value, plain);
     Ok(plain)
 }
 
@@ -410,7 +424,7 @@ mod tests {
     }
 
     fn plain(value: &str) -> Vec<u8> {
-        let mut array = [0; 4_096];
+        let mut array = WORKING_ARRAY;
         read_plain(&rule(value), &mut array)
             .expect("accepted")
             .to_vec()

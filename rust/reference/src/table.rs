@@ -5,7 +5,7 @@ use crate::action::{self, Actions};
 use crate::order::order;
 use crate::packet::Packet;
 use crate::route;
-use crate::rule::{self, Reader, LONGEST_VALUE};
+use crate::rule::{self, Reader, LONGEST_VALUE, WORKING_ARRAY};
 use crate::Refusal;
 use std::cmp::Ordering;
 
@@ -239,7 +239,7 @@ pub fn announce(
 ) -> Result<(), Refusal> {
     let used = check(table)?;
     let routes = route::check(routes)?;
-    let mut array = [0; 4_096];
+    let mut array = WORKING_ARRAY;
     let value = rule::read_plain(rule, &mut array)?;
     let actions = action::actions(communities)?;
     let (place, held) = find(&table[..used], value);
@@ -265,7 +265,7 @@ pub fn announce(
 /// Withdraws a rule that the table holds (01, "The table" and "Refusals").
 pub fn withdraw(table: &mut [u8], rule: &[u8]) -> Result<(), Refusal> {
     let used = check(table)?;
-    let mut array = [0; 4_096];
+    let mut array = WORKING_ARRAY;
     let value = rule::read_plain(rule, &mut array)?;
     let (place, held) = find(&table[..used], value);
     if !held {
@@ -721,12 +721,12 @@ mod tests {
             let Ok(actions) = action::actions(communities) else {
                 return 13;
             };
-            let used: usize = self.rules.iter().map(|rule| 32 + rule.0.len()).sum();
+            let used: usize = self.rules.iter().map(|rule| HEADER + rule.0.len()).sum();
             let held = self.take_out(value);
             if originator != 1 && value[0] == 1 {
                 return 8;
             }
-            if !held && used + 32 + value.len() > self.length {
+            if !held && used + HEADER + value.len() > self.length {
                 return 11;
             }
             self.rules.push((value.to_vec(), originator, actions));
@@ -746,7 +746,7 @@ mod tests {
         let mut counts = [0; 17];
         for _ in 0..6_000 {
             let rule = rule_of(&values[sequence.below(120) as usize]);
-            let mut array = [0; 4_096];
+            let mut array = WORKING_ARRAY;
             let value = rule::read_plain(&rule, &mut array).unwrap();
             let originator = sequence.below(4).min(1) as u32;
             let communities = some_communities(&mut sequence);
