@@ -38,6 +38,19 @@ struct Setting {
     allow_no_destination: u32,
 }
 
+impl Setting {
+    /// A sound list of routes, often one that covers all, and the setting on or off.
+    fn new(random: &mut Random) -> Setting {
+        Setting {
+            routes: match random.one_in(2) {
+                true => routes::covering_all(1).to_vec(),
+                false => routes::sound_words(random),
+            },
+            allow_no_destination: random.pick(&[0, 1]),
+        }
+    }
+}
+
 impl Step {
     /// The call of this step on a table.
     fn on(&self, setting: &Setting, table: Vec<u8>) -> Call {
@@ -179,13 +192,7 @@ pub fn history(seed: u64, number: u64, seen: &mut Distribution) -> Result<(), St
     let random = &mut Random::new(!seed, number);
     let rules = random.pick(&[3, 10, 40, 100]);
     let pool: Vec<_> = (0..rules).map(|_| rules::components(random)).collect();
-    let setting = Setting {
-        routes: match random.one_in(2) {
-            true => routes::covering_all(1).to_vec(),
-            false => routes::sound_words(random),
-        },
-        allow_no_destination: random.pick(&[0, 1]),
-    };
+    let setting = Setting::new(random);
     let length = random.pick(&[150, 700, 2_000, 8_192, Table::LONGEST]);
     let mut steps: Vec<_> = (0..CALLS).map(|_| step(random, &pool)).collect();
     let (last, table) = run(&setting, length, &steps, seen)?;
