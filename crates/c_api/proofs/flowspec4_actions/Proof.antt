@@ -5,11 +5,6 @@ use Rattle.c_api.proofs.CallLaws.{answered, actions-refused, actions-do
 use borrow.Author.Needs.{needs}
 use Rattle.c_api.proofs.flowspec4_actions.Statement.{statement}
 use Rattle.c_api.proofs.flowspec4_actions.Tie as tie
-use Rattle.c_api.proofs.flowspec4_actions.Reads as reads
-use Rattle.c_api.proofs.flowspec4_actions.Lts as lts
-use Rattle.c_api.proofs.values_of.Reads as values-of-reads
-use Rattle.c_api.proofs.word_of.Reads as word-of-reads
-use Rattle.flowspec.proofs.read_actions.Reads as read-actions-reads
 
 read-actions-requires : tie.Need-read-actions-requires
 read-actions-requires c κs = search needs

@@ -7,10 +7,6 @@ use Rattle.c_api.proofs.CallLaws.{refused, done, answered}
 use borrow.Author.Needs.{needs}
 use Rattle.c_api.proofs.flowspec4_compare.Statement.{statement}
 use Rattle.c_api.proofs.flowspec4_compare.Tie as tie
-use Rattle.c_api.proofs.flowspec4_compare.Reads as reads
-use Rattle.c_api.proofs.flowspec4_compare.Lts as lts
-use Rattle.c_api.proofs.word_of.Reads as word-of-reads
-use Rattle.flowspec.proofs.compare_rules.Reads as compare-rules-reads
 
 refusal : (c : tie.After-known-told) → Refusal (c .before .number .given .0 .0) (c .before .number .given .0 .1 .0)
 refusal c = not-compared _ _ _ _ (sym (c .before .before .before .compare-rules .ensures .is) ∙ c .before .number .given .1)

@@ -7,11 +7,6 @@ use Rattle.c_api.proofs.CallLaws.{word-is}
 use borrow.Author.Needs.{needs}
 use Rattle.c_api.proofs.flowspec4_feasible.Statement.{statement}
 use Rattle.c_api.proofs.flowspec4_feasible.Tie as tie
-use Rattle.c_api.proofs.flowspec4_feasible.Reads as reads
-use Rattle.c_api.proofs.flowspec4_feasible.Lts as lts
-use Rattle.c_api.proofs.is_on.Reads as is-on-reads
-use Rattle.c_api.proofs.word_of.Reads as word-of-reads
-use Rattle.flowspec.proofs.judge_rule.Reads as judge-rule-reads
 
 refusal : (c : tie.After-known-told) → Refusal (c .before .number .given .0 .0) (c .before .number .given .0 .1 .0)
 refusal c = not-feasible _ _ _ _ _ _ (sym (c .before .before .before .judge-rule .ensures .is) ∙ c .before .number .given .1)

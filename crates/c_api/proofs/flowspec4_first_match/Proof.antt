@@ -4,10 +4,6 @@ use Rattle.c_api.proofs.CallLaws.{first-refused, first-done}
 use borrow.Author.Needs.{needs}
 use Rattle.c_api.proofs.flowspec4_first_match.Statement.{statement}
 use Rattle.c_api.proofs.flowspec4_first_match.Tie as tie
-use Rattle.c_api.proofs.flowspec4_first_match.Reads as reads
-use Rattle.c_api.proofs.flowspec4_first_match.Lts as lts
-use Rattle.c_api.proofs.word_of.Reads as word-of-reads
-use Rattle.flowspec.proofs.first_match_place.Reads as first-match-place-reads
 
 first-match-place-requires : tie.Need-first-match-place-requires
 first-match-place-requires c κs = search needs

@@ -7,11 +7,6 @@ use Rattle.c_api.proofs.CallLaws.{refused, answered, lookup-done}
 use borrow.Author.Needs.{needs}
 use Rattle.c_api.proofs.flowspec4_lookup.Statement.{statement}
 use Rattle.c_api.proofs.flowspec4_lookup.Tie as tie
-use Rattle.c_api.proofs.flowspec4_lookup.Reads as reads
-use Rattle.c_api.proofs.flowspec4_lookup.Lts as lts
-use Rattle.c_api.proofs.word_of.Reads as word-of-reads
-use Rattle.c_api.proofs.words_of.Reads as words-of-reads
-use Rattle.flowspec.proofs.lookup.Reads as lookup-reads
 
 refusal : (c : tie.After-known-told) → Refusal (c .before .number .given .0 .0) (c .before .number .given .0 .1 .0)
 refusal c = not-looked-up _ _ _ _ (sym (c .before .before .before .lookup .ensures .is) ∙ c .before .number .given .1)

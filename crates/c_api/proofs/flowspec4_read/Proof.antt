@@ -4,10 +4,6 @@ use Rattle.c_api.proofs.CallLaws.{read-near, read-refused, read-done}
 use borrow.Author.Needs.{needs}
 use Rattle.c_api.proofs.flowspec4_read.Statement.{statement}
 use Rattle.c_api.proofs.flowspec4_read.Tie as tie
-use Rattle.c_api.proofs.flowspec4_read.Reads as reads
-use Rattle.c_api.proofs.flowspec4_read.Lts as lts
-use Rattle.c_api.proofs.word_of.Reads as word-of-reads
-use Rattle.flowspec.proofs.read_rule.Reads as read-rule-reads
 
 read-rule-requires : tie.Need-read-rule-requires
 read-rule-requires c κs = search needs

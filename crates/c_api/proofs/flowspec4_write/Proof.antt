@@ -8,10 +8,6 @@ use Rattle.c_api.proofs.CallLaws.{refused, done, answered}
 use borrow.Author.Needs.{needs}
 use Rattle.c_api.proofs.flowspec4_write.Statement.{statement}
 use Rattle.c_api.proofs.flowspec4_write.Tie as tie
-use Rattle.c_api.proofs.flowspec4_write.Reads as reads
-use Rattle.c_api.proofs.flowspec4_write.Lts as lts
-use Rattle.c_api.proofs.word_of.Reads as word-of-reads
-use Rattle.flowspec.proofs.write_rule.Reads as write-rule-reads
 
 refusal : (c : tie.After-known-told) → Refusal (c .before .number .given .0 .0) (c .before .number .given .0 .1 .0)
 refusal c = not-written ipv4 _ _ _ _ (sym (c .before .before .before .before .before .write-rule .ensures .is) ∙ c .before .number .given .1)

@@ -3,9 +3,6 @@ use Rattle.c_api.proofs.CallLaws.{unmatched-words, matched-words}
 use borrow.Author.Needs.{needs}
 use Rattle.c_api.proofs.words_of.Statement.{statement}
 use Rattle.c_api.proofs.words_of.Tie as tie
-use Rattle.c_api.proofs.words_of.Reads as reads
-use Rattle.c_api.proofs.words_of.Lts as lts
-use Rattle.c_api.proofs.values_of.Reads as values-of-reads
 
 enum-told : tie.Need-enum-told
 enum-told c = search needs

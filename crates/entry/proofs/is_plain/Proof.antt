@@ -9,11 +9,6 @@ use Rattle.octets.specs.Test.{sameOctets}
 use Rattle.entry.proofs.ValueLaws.{plainFromHere, plain-starts, plain-not, plain-past, plain-behind, plain-all}
 use Rattle.entry.proofs.is_plain.Statement.{statement}
 use Rattle.entry.proofs.is_plain.Tie as tie
-use Rattle.entry.proofs.is_plain.Reads as reads
-use Rattle.entry.proofs.is_plain.Lts as lts
-use Rattle.entry.proofs.passed_over.Reads as passed-over-reads
-use Rattle.rule.proofs.cleared_octet.Reads as cleared-octet-reads
-use Rattle.rule.proofs.expected_after.Reads as expected-after-reads
 
 abbrev Inv-loop : tie.InvT-loop
 Inv-loop value expected₀ i₀ expected i = sameOctets (plain value) value ≡ plainFromHere expected (drop i value)

@@ -4,8 +4,6 @@ use Rattle.entry.proofs.ValueLaws.{address-all}
 use borrow.Author.Needs.{needs}
 use Rattle.entry.proofs.passed_address.Statement.{statement}
 use Rattle.entry.proofs.passed_address.Tie as tie
-use Rattle.entry.proofs.passed_address.Reads as reads
-use Rattle.entry.proofs.passed_address.Lts as lts
 
 returns : tie.Need-returns
 returns c = search needs

@@ -3,9 +3,6 @@ use Rattle.entry.proofs.ValueLaws.{operand-all}
 use borrow.Author.Needs.{needs}
 use Rattle.entry.proofs.passed_operand.Statement.{statement}
 use Rattle.entry.proofs.passed_operand.Tie as tie
-use Rattle.entry.proofs.passed_operand.Reads as reads
-use Rattle.entry.proofs.passed_operand.Lts as lts
-use Rattle.rule.proofs.operand_after.Reads as operand-after-reads
 
 returns : tie.Need-returns
 returns c = search needs

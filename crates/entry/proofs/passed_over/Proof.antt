@@ -3,10 +3,6 @@ use Rattle.entry.proofs.ValueLaws.{passes-as}
 use borrow.Author.Needs.{needs}
 use Rattle.entry.proofs.passed_over.Statement.{statement}
 use Rattle.entry.proofs.passed_over.Tie as tie
-use Rattle.entry.proofs.passed_over.Reads as reads
-use Rattle.entry.proofs.passed_over.Lts as lts
-use Rattle.entry.proofs.passed_address.Reads as passed-address-reads
-use Rattle.entry.proofs.passed_operand.Reads as passed-operand-reads
 
 enum-known-expected : tie.Need-enum-known-expected
 enum-known-expected c = search needs

@@ -6,12 +6,6 @@ use Rattle.flowspec.proofs.TableLaws.{announce-unsound, announce-refuse
 use borrow.Author.Needs.{needs}
 use Rattle.flowspec.proofs.announce.Statement.{statement}
 use Rattle.flowspec.proofs.announce.Tie as tie
-use Rattle.flowspec.proofs.announce.Reads as reads
-use Rattle.flowspec.proofs.announce.Lts as lts
-use Rattle.flowspec.proofs.ask.Reads as ask-reads
-use Rattle.flowspec.proofs.change_of.Reads as change-of-reads
-use Rattle.table.proofs.announce_value.Reads as announce-value-reads
-use Rattle.table.proofs.sound_table.Reads as sound-table-reads
 
 rule-read : (c : tie.After-known-told3) → ReadRule ipv4 (c .before .before .before .before .before .before .before .before .before .before .before .before .before .args .rule .now) (c .before .start .given .0 .0) (c .before .start .given .0 .1 .0)
 rule-read c =

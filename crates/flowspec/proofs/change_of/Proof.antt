@@ -3,8 +3,6 @@ use borrow.Author.Needs.{needs}
 use Rattle.flowspec.proofs.AskLaws.{change-done, change-refused}
 use Rattle.flowspec.proofs.change_of.Statement.{statement}
 use Rattle.flowspec.proofs.change_of.Tie as tie
-use Rattle.flowspec.proofs.change_of.Reads as reads
-use Rattle.flowspec.proofs.change_of.Lts as lts
 
 returns : tie.Need-returns
 returns c = search (change-done, needs)

@@ -6,12 +6,6 @@ use Rattle.flowspec.proofs.CompareLaws.{first-read, second-read, value-
 use borrow.Author.Needs.{needs}
 use Rattle.flowspec.proofs.compare_rules.Statement.{statement}
 use Rattle.flowspec.proofs.compare_rules.Tie as tie
-use Rattle.flowspec.proofs.compare_rules.Reads as reads
-use Rattle.flowspec.proofs.compare_rules.Lts as lts
-use Rattle.flowspec.proofs.comparison_of.Reads as comparison-of-reads
-use Rattle.order.proofs.compare_values.Reads as compare-values-reads
-use Rattle.rule.proofs.ipv4.Reads as ipv4-reads
-use Rattle.rule.proofs.one_rule.Reads as one-rule-reads
 
 left-read : (c : tie.After-known-told4) → ReadRule ipv4 (c .before .before .before .before .before .before .before .before .before .before .before .args .first .now) (c .before .before .before .before .left2 .given .0 .0) (c .before .before .before .before .left2 .given .0 .1 .0)
 left-read c =

@@ -4,9 +4,6 @@ use Rattle.flowspec.proofs.TableLaws.{located-at}
 use borrow.Author.Needs.{needs}
 use Rattle.flowspec.proofs.first_match.Statement.{statement}
 use Rattle.flowspec.proofs.first_match.Tie as tie
-use Rattle.flowspec.proofs.first_match.Reads as reads
-use Rattle.flowspec.proofs.first_match.Lts as lts
-use Rattle.flowspec.proofs.first_match_place.Reads as first-match-place-reads
 
 first-match-place-requires : tie.Need-first-match-place-requires
 first-match-place-requires c κs = search needs

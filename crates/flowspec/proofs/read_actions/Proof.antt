@@ -4,9 +4,6 @@ use Rattle.flowspec.specs.Told.{actionsTold}
 use borrow.Author.Needs.{needs}
 use Rattle.flowspec.proofs.read_actions.Statement.{statement}
 use Rattle.flowspec.proofs.read_actions.Tie as tie
-use Rattle.flowspec.proofs.read_actions.Reads as reads
-use Rattle.flowspec.proofs.read_actions.Lts as lts
-use Rattle.action.proofs.actions_of.Reads as actions-of-reads
 
 actions-of-requires : tie.Need-actions-of-requires
 actions-of-requires c κs = search needs

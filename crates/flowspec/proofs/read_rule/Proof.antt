@@ -5,10 +5,6 @@ use Rattle.flowspec.specs.Told.{readingTold}
 use borrow.Author.Needs.{needs}
 use Rattle.flowspec.proofs.read_rule.Statement.{statement}
 use Rattle.flowspec.proofs.read_rule.Tie as tie
-use Rattle.flowspec.proofs.read_rule.Reads as reads
-use Rattle.flowspec.proofs.read_rule.Lts as lts
-use Rattle.rule.proofs.ipv4.Reads as ipv4-reads
-use Rattle.rule.proofs.one_rule.Reads as one-rule-reads
 
 ipv4-requires : tie.Need-ipv4-requires
 ipv4-requires c κs = search needs

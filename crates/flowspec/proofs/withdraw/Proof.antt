@@ -6,13 +6,6 @@ use Rattle.flowspec.proofs.TableLaws.{withdraw-unsound, withdraw-refuse
 use borrow.Author.Needs.{needs}
 use Rattle.flowspec.proofs.withdraw.Statement.{statement}
 use Rattle.flowspec.proofs.withdraw.Tie as tie
-use Rattle.flowspec.proofs.withdraw.Reads as reads
-use Rattle.flowspec.proofs.withdraw.Lts as lts
-use Rattle.flowspec.proofs.change_of.Reads as change-of-reads
-use Rattle.rule.proofs.ipv4.Reads as ipv4-reads
-use Rattle.rule.proofs.one_rule.Reads as one-rule-reads
-use Rattle.table.proofs.sound_table.Reads as sound-table-reads
-use Rattle.table.proofs.withdraw_value.Reads as withdraw-value-reads
 
 rule-read : (c : tie.After-known-told3) → ReadRule ipv4 (c .before .before .before .before .before .before .before .before .before .before .before .before .args .rule .now) (c .before .start .given .0 .0) (c .before .start .given .0 .1 .0)
 rule-read c =

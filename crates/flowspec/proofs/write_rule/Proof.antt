@@ -3,10 +3,6 @@ use Rattle.flowspec.proofs.WriteLaws.{writes}
 use borrow.Author.Needs.{needs}
 use Rattle.flowspec.proofs.write_rule.Statement.{statement}
 use Rattle.flowspec.proofs.write_rule.Tie as tie
-use Rattle.flowspec.proofs.write_rule.Reads as reads
-use Rattle.flowspec.proofs.write_rule.Lts as lts
-use Rattle.rule.proofs.ipv4.Reads as ipv4-reads
-use Rattle.rule.proofs.write_rule.Reads as write-rule-reads
 
 ipv4-requires : tie.Need-ipv4-requires
 ipv4-requires c κs = search needs

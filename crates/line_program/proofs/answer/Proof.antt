@@ -5,10 +5,6 @@ use lib.Seq.{length-take-le}
 use borrow.Author.Needs.{needs}
 use Rattle.line_program.proofs.answer.Statement.{statement}
 use Rattle.line_program.proofs.answer.Tie as tie
-use Rattle.line_program.proofs.answer.Reads as reads
-use Rattle.line_program.proofs.answer.Lts as lts
-use Rattle.io.proofs.write_all.Reads as write-all-reads
-use Rattle.lines.proofs.serve.Reads as serve-reads
 
 serve-requires : tie.Need-serve-requires
 serve-requires c κs = search needs

@@ -8,10 +8,6 @@ use lib.Seq.{length-take-le}
 use Rattle.lines.proofs.GatherLaws.{part-of}
 use Rattle.line_program.proofs.answer_block.Statement.{statement}
 use Rattle.line_program.proofs.answer_block.Tie as tie
-use Rattle.line_program.proofs.answer_block.Reads as reads
-use Rattle.line_program.proofs.answer_block.Lts as lts
-use Rattle.line_program.proofs.answer.Reads as answer-reads
-use Rattle.lines.proofs.gather.Reads as gather-reads
 
 abbrev Inv-loop : tie.InvT-loop
 Inv-loop block line₀ routes₀ table₀ out₀ at₀ held₀ used₀ line routes table out at held used =

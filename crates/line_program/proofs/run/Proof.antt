@@ -7,12 +7,6 @@ use lib.ListN.{length}
 use lib.Seq.{length-take-le}
 use Rattle.line_program.proofs.run.Statement.{statement}
 use Rattle.line_program.proofs.run.Tie as tie
-use Rattle.line_program.proofs.run.Reads as reads
-use Rattle.line_program.proofs.run.Lts as lts
-use Rattle.io.proofs.count.Reads as count-reads
-use Rattle.libc.proofs.read.Reads as read-reads
-use Rattle.line_program.proofs.answer_block.Reads as answer-block-reads
-use Rattle.line_program.proofs.answer_rest.Reads as answer-rest-reads
 
 abbrev Inv-loop : tie.InvT-loop
 Inv-loop block₀ line₀ routes₀ table₀ out₀ progress₀ turns₀ block line routes table out progress turns =

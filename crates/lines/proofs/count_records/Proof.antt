@@ -10,9 +10,6 @@ use Rattle.table.proofs.WalkLaws.{was-found}
 use Rattle.lines.proofs.ListLaws.{left-none, Counting, count-starts, count-done, count-more}
 use Rattle.lines.proofs.count_records.Statement.{statement}
 use Rattle.lines.proofs.count_records.Tie as tie
-use Rattle.lines.proofs.count_records.Reads as reads
-use Rattle.lines.proofs.count_records.Lts as lts
-use Rattle.table.proofs.record_at.Reads as record-at-reads
 
 abbrev Inv-loop : tie.InvT-loop
 Inv-loop table at₀ count₀ at count = Counting table at count

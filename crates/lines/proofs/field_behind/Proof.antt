@@ -3,10 +3,6 @@ use Rattle.lines.proofs.FormLaws.{field-none, field-not, field-some}
 use borrow.Author.Needs.{needs}
 use Rattle.lines.proofs.field_behind.Statement.{statement}
 use Rattle.lines.proofs.field_behind.Tie as tie
-use Rattle.lines.proofs.field_behind.Reads as reads
-use Rattle.lines.proofs.field_behind.Lts as lts
-use Rattle.lines.proofs.is_of.Reads as is-of-reads
-use Rattle.text.proofs.field_end.Reads as field-end-reads
 
 returns : tie.Need-returns
 returns c = field-none _ _ _ (c .if1 .taken)

@@ -7,11 +7,6 @@ use lib.Seq.{length-take-le}
 use Rattle.lines.proofs.GatherLaws.{gathers}
 use Rattle.lines.proofs.gather.Statement.{statement}
 use Rattle.lines.proofs.gather.Tie as tie
-use Rattle.lines.proofs.gather.Reads as reads
-use Rattle.lines.proofs.gather.Lts as lts
-use Rattle.octets.proofs.least.Reads as least-reads
-use Rattle.octets.proofs.store.Reads as store-reads
-use Rattle.text.proofs.place_of.Reads as place-of-reads
 
 place-of-requires : tie.Need-place-of-requires
 place-of-requires c κs = search needs

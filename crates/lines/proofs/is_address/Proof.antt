@@ -4,9 +4,6 @@ use borrow.Author.Tests.{eq-eqb, ne-eqb}
 use borrow.Author.Needs.{needs}
 use Rattle.lines.proofs.is_address.Statement.{statement}
 use Rattle.lines.proofs.is_address.Tie as tie
-use Rattle.lines.proofs.is_address.Reads as reads
-use Rattle.lines.proofs.is_address.Lts as lts
-use Rattle.text.proofs.are_octets.Reads as are-octets-reads
 
 returns : tie.Need-returns
 returns c = rw (ne-eqb (length (c .before .before .args .field .now)) 8 (c .if1 .taken))

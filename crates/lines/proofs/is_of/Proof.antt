@@ -3,12 +3,6 @@ use Rattle.lines.proofs.FormLaws.{kind-is}
 use borrow.Author.Needs.{needs}
 use Rattle.lines.proofs.is_of.Statement.{statement}
 use Rattle.lines.proofs.is_of.Tie as tie
-use Rattle.lines.proofs.is_of.Reads as reads
-use Rattle.lines.proofs.is_of.Lts as lts
-use Rattle.lines.proofs.is_address.Reads as is-address-reads
-use Rattle.lines.proofs.is_rule.Reads as is-rule-reads
-use Rattle.text.proofs.are_octets.Reads as are-octets-reads
-use Rattle.text.proofs.is_number.Reads as is-number-reads
 
 enum-told : tie.Need-enum-told
 enum-told c = search needs

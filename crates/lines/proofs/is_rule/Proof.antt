@@ -5,9 +5,6 @@ use borrow.Author.Tests.{lt-ltb, le-ltb}
 use borrow.Author.Needs.{needs}
 use Rattle.lines.proofs.is_rule.Statement.{statement}
 use Rattle.lines.proofs.is_rule.Tie as tie
-use Rattle.lines.proofs.is_rule.Reads as reads
-use Rattle.lines.proofs.is_rule.Lts as lts
-use Rattle.text.proofs.are_octets.Reads as are-octets-reads
 
 returns : tie.Need-returns
 returns c = rw (le-ltb 0 (length (c .before .before .args .field .now)) (omega arith))

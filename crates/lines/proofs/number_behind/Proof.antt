@@ -6,10 +6,6 @@ use Rattle.lines.proofs.FormLaws.{was-missing, was-there, numbered}
 use borrow.Author.Needs.{needs}
 use Rattle.lines.proofs.number_behind.Statement.{statement}
 use Rattle.lines.proofs.number_behind.Tie as tie
-use Rattle.lines.proofs.number_behind.Reads as reads
-use Rattle.lines.proofs.number_behind.Lts as lts
-use Rattle.lines.proofs.field_behind.Reads as field-behind-reads
-use Rattle.text.proofs.number_in.Reads as number-in-reads
 
 there : (c : tie.After-known-told) → Fielded isNumber (c .before .before .before .before .before .args .line .now) (c .before .before .before .before .before .args .end) (c .before .start .given .0 .0) (c .before .start .given .0 .1 .0)
 there c = was-there _ _ _ _ (c .before .before .before .field-behind .ensures) _ _ (c .before .start .given .1)

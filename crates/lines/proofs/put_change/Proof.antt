@@ -2,9 +2,6 @@
 use borrow.Author.Needs.{needs}
 use Rattle.lines.proofs.put_change.Statement.{statement}
 use Rattle.lines.proofs.put_change.Tie as tie
-use Rattle.lines.proofs.put_change.Reads as reads
-use Rattle.lines.proofs.put_change.Lts as lts
-use Rattle.lines.proofs.put_answer.Reads as put-answer-reads
 
 enum-told : tie.Need-enum-told
 enum-told c = search needs

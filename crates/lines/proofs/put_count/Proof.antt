@@ -6,10 +6,6 @@ use Rattle.lines.proofs.PrintLaws.{printed-then}
 use borrow.Author.Needs.{needs}
 use Rattle.lines.proofs.put_count.Statement.{statement}
 use Rattle.lines.proofs.put_count.Tie as tie
-use Rattle.lines.proofs.put_count.Reads as reads
-use Rattle.lines.proofs.put_count.Lts as lts
-use Rattle.text.proofs.put_decimal.Reads as put-decimal-reads
-use Rattle.text.proofs.put_octets.Reads as put-octets-reads
 
 slice-aggregate-put-octets : tie.Need-slice-aggregate-put-octets
 slice-aggregate-put-octets c = search needs

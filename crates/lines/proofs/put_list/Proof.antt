@@ -5,13 +5,6 @@ use Rattle.lines.proofs.ListLaws.{list-unsound, list-sound, list-short,
 use borrow.Author.Needs.{needs}
 use Rattle.lines.proofs.put_list.Statement.{statement}
 use Rattle.lines.proofs.put_list.Tie as tie
-use Rattle.lines.proofs.put_list.Reads as reads
-use Rattle.lines.proofs.put_list.Lts as lts
-use Rattle.lines.proofs.count_records.Reads as count-records-reads
-use Rattle.lines.proofs.put_answer.Reads as put-answer-reads
-use Rattle.lines.proofs.put_count.Reads as put-count-reads
-use Rattle.lines.proofs.put_records.Reads as put-records-reads
-use Rattle.table.proofs.sound_table.Reads as sound-table-reads
 
 sound-table-requires : tie.Need-sound-table-requires
 sound-table-requires c κs = search needs

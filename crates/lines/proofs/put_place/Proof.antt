@@ -5,10 +5,6 @@ use Rattle.lines.proofs.PrintLaws.{printed-none, printed-then, place-lo
 use borrow.Author.Needs.{needs}
 use Rattle.lines.proofs.put_place.Statement.{statement}
 use Rattle.lines.proofs.put_place.Tie as tie
-use Rattle.lines.proofs.put_place.Reads as reads
-use Rattle.lines.proofs.put_place.Lts as lts
-use Rattle.text.proofs.put_decimal.Reads as put-decimal-reads
-use Rattle.text.proofs.put_octets.Reads as put-octets-reads
 
 returns : tie.Need-returns
 returns c = printed-none _ _ _ (place-low _ _ (c .if1 .taken))

@@ -6,10 +6,6 @@ use Rattle.lines.proofs.PrintLaws.{printed-then}
 use borrow.Author.Needs.{needs}
 use Rattle.lines.proofs.put_record.Statement.{statement}
 use Rattle.lines.proofs.put_record.Tie as tie
-use Rattle.lines.proofs.put_record.Reads as reads
-use Rattle.lines.proofs.put_record.Lts as lts
-use Rattle.text.proofs.put_hex.Reads as put-hex-reads
-use Rattle.text.proofs.put_octets.Reads as put-octets-reads
 
 slice-aggregate-put-octets : tie.Need-slice-aggregate-put-octets
 slice-aggregate-put-octets c = search needs

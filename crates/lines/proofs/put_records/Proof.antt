@@ -11,10 +11,6 @@ use Rattle.table.proofs.EntryLaws.{length-there}
 use Rattle.lines.proofs.ListLaws.{left-none, Printing, print-starts, print-done, print-more}
 use Rattle.lines.proofs.put_records.Statement.{statement}
 use Rattle.lines.proofs.put_records.Tie as tie
-use Rattle.lines.proofs.put_records.Reads as reads
-use Rattle.lines.proofs.put_records.Lts as lts
-use Rattle.lines.proofs.put_record.Reads as put-record-reads
-use Rattle.table.proofs.record_at.Reads as record-at-reads
 
 abbrev Inv-loop : tie.InvT-loop
 Inv-loop table out₀ at place₀ end₀ out place end = Printing table out₀ at place out end

@@ -6,14 +6,6 @@ use Rattle.lines.proofs.ReadLaws.{line-long, line-is, line-other}
 use borrow.Author.Needs.{needs}
 use Rattle.lines.proofs.read_line.Statement.{statement}
 use Rattle.lines.proofs.read_line.Tie as tie
-use Rattle.lines.proofs.read_line.Reads as reads
-use Rattle.lines.proofs.read_line.Lts as lts
-use Rattle.lines.proofs.read_announce.Reads as read-announce-reads
-use Rattle.lines.proofs.read_list.Reads as read-list-reads
-use Rattle.lines.proofs.read_route.Reads as read-route-reads
-use Rattle.lines.proofs.read_withdraw.Reads as read-withdraw-reads
-use Rattle.text.proofs.field_end.Reads as field-end-reads
-use Rattle.octets.proofs.same_octets.Reads as same-octets-reads
 
 returns : tie.Need-returns
 returns c = line-long _ (c .if1 .taken)

@@ -3,8 +3,6 @@ use Rattle.lines.proofs.FormLaws.{goes-on}
 use Rattle.lines.proofs.ReadLaws.{no-list, list-read}
 use Rattle.lines.proofs.read_list.Statement.{statement}
 use Rattle.lines.proofs.read_list.Tie as tie
-use Rattle.lines.proofs.read_list.Reads as reads
-use Rattle.lines.proofs.read_list.Lts as lts
 
 returns : tie.Need-returns
 returns c = no-list _ _ (goes-on _ _ (c .if1 .taken))

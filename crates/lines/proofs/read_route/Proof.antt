@@ -8,11 +8,6 @@ use Rattle.lines.proofs.ReadLaws.{no-route, route-read}
 use borrow.Author.Needs.{needs}
 use Rattle.lines.proofs.read_route.Statement.{statement}
 use Rattle.lines.proofs.read_route.Tie as tie
-use Rattle.lines.proofs.read_route.Reads as reads
-use Rattle.lines.proofs.read_route.Lts as lts
-use Rattle.lines.proofs.field_behind.Reads as field-behind-reads
-use Rattle.lines.proofs.number_behind.Reads as number-behind-reads
-use Rattle.text.proofs.word_in.Reads as word-in-reads
 
 there : (c : tie.After-known-told) → Fielded isAddress (c .before .before .before .before .before .args .line .now) (c .before .before .before .before .before .args .word) (c .before .start .given .0 .0) (c .before .start .given .0 .1 .0)
 there c = was-there _ _ _ _ (c .before .before .before .field-behind .ensures) _ _ (c .before .start .given .1)

@@ -7,9 +7,6 @@ use Rattle.lines.proofs.ReadLaws.{no-withdraw, withdraw-read}
 use borrow.Author.Needs.{needs}
 use Rattle.lines.proofs.read_withdraw.Statement.{statement}
 use Rattle.lines.proofs.read_withdraw.Tie as tie
-use Rattle.lines.proofs.read_withdraw.Reads as reads
-use Rattle.lines.proofs.read_withdraw.Lts as lts
-use Rattle.lines.proofs.field_behind.Reads as field-behind-reads
 
 there : (c : tie.After-known-told) → Fielded isRule (c .before .before .before .before .before .args .line .now) (c .before .before .before .before .before .args .word) (c .before .start .given .0 .0) (c .before .start .given .0 .1 .0)
 there c = was-there _ _ _ _ (c .before .before .before .field-behind .ensures) _ _ (c .before .start .given .1)

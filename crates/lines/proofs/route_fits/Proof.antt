@@ -3,8 +3,6 @@ use Rattle.lines.proofs.ServeLaws.{fits-not, fits-by-length}
 use borrow.Author.Needs.{needs}
 use Rattle.lines.proofs.route_fits.Statement.{statement}
 use Rattle.lines.proofs.route_fits.Tie as tie
-use Rattle.lines.proofs.route_fits.Reads as reads
-use Rattle.lines.proofs.route_fits.Lts as lts
 
 sub-if1 : tie.Need-sub-if1
 sub-if1 c = search needs

@@ -9,15 +9,6 @@ use Rattle.lines.proofs.ServeLaws.{serve-routed, serve-announced, serve
 use borrow.Author.Needs.{needs}
 use Rattle.lines.proofs.serve.Statement.{statement}
 use Rattle.lines.proofs.serve.Tie as tie
-use Rattle.lines.proofs.serve.Reads as reads
-use Rattle.lines.proofs.serve.Lts as lts
-use Rattle.octets.proofs.least.Reads as least-reads
-use Rattle.lines.proofs.put_list.Reads as put-list-reads
-use Rattle.lines.proofs.put_unknown.Reads as put-unknown-reads
-use Rattle.lines.proofs.read_line.Reads as read-line-reads
-use Rattle.lines.proofs.serve_announce.Reads as serve-announce-reads
-use Rattle.lines.proofs.serve_route.Reads as serve-route-reads
-use Rattle.lines.proofs.serve_withdraw.Reads as serve-withdraw-reads
 
 announced : (c : tie.After-known-told2) → (c .before .rule .given .0 .0 ≤ c .before .rule .given .0 .1 .0) × ((c .before .rule .given .0 .1 .0 ≤ length (c .before .before .before .before .before .before .before .before .args .line .now)) × ((c .before .rule .given .0 .1 .1 .1 .0 ≤ length (c .before .before .before .before .before .before .before .before .args .line .now)) × (length (c .before .before .before .before .before .before .before .before .args .line .now) ≤ mostSigns)))
 announced c = announce-places _ _ (c .before .before .before .read-line .ensures) _ _ _ _ (c .before .rule .given .1)

@@ -4,11 +4,6 @@ use native.Mathlib.Omega.{arith}
 use borrow.Author.Needs.{needs}
 use Rattle.lines.proofs.serve_announce.Statement.{statement}
 use Rattle.lines.proofs.serve_announce.Tie as tie
-use Rattle.lines.proofs.serve_announce.Reads as reads
-use Rattle.lines.proofs.serve_announce.Lts as lts
-use Rattle.flowspec.proofs.announce.Reads as announce-reads
-use Rattle.lines.proofs.put_change.Reads as put-change-reads
-use Rattle.text.proofs.read_octets.Reads as read-octets-reads
 
 slice-aggregate-read-octets : tie.Need-slice-aggregate-read-octets
 slice-aggregate-read-octets c = search needs

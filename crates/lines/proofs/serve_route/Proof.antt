@@ -7,10 +7,6 @@ use Rattle.lines.proofs.ServeLaws.{route-room, route-added, route-not-a
 use borrow.Author.Needs.{needs}
 use Rattle.lines.proofs.serve_route.Statement.{statement}
 use Rattle.lines.proofs.serve_route.Tie as tie
-use Rattle.lines.proofs.serve_route.Reads as reads
-use Rattle.lines.proofs.serve_route.Lts as lts
-use Rattle.lines.proofs.put_unknown.Reads as put-unknown-reads
-use Rattle.lines.proofs.route_fits.Reads as route-fits-reads
 
 room : (c : tie.Else1) → (c .before .before .before .before .before .args .used + 4 ≤ mostWords) × (c .before .before .before .before .before .args .used + 4 ≤ length (c .before .before .before .before .before .args .routes .now))
 room c = let a = c .before .before .before .before .before .args in route-room (a .routes .now) (a .used) _ (c .before .route-fits .ensures) (c .if1 .left)

@@ -4,11 +4,6 @@ use native.Mathlib.Omega.{arith}
 use borrow.Author.Needs.{needs}
 use Rattle.lines.proofs.serve_withdraw.Statement.{statement}
 use Rattle.lines.proofs.serve_withdraw.Tie as tie
-use Rattle.lines.proofs.serve_withdraw.Reads as reads
-use Rattle.lines.proofs.serve_withdraw.Lts as lts
-use Rattle.flowspec.proofs.withdraw.Reads as withdraw-reads
-use Rattle.lines.proofs.put_change.Reads as put-change-reads
-use Rattle.text.proofs.read_octets.Reads as read-octets-reads
 
 slice-aggregate-read-octets : tie.Need-slice-aggregate-read-octets
 slice-aggregate-read-octets c = search needs

@@ -3,8 +3,6 @@ use Rattle.octets.proofs.OrderLaws.{lt-cmp, gt-cmp, eq-cmp}
 use native.Mathlib.Omega.{arith}
 use Rattle.octets.proofs.compare_numbers.Statement.{statement}
 use Rattle.octets.proofs.compare_numbers.Tie as tie
-use Rattle.octets.proofs.compare_numbers.Reads as reads
-use Rattle.octets.proofs.compare_numbers.Lts as lts
 
 returns : tie.Need-returns
 returns c = rw (lt-cmp _ _ (c .if1 .taken))

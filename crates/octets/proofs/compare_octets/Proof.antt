@@ -8,9 +8,6 @@ use Rattle.octets.specs.Order.{lex, ordered}
 use Rattle.octets.proofs.OrderLaws.{lex-both, lex-first-out, lex-second-out, lt-cmp, gt-cmp, eq-cmp}
 use Rattle.octets.proofs.compare_octets.Statement.{statement}
 use Rattle.octets.proofs.compare_octets.Tie as tie
-use Rattle.octets.proofs.compare_octets.Reads as reads
-use Rattle.octets.proofs.compare_octets.Lts as lts
-use Rattle.octets.proofs.compare_numbers.Reads as compare-numbers-reads
 
 abbrev Inv-loop : tie.InvT-loop
 Inv-loop a b i₀ i = (i ≤ length a) × (i ≤ length b) × (lex compare a b ≡ lex compare (drop i a) (drop i b))

@@ -5,8 +5,6 @@ use mathlib.Core.Path.{sym, refl}
 use borrow.Author.Needs.{needs}
 use Rattle.octets.proofs.octet_at.Statement.{statement}
 use Rattle.octets.proofs.octet_at.Tie as tie
-use Rattle.octets.proofs.octet_at.Reads as reads
-use Rattle.octets.proofs.octet_at.Lts as lts
 
 shared-slice-read-result : tie.Need-shared-slice-read-result
 shared-slice-read-result c = search needs

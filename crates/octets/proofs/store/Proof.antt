@@ -8,8 +8,6 @@ use lib.Seq.{paste, paste-zero}
 use Rattle.octets.proofs.StoreLaws.{paste-more, paste-all}
 use Rattle.octets.proofs.store.Statement.{statement}
 use Rattle.octets.proofs.store.Tie as tie
-use Rattle.octets.proofs.store.Reads as reads
-use Rattle.octets.proofs.store.Lts as lts
 
 abbrev Inv-loop : tie.InvT-loop
 Inv-loop buffer₀ at s i₀ buffer i = (i ≤ length s) × (length buffer ≡ length buffer₀) × (buffer ≡ paste buffer₀ at s i)

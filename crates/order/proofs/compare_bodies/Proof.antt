@@ -6,12 +6,6 @@ use Rattle.order.proofs.TurnLaws.{order-prefixes, order-octets}
 use borrow.Author.Needs.{needs}
 use Rattle.order.proofs.compare_bodies.Statement.{statement}
 use Rattle.order.proofs.compare_bodies.Tie as tie
-use Rattle.order.proofs.compare_bodies.Reads as reads
-use Rattle.order.proofs.compare_bodies.Lts as lts
-use Rattle.octets.proofs.compare_octets.Reads as compare-octets-reads
-use Rattle.prefix.proofs.compare_prefixes.Reads as compare-prefixes-reads
-use Rattle.prefix.proofs.prefix_of.Reads as prefix-of-reads
-use Rattle.rule.proofs.is_prefix.Reads as is-prefix-reads
 
 is-prefix-requires : tie.Need-is-prefix-requires
 is-prefix-requires c κs = search needs

@@ -3,9 +3,6 @@ use Rattle.order.proofs.TurnLaws.{order-lower, order-higher, order-bodi
 use borrow.Author.Needs.{needs}
 use Rattle.order.proofs.compare_components.Statement.{statement}
 use Rattle.order.proofs.compare_components.Tie as tie
-use Rattle.order.proofs.compare_components.Reads as reads
-use Rattle.order.proofs.compare_components.Lts as lts
-use Rattle.order.proofs.compare_bodies.Reads as compare-bodies-reads
 
 returns : tie.Need-returns
 returns c = search (order-lower, needs)

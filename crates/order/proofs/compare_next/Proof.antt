@@ -6,13 +6,6 @@ use Rattle.order.proofs.TurnLaws.{left-found, right-found, turn-none, t
 use borrow.Author.Needs.{needs}
 use Rattle.order.proofs.compare_next.Statement.{statement}
 use Rattle.order.proofs.compare_next.Tie as tie
-use Rattle.order.proofs.compare_next.Reads as reads
-use Rattle.order.proofs.compare_next.Lts as lts
-use Rattle.order.proofs.compare_components.Reads as compare-components-reads
-use Rattle.order.proofs.runs_out.Reads as runs-out-reads
-use Rattle.order.proofs.turn_for.Reads as turn-for-reads
-use Rattle.rule.proofs.next_component.Reads as next-component-reads
-use Rattle.rule.proofs.ipv4.Reads as ipv4-reads
 
 here-found : (c : tie.After-known-told2) → Found ipv4 (c .before .before .before .before .before .before .before .before .before .before .before .args .first .now) (c .before .before .before .before .before .before .before .before .before .before .before .args .here) (c .before .before .before .before .before .before .before .before .before .before .before .args .previous)
     (c .before .before .before .before .left .given .0 .0) (c .before .before .before .before .left .given .0 .1 .0)

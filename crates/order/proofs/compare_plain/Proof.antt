@@ -12,9 +12,6 @@ use Rattle.order.specs.Turn.{partsFrom}
 use Rattle.order.proofs.TurnLaws.{plain-decided, plain-tied, plain-ahead}
 use Rattle.order.proofs.compare_plain.Statement.{statement}
 use Rattle.order.proofs.compare_plain.Tie as tie
-use Rattle.order.proofs.compare_plain.Reads as reads
-use Rattle.order.proofs.compare_plain.Lts as lts
-use Rattle.order.proofs.compare_next.Reads as compare-next-reads
 
 abbrev Inv-loop : tie.InvT-loop
 Inv-loop first second at₀ place₀ previous₀ at place previous = ordered (partsOrder ipv4 (components ipv4 first) (components ipv4 second)) ≡ ordered (partsOrder ipv4 (partsFrom first at previous) (partsFrom second place previous))

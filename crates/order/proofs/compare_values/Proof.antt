@@ -8,10 +8,6 @@ use Rattle.order.specs.Precedence.{partsOrder, precedence}
 use borrow.Author.Needs.{needs}
 use Rattle.order.proofs.compare_values.Statement.{statement}
 use Rattle.order.proofs.compare_values.Tie as tie
-use Rattle.order.proofs.compare_values.Reads as reads
-use Rattle.order.proofs.compare_values.Lts as lts
-use Rattle.order.proofs.compare_plain.Reads as compare-plain-reads
-use Rattle.rule.proofs.fill_plain.Reads as fill-plain-reads
 
 slice-aggregate-fill-plain : tie.Need-slice-aggregate-fill-plain
 slice-aggregate-fill-plain c = search needs

@@ -2,8 +2,6 @@
 use borrow.Author.Needs.{needs}
 use Rattle.order.proofs.turn_for.Statement.{statement}
 use Rattle.order.proofs.turn_for.Tie as tie
-use Rattle.order.proofs.turn_for.Reads as reads
-use Rattle.order.proofs.turn_for.Lts as lts
 
 enum-told : tie.Need-enum-told
 enum-told c = search needs

@@ -3,9 +3,6 @@ use Rattle.route.proofs.DestinationLaws.{one-prefix, other-kind}
 use borrow.Author.Needs.{needs}
 use Rattle.route.proofs.destination_for.Statement.{statement}
 use Rattle.route.proofs.destination_for.Tie as tie
-use Rattle.route.proofs.destination_for.Reads as reads
-use Rattle.route.proofs.destination_for.Lts as lts
-use Rattle.prefix.proofs.prefix_of.Reads as prefix-of-reads
 
 prefix-of-requires : tie.Need-prefix-of-requires
 prefix-of-requires c κs = search needs

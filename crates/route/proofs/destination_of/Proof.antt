@@ -6,11 +6,6 @@ use Rattle.route.proofs.DestinationLaws.{first-found, by-first, by-none
 use borrow.Author.Needs.{needs}
 use Rattle.route.proofs.destination_of.Statement.{statement}
 use Rattle.route.proofs.destination_of.Tie as tie
-use Rattle.route.proofs.destination_of.Reads as reads
-use Rattle.route.proofs.destination_of.Lts as lts
-use Rattle.route.proofs.destination_for.Reads as destination-for-reads
-use Rattle.rule.proofs.next_component.Reads as next-component-reads
-use Rattle.rule.proofs.ipv4.Reads as ipv4-reads
 
 found-first : (c : tie.After-known-told) → Found ipv4 (c .before .before .before .before .before .before .args .value .now) 0 0 (c .before .kind .given .0 .0) (c .before .kind .given .0 .1 .0)
 found-first c = first-found ipv4 _ _ (c .before .before .before .before .ipv4 .ensures) _ (c .before .before .before .next-component .ensures) _ _ (c .before .kind .given .1)

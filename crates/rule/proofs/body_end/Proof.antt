@@ -3,11 +3,6 @@ use Rattle.rule.proofs.ComponentLaws.{body-prefix, body-list}
 use borrow.Author.Needs.{needs}
 use Rattle.rule.proofs.body_end.Statement.{statement}
 use Rattle.rule.proofs.body_end.Tie as tie
-use Rattle.rule.proofs.body_end.Reads as reads
-use Rattle.rule.proofs.body_end.Lts as lts
-use Rattle.rule.proofs.is_prefix.Reads as is-prefix-reads
-use Rattle.rule.proofs.list_end.Reads as list-end-reads
-use Rattle.rule.proofs.prefix_end.Reads as prefix-end-reads
 
 is-prefix-requires : tie.Need-is-prefix-requires
 is-prefix-requires c κs = search needs

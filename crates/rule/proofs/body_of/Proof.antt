@@ -3,9 +3,6 @@ use Rattle.rule.specs.Plain.{bodyOf}
 use borrow.Author.Needs.{needs}
 use Rattle.rule.proofs.body_of.Statement.{statement}
 use Rattle.rule.proofs.body_of.Tie as tie
-use Rattle.rule.proofs.body_of.Reads as reads
-use Rattle.rule.proofs.body_of.Lts as lts
-use Rattle.rule.proofs.is_prefix.Reads as is-prefix-reads
 
 is-prefix-requires : tie.Need-is-prefix-requires
 is-prefix-requires c κs = search needs

@@ -8,9 +8,6 @@ use Rattle.rule.specs.Value.{checkValue}
 use Rattle.rule.proofs.ValueLaws.{was-found, accepts, check-on, check-accepted, check-refused, check-long, check-empty, check-walk}
 use Rattle.rule.proofs.check_value.Statement.{statement}
 use Rattle.rule.proofs.check_value.Tie as tie
-use Rattle.rule.proofs.check_value.Reads as reads
-use Rattle.rule.proofs.check_value.Lts as lts
-use Rattle.rule.proofs.next_component.Reads as next-component-reads
 
 abbrev Inv-loop : tie.InvT-loop
 Inv-loop family value at₀ previous₀ at previous = checkValue family value ≡ accepts family value at previous

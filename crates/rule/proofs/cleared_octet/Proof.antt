@@ -3,11 +3,6 @@ use Rattle.rule.proofs.PlainLaws.{operand-small, cleared-kind, cleared-
 use borrow.Author.Needs.{needs}
 use Rattle.rule.proofs.cleared_octet.Statement.{statement}
 use Rattle.rule.proofs.cleared_octet.Tie as tie
-use Rattle.rule.proofs.cleared_octet.Reads as reads
-use Rattle.rule.proofs.cleared_octet.Lts as lts
-use Rattle.rule.proofs.plain_address.Reads as plain-address-reads
-use Rattle.rule.proofs.plain_operand.Reads as plain-operand-reads
-use Rattle.rule.proofs.plain_operator.Reads as plain-operator-reads
 
 enum-told : tie.Need-enum-told
 enum-told c = search needs

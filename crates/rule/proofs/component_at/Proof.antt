@@ -3,9 +3,6 @@ use Rattle.rule.proofs.ComponentLaws.{component-none, component-unknown
 use borrow.Author.Needs.{needs}
 use Rattle.rule.proofs.component_at.Statement.{statement}
 use Rattle.rule.proofs.component_at.Tie as tie
-use Rattle.rule.proofs.component_at.Reads as reads
-use Rattle.rule.proofs.component_at.Lts as lts
-use Rattle.rule.proofs.body_end.Reads as body-end-reads
 
 returns : tie.Need-returns
 returns c = search (component-none, needs)

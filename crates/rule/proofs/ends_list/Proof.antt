@@ -3,8 +3,6 @@ use mathlib.Core.Path.{refl}
 use Rattle.rule.specs.Operator.{endsList}
 use Rattle.rule.proofs.ends_list.Statement.{statement}
 use Rattle.rule.proofs.ends_list.Tie as tie
-use Rattle.rule.proofs.ends_list.Reads as reads
-use Rattle.rule.proofs.ends_list.Lts as lts
 
 returns : tie.Need-returns
 unfolding endsList

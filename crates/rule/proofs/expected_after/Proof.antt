@@ -3,12 +3,6 @@ use Rattle.rule.proofs.PlainLaws.{after-kind, after-length-zero, after-
 use borrow.Author.Needs.{needs}
 use Rattle.rule.proofs.expected_after.Statement.{statement}
 use Rattle.rule.proofs.expected_after.Tie as tie
-use Rattle.rule.proofs.expected_after.Reads as reads
-use Rattle.rule.proofs.expected_after.Lts as lts
-use Rattle.rule.proofs.body_of.Reads as body-of-reads
-use Rattle.rule.proofs.ends_list.Reads as ends-list-reads
-use Rattle.rule.proofs.operand_after.Reads as operand-after-reads
-use Rattle.rule.proofs.size_of.Reads as size-of-reads
 
 enum-told : tie.Need-enum-told
 enum-told c = search needs

@@ -5,8 +5,6 @@ use lib.ListN.{length}
 use Rattle.rule.proofs.WritingLaws.{one-octet-field, two-octet-field}
 use Rattle.rule.proofs.field_for.Statement.{statement}
 use Rattle.rule.proofs.field_for.Tie as tie
-use Rattle.rule.proofs.field_for.Reads as reads
-use Rattle.rule.proofs.field_for.Lts as lts
 
 returns : tie.Need-returns
 returns c = (sym (ap length (one-octet-field _ (c .if1 .taken))), omega arith)

@@ -4,9 +4,6 @@ use Rattle.rule.proofs.ReadingLaws.{short-length, long-length, high-sma
 use borrow.Author.Needs.{needs}
 use Rattle.rule.proofs.field_length.Statement.{statement}
 use Rattle.rule.proofs.field_length.Tie as tie
-use Rattle.rule.proofs.field_length.Reads as reads
-use Rattle.rule.proofs.field_length.Lts as lts
-use Rattle.octets.proofs.octet_at.Reads as octet-at-reads
 
 octet-at-requires : tie.Need-octet-at-requires
 octet-at-requires c κs = search needs

@@ -5,10 +5,6 @@ use lib.ListN.{length}
 use Rattle.rule.proofs.FillLaws.{Filling, filling-starts, filling-on, filled-front}
 use Rattle.rule.proofs.fill_plain.Statement.{statement}
 use Rattle.rule.proofs.fill_plain.Tie as tie
-use Rattle.rule.proofs.fill_plain.Reads as reads
-use Rattle.rule.proofs.fill_plain.Lts as lts
-use Rattle.rule.proofs.cleared_octet.Reads as cleared-octet-reads
-use Rattle.rule.proofs.expected_after.Reads as expected-after-reads
 
 abbrev Inv-loop : tie.InvT-loop
 Inv-loop value work₀ expected₀ i₀ work expected i = Filling value work₀ work expected i

@@ -3,11 +3,6 @@ use Rattle.rule.proofs.ReadingLaws.{read-no-field, read-short, read-acc
 use borrow.Author.Needs.{needs}
 use Rattle.rule.proofs.first_rule.Statement.{statement}
 use Rattle.rule.proofs.first_rule.Tie as tie
-use Rattle.rule.proofs.first_rule.Reads as reads
-use Rattle.rule.proofs.first_rule.Lts as lts
-use Rattle.rule.proofs.check_value.Reads as check-value-reads
-use Rattle.rule.proofs.field_length.Reads as field-length-reads
-use Rattle.rule.proofs.field_size.Reads as field-size-reads
 
 field-size-requires : tie.Need-field-size-requires
 field-size-requires c κs = search needs

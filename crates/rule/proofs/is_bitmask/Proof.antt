@@ -6,8 +6,6 @@ use Rattle.rule.specs.Operator.{isBitmask}
 use Rattle.rule.proofs.OperatorLaws.{numeric-kind}
 use Rattle.rule.proofs.is_bitmask.Statement.{statement}
 use Rattle.rule.proofs.is_bitmask.Tie as tie
-use Rattle.rule.proofs.is_bitmask.Reads as reads
-use Rattle.rule.proofs.is_bitmask.Lts as lts
 
 returns : tie.Need-returns
 unfolding isBitmask

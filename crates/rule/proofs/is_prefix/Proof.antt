@@ -4,8 +4,6 @@ use native.Mathlib.Omega.{arith}
 use Rattle.rule.proofs.OperatorLaws.{prefix-kind, list-kind}
 use Rattle.rule.proofs.is_prefix.Statement.{statement}
 use Rattle.rule.proofs.is_prefix.Tie as tie
-use Rattle.rule.proofs.is_prefix.Reads as reads
-use Rattle.rule.proofs.is_prefix.Lts as lts
 
 returns : tie.Need-returns
 returns c = sym (prefix-kind (c .before .before .args .kind) (omega arith) (omega arith))

@@ -8,9 +8,6 @@ use lib.ListN.{length}
 use Rattle.rule.specs.Component.{pairsFrom}
 use Rattle.rule.proofs.list_end.Statement.{statement}
 use Rattle.rule.proofs.list_end.Tie as tie
-use Rattle.rule.proofs.list_end.Reads as reads
-use Rattle.rule.proofs.list_end.Lts as lts
-use Rattle.rule.proofs.pair_at.Reads as pair-at-reads
 
 abbrev Inv-loop : tie.InvT-loop
 Inv-loop kind value start at₀ at = pairsFrom kind value start .ending ≡ pairsFrom kind value at .ending

@@ -5,9 +5,6 @@ use Rattle.rule.proofs.ReadingLaws.{rule-read, alone-whole, alone-more,
 use borrow.Author.Needs.{needs}
 use Rattle.rule.proofs.one_rule.Statement.{statement}
 use Rattle.rule.proofs.one_rule.Tie as tie
-use Rattle.rule.proofs.one_rule.Reads as reads
-use Rattle.rule.proofs.one_rule.Lts as lts
-use Rattle.rule.proofs.first_rule.Reads as first-rule-reads
 
 first-rule-requires : tie.Need-first-rule-requires
 first-rule-requires c κs = search needs

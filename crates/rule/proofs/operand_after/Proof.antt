@@ -4,8 +4,6 @@ use Rattle.rule.specs.Plain.{operandAfter}
 use borrow.Author.Needs.{needs}
 use Rattle.rule.proofs.operand_after.Statement.{statement}
 use Rattle.rule.proofs.operand_after.Tie as tie
-use Rattle.rule.proofs.operand_after.Reads as reads
-use Rattle.rule.proofs.operand_after.Lts as lts
 
 sub-t5 : tie.Need-sub-t5
 sub-t5 c = search needs

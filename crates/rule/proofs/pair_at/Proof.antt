@@ -3,11 +3,6 @@ use Rattle.rule.proofs.ComponentLaws.{pair-missing, pair-size, pair-sho
 use borrow.Author.Needs.{needs}
 use Rattle.rule.proofs.pair_at.Statement.{statement}
 use Rattle.rule.proofs.pair_at.Tie as tie
-use Rattle.rule.proofs.pair_at.Reads as reads
-use Rattle.rule.proofs.pair_at.Lts as lts
-use Rattle.rule.proofs.ends_list.Reads as ends-list-reads
-use Rattle.rule.proofs.size_allowed.Reads as size-allowed-reads
-use Rattle.rule.proofs.size_of.Reads as size-of-reads
 
 returns : tie.Need-returns
 returns c = search (pair-missing, needs)

@@ -5,8 +5,6 @@ use Rattle.rule.proofs.PlainLaws.{shifted, shifted-small, whole-octet}
 use borrow.Author.Needs.{needs}
 use Rattle.rule.proofs.plain_address.Statement.{statement}
 use Rattle.rule.proofs.plain_address.Tie as tie
-use Rattle.rule.proofs.plain_address.Reads as reads
-use Rattle.rule.proofs.plain_address.Lts as lts
 
 returns : tie.Need-returns
 returns c = search (whole-octet, needs)

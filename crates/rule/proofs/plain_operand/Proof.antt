@@ -3,8 +3,6 @@ use borrow.Author.Tests.{ne-eqb}
 use Rattle.rule.specs.Plain.{plainOperand}
 use Rattle.rule.proofs.plain_operand.Statement.{statement}
 use Rattle.rule.proofs.plain_operand.Tie as tie
-use Rattle.rule.proofs.plain_operand.Reads as reads
-use Rattle.rule.proofs.plain_operand.Lts as lts
 
 returns : tie.Need-returns
 unfolding plainOperand

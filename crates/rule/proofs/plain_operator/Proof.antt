@@ -3,9 +3,6 @@ use Rattle.rule.specs.Plain.{plainOperator}
 use borrow.Author.Needs.{needs}
 use Rattle.rule.proofs.plain_operator.Statement.{statement}
 use Rattle.rule.proofs.plain_operator.Tie as tie
-use Rattle.rule.proofs.plain_operator.Reads as reads
-use Rattle.rule.proofs.plain_operator.Lts as lts
-use Rattle.rule.proofs.is_bitmask.Reads as is-bitmask-reads
 
 is-bitmask-requires : tie.Need-is-bitmask-requires
 is-bitmask-requires c κs = search needs

@@ -3,8 +3,6 @@ use Rattle.rule.proofs.ComponentLaws.{prefix-missing, prefix-long, pref
 use borrow.Author.Needs.{needs}
 use Rattle.rule.proofs.prefix_end.Statement.{statement}
 use Rattle.rule.proofs.prefix_end.Tie as tie
-use Rattle.rule.proofs.prefix_end.Reads as reads
-use Rattle.rule.proofs.prefix_end.Lts as lts
 
 returns : tie.Need-returns
 returns c = search (prefix-missing, needs)

@@ -5,8 +5,6 @@ use Rattle.rule.specs.Operator.{sizeAllowed}
 use Rattle.rule.proofs.OperatorLaws.{one-octet, any-size}
 use Rattle.rule.proofs.size_allowed.Statement.{statement}
 use Rattle.rule.proofs.size_allowed.Tie as tie
-use Rattle.rule.proofs.size_allowed.Reads as reads
-use Rattle.rule.proofs.size_allowed.Lts as lts
 
 returns : tie.Need-returns
 unfolding sizeAllowed

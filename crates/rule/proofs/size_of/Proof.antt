@@ -3,8 +3,6 @@ use native.Mathlib.Omega.{arith}
 use Rattle.rule.proofs.OperatorLaws.{exponent-small, size-shift, size-small}
 use Rattle.rule.proofs.size_of.Statement.{statement}
 use Rattle.rule.proofs.size_of.Tie as tie
-use Rattle.rule.proofs.size_of.Reads as reads
-use Rattle.rule.proofs.size_of.Lts as lts
 
 cast-result : tie.Need-cast-result
 cast-result c = omega (arith, exponent-small (c .args .operator) (omega arith))

@@ -5,12 +5,6 @@ use native.Mathlib.Omega.{arith}
 use borrow.Author.Needs.{needs}
 use Rattle.rule.proofs.write_accepted.Statement.{statement}
 use Rattle.rule.proofs.write_accepted.Tie as tie
-use Rattle.rule.proofs.write_accepted.Reads as reads
-use Rattle.rule.proofs.write_accepted.Lts as lts
-use Rattle.octets.proofs.store.Reads as store-reads
-use Rattle.rule.proofs.field_for.Reads as field-for-reads
-use Rattle.rule.proofs.fill_plain.Reads as fill-plain-reads
-use Rattle.rule.proofs.write_length.Reads as write-length-reads
 
 field-for-requires : tie.Need-field-for-requires
 field-for-requires c κs = search needs

@@ -5,8 +5,6 @@ use Rattle.rule.proofs.WritingLaws.{room-short, room-long, write-short,
 use borrow.Author.Needs.{needs}
 use Rattle.rule.proofs.write_length.Statement.{statement}
 use Rattle.rule.proofs.write_length.Tie as tie
-use Rattle.rule.proofs.write_length.Reads as reads
-use Rattle.rule.proofs.write_length.Lts as lts
 
 cast-buffer : tie.Need-cast-buffer
 cast-buffer c = search needs

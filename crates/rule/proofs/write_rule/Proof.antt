@@ -5,10 +5,6 @@ use Rattle.rule.proofs.WritingLaws.{write-accepted, write-refused}
 use borrow.Author.Needs.{needs}
 use Rattle.rule.proofs.write_rule.Statement.{statement}
 use Rattle.rule.proofs.write_rule.Tie as tie
-use Rattle.rule.proofs.write_rule.Reads as reads
-use Rattle.rule.proofs.write_rule.Lts as lts
-use Rattle.rule.proofs.check_value.Reads as check-value-reads
-use Rattle.rule.proofs.write_accepted.Reads as write-accepted-reads
 
 check-value-requires : tie.Need-check-value-requires
 check-value-requires c κs = search needs

@@ -6,11 +6,6 @@ use Rattle.table.proofs.CallLaws.{front-held, infeasible, put-in, refus
 use borrow.Author.Needs.{needs}
 use Rattle.table.proofs.announce_value.Statement.{statement}
 use Rattle.table.proofs.announce_value.Tie as tie
-use Rattle.table.proofs.announce_value.Reads as reads
-use Rattle.table.proofs.announce_value.Lts as lts
-use Rattle.rule.proofs.fill_plain.Reads as fill-plain-reads
-use Rattle.table.proofs.insert_rule.Reads as insert-rule-reads
-use Rattle.table.proofs.remove_rule.Reads as remove-rule-reads
 
 slice-aggregate-fill-plain : tie.Need-slice-aggregate-fill-plain
 slice-aggregate-fill-plain c = search needs

@@ -10,10 +10,6 @@ use Rattle.table.proofs.WalkLaws.{was-found}
 use Rattle.table.proofs.FindLaws.{Searching, search-starts, search-end, search-unsound, search-first, search-same, search-on}
 use Rattle.table.proofs.find.Statement.{statement}
 use Rattle.table.proofs.find.Tie as tie
-use Rattle.table.proofs.find.Reads as reads
-use Rattle.table.proofs.find.Lts as lts
-use Rattle.order.proofs.compare_plain.Reads as compare-plain-reads
-use Rattle.table.proofs.record_at.Reads as record-at-reads
 
 abbrev Inv-loop : tie.InvT-loop
 Inv-loop table value at₀ at = Searching table value at

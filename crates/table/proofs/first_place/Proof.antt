@@ -10,11 +10,6 @@ use Rattle.table.proofs.WalkLaws.{was-found}
 use Rattle.table.proofs.LookupLaws.{Missing, miss-starts, first-end, first-unsound, first-met, first-missed}
 use Rattle.table.proofs.first_place.Statement.{statement}
 use Rattle.table.proofs.first_place.Tie as tie
-use Rattle.table.proofs.first_place.Reads as reads
-use Rattle.table.proofs.first_place.Lts as lts
-use Rattle.packet.proofs.matches_rule.Reads as matches-rule-reads
-use Rattle.rule.proofs.ipv4.Reads as ipv4-reads
-use Rattle.table.proofs.record_at.Reads as record-at-reads
 
 abbrev Inv-loop : tie.InvT-loop
 Inv-loop table packet family at₀ at = Missing table packet at

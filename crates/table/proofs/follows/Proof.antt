@@ -7,9 +7,6 @@ use Rattle.table.proofs.TestLaws.{follows-none, follows-yes, follows-no
 use borrow.Author.Needs.{needs}
 use Rattle.table.proofs.follows.Statement.{statement}
 use Rattle.table.proofs.follows.Tie as tie
-use Rattle.table.proofs.follows.Reads as reads
-use Rattle.table.proofs.follows.Lts as lts
-use Rattle.order.proofs.compare_plain.Reads as compare-plain-reads
 
 returns : tie.Need-returns
 returns c = search (follows-none, needs)

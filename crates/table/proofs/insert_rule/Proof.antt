@@ -13,11 +13,6 @@ use Rattle.table.proofs.ChangeLaws.{Placed, encoded, place-is, front-ke
 use borrow.Author.Needs.{needs}
 use Rattle.table.proofs.insert_rule.Statement.{statement}
 use Rattle.table.proofs.insert_rule.Tie as tie
-use Rattle.table.proofs.insert_rule.Reads as reads
-use Rattle.table.proofs.insert_rule.Lts as lts
-use Rattle.entry.proofs.write_record.Reads as write-record-reads
-use Rattle.octets.proofs.open_gap.Reads as open-gap-reads
-use Rattle.table.proofs.find.Reads as find-reads
 
 there : (c : tie.After-struct-known)
     → Placed (c .before .before .before .before .before .args .table .now) (entries (c .before .before .before .before .before .args .table .now))

@@ -3,10 +3,6 @@ use Rattle.table.proofs.LookupLaws.{judge-missed, judge-goes-on, judge-
 use borrow.Author.Needs.{needs}
 use Rattle.table.proofs.judge_record.Statement.{statement}
 use Rattle.table.proofs.judge_record.Tie as tie
-use Rattle.table.proofs.judge_record.Reads as reads
-use Rattle.table.proofs.judge_record.Lts as lts
-use Rattle.packet.proofs.matches_rule.Reads as matches-rule-reads
-use Rattle.rule.proofs.ipv4.Reads as ipv4-reads
 
 ipv4-requires : tie.Need-ipv4-requires
 ipv4-requires c κs = search needs

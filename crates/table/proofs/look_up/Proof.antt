@@ -11,13 +11,6 @@ use Rattle.table.proofs.EntryLaws.{length-there}
 use Rattle.table.proofs.LookupLaws.{Looking, look-starts, look-end, look-unsound, look-missed, look-goes-on, look-stops}
 use Rattle.table.proofs.look_up.Statement.{statement}
 use Rattle.table.proofs.look_up.Tie as tie
-use Rattle.table.proofs.look_up.Reads as reads
-use Rattle.table.proofs.look_up.Lts as lts
-use Rattle.action.proofs.merge.Reads as merge-reads
-use Rattle.action.proofs.no_actions.Reads as no-actions-reads
-use Rattle.table.proofs.judge_record.Reads as judge-record-reads
-use Rattle.table.proofs.record_at.Reads as record-at-reads
-use Rattle.table.proofs.verdict_of.Reads as verdict-of-reads
 
 abbrev Inv-loop : tie.InvT-loop
 Inv-loop table packet at₀ count₀ actions₀ at count actions = Looking table packet at count actions

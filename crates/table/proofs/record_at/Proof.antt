@@ -3,10 +3,6 @@ use Rattle.table.proofs.WalkLaws.{at-end, at-rubbish, at-short, at-reco
 use borrow.Author.Needs.{needs}
 use Rattle.table.proofs.record_at.Statement.{statement}
 use Rattle.table.proofs.record_at.Tie as tie
-use Rattle.table.proofs.record_at.Reads as reads
-use Rattle.table.proofs.record_at.Lts as lts
-use Rattle.octets.proofs.is_zero.Reads as is-zero-reads
-use Rattle.octets.proofs.number_at.Reads as number-at-reads
 
 number-at-requires : tie.Need-number-at-requires
 number-at-requires c κs = search needs

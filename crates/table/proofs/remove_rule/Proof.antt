@@ -11,10 +11,6 @@ use Rattle.table.proofs.ChangeLaws.{Placed, encoded, place-is, ends-ins
 use borrow.Author.Needs.{needs}
 use Rattle.table.proofs.remove_rule.Statement.{statement}
 use Rattle.table.proofs.remove_rule.Tie as tie
-use Rattle.table.proofs.remove_rule.Reads as reads
-use Rattle.table.proofs.remove_rule.Lts as lts
-use Rattle.octets.proofs.cut_out.Reads as cut-out-reads
-use Rattle.table.proofs.find.Reads as find-reads
 
 there : (c : tie.After-struct-known)
     → Placed (c .before .before .before .before .before .args .table .now) (entries (c .before .before .before .before .before .args .table .now))

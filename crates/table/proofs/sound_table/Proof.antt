@@ -11,11 +11,6 @@ use Rattle.table.proofs.WalkLaws.{was-found}
 use Rattle.table.proofs.TestLaws.{Testing, test-starts, test-long, test-end, test-unsound, adjacent, test-bad, test-disorder, test-on}
 use Rattle.table.proofs.sound_table.Statement.{statement}
 use Rattle.table.proofs.sound_table.Tie as tie
-use Rattle.table.proofs.sound_table.Reads as reads
-use Rattle.table.proofs.sound_table.Lts as lts
-use Rattle.entry.proofs.is_good_record.Reads as is-good-record-reads
-use Rattle.table.proofs.follows.Reads as follows-reads
-use Rattle.table.proofs.record_at.Reads as record-at-reads
 
 abbrev Inv-loop : tie.InvT-loop
 Inv-loop table previous₀ at₀ previous at = Testing table previous at

@@ -3,8 +3,6 @@ use borrow.Author.Needs.{needs}
 use Rattle.table.proofs.LookupLaws.{verdict-none, verdict-some}
 use Rattle.table.proofs.verdict_of.Statement.{statement}
 use Rattle.table.proofs.verdict_of.Tie as tie
-use Rattle.table.proofs.verdict_of.Reads as reads
-use Rattle.table.proofs.verdict_of.Lts as lts
 
 returns : tie.Need-returns
 returns c = search (verdict-none, needs)

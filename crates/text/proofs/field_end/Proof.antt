@@ -3,9 +3,6 @@ use borrow.Author.Needs.{needs}
 use Rattle.text.proofs.FieldLaws.{field-ends}
 use Rattle.text.proofs.field_end.Statement.{statement}
 use Rattle.text.proofs.field_end.Tie as tie
-use Rattle.text.proofs.field_end.Reads as reads
-use Rattle.text.proofs.field_end.Lts as lts
-use Rattle.text.proofs.place_of.Reads as place-of-reads
 
 sub-place-of : tie.Need-sub-place-of
 sub-place-of c = search needs

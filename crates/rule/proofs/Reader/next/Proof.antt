@@ -27,7 +27,6 @@ use Rattle.rule.proofs.ReaderLaws.{walked, local, calls, leaves, passes
 use Rattle.rule.proofs.ReaderLaws.{Next, Cursor, apart, together}
 use Rattle.rule.proofs.Next as N
 use Rattle.rule.proofs.Next.Laws as N′
-use Rattle.rule.proofs.Reader as T
 use Rattle.rule.proofs.Reader.Laws as T′
 use Rattle.rule.proofs.component_at as cursor
 use Rattle.rule.proofs.component_at.Symbol.{name as #rule·component-at}
