@@ -1,7 +1,7 @@
 -- Laws of communities: the kind of each type, what a community of each kind adds, and what one community more adds.
 use Prim.Native.Nat.{ℕ, suc, _+_, _-_, _/_, _%_, _^_, _<_, _≤_}
-use mathlib.Core.Path.{_≡_, refl}
-use mathlib.Core.Bool.{Bool, true, false, true≢false, cond, not, _||_}
+use mathlib.Core.Path.{_≡_}
+use mathlib.Core.Bool.{Bool, true, false, cond, not}
 use mathlib.Core.List.{List}
 use native.Mathlib.Nat.{sub-zero}
 use native.Mathlib.Omega.{arith}
@@ -9,6 +9,7 @@ use borrow.Author.Tests.{ne-eqb, ltb-false, eqb-true, not-false}
 use lib.Bits.{bitAnd, and-mask}
 use lib.Dec.{ltb, eqb}
 use lib.ListN.{length}
+use Rattle.octets.proofs.Cases.{neither}
 use Rattle.action.specs.declared.Actions.{Actions}
 use Rattle.action.specs.declared.Given.{Given}
 use Rattle.action.specs.declared.Kind.{Kind}
@@ -55,10 +56,6 @@ module _ (change : Given → Actions) (r : Rate) where
   pub rate-refused : r ≡ NotANumber → Unsound ≡ withRate change r
   unfolding withRate
   rate-refused h = rw h
-
-neither : (a b : Bool) → a || b ≡ false → (a ≡ false) × (b ≡ false)
-neither true b h = absurd (true≢false h)
-neither false b h = (refl, h)
 
 -- How far the communities have been read: the actions so far and the rest give the whole answer.
 pub record Reached (s : List ℕ) (a : Actions) (at : ℕ) : Type 0 where

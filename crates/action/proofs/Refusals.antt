@@ -1,9 +1,10 @@
--- When actions are unsound (`unsound-exactly`): at a wrong length, or where some community, wherever it stands, is a rate that is not a number.
+-- When actions are unsound (`unsound-exactly`): at a wrong length, or where oneHolds community, wherever it stands, is a rate that is not a number.
 use Prim.Native.Nat.{ℕ, _/_, _^_}
 use mathlib.Core.Path.{_≡_, refl}
 use mathlib.Core.Bool.{Bool, true, false, _&&_, _||_}
 use mathlib.Core.List.{List, [], _∷_}
 use lib.ListN.{length}
+use Rattle.octets.specs.Test.{oneHolds}
 use Rattle.octets.proofs.Cases.{by-test}
 use Rattle.action.specs.declared.Actions.{Actions}
 use Rattle.action.specs.declared.Given.{Given}
@@ -35,10 +36,6 @@ givesNoNumber NotANumber = true
 abbrev pub refuses : ℕ → Bool
 refuses c = isRate (kindOf (c / 2 ^ 48)) && givesNoNumber (rateIn c)
 
-abbrev pub some : (ℕ → Bool) → List ℕ → Bool
-some test [] = false
-some test (c ∷ cs) = test c || some test cs
-
 module _ (next : Actions → Reading) (rest : Bool) (later : (b : Actions) → isUnsound (next b) ≡ rest) where
   rate-refuses : (change : Given → Actions) (before : Given) (r : Rate)
       → isUnsound (andThen (withRate change (smallestRate before r)) next) ≡ givesNoNumber r || rest
@@ -56,12 +53,12 @@ module _ (next : Actions → Reading) (rest : Bool) (later : (b : Actions) → i
   kind-refuses Marking a c = later _
   kind-refuses Other a c = later _
 
-communities-refuse : (cs : List ℕ) (a : Actions) → isUnsound (withCommunities a cs) ≡ some refuses cs
-unfolding withCommunities withCommunity
+communities-refuse : (cs : List ℕ) (a : Actions) → isUnsound (withCommunities a cs) ≡ oneHolds refuses cs
+unfolding withCommunities withCommunity oneHolds
 communities-refuse [] a = refl
 communities-refuse (c ∷ cs) a =
-    kind-refuses (λ b. withCommunities b cs) (some refuses cs) (λ b. communities-refuse cs b) (kindOf (c / 2 ^ 48)) a c
+    kind-refuses (λ b. withCommunities b cs) (oneHolds refuses cs) (λ b. communities-refuse cs b) (kindOf (c / 2 ^ 48)) a c
 
-pub unsound-exactly : (s : List ℕ) → isUnsound (actionsOf s) ≡ wrongLength (length s) || some refuses (communitiesAt (length s / 8) s 0)
+pub unsound-exactly : (s : List ℕ) → isUnsound (actionsOf s) ≡ wrongLength (length s) || oneHolds refuses (communitiesAt (length s / 8) s 0)
 unfolding actionsOf
 unsound-exactly s = by-test (wrongLength (length s)) (λ h. rw h) (λ h. rw h (communities-refuse (communitiesAt (length s / 8) s 0) noActions))

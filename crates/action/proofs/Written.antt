@@ -10,11 +10,10 @@ use borrow.Author.Tests.{eqb-true, eq-eqb, ltb-true, le-ltb}
 use lib.Dec.{eqb, lit<, lit≤}
 use lib.ListN.{length, length-append}
 use lib.Pow.{high}
-use lib.Seq.{getD-append-add}
-use Rattle.octets.specs.Number.{numberAt, octetsOf}
+use Rattle.octets.specs.Number.{octetsOf}
 use Rattle.octets.proofs.Cases.{by-test}
 use Rattle.octets.proofs.Facts.{Octets, octets-append}
-use Rattle.octets.proofs.NumberLaws.{length-octetsOf, octets-octetsOf, number-octets}
+use Rattle.octets.proofs.NumberLaws.{number-behind, length-octetsOf, octets-octetsOf, number-octets}
 use Rattle.action.specs.declared.Actions.{Actions}
 use Rattle.action.specs.declared.Given.{Given}
 use Rattle.action.specs.declared.Kind.{Kind}
@@ -28,15 +27,10 @@ use Rattle.action.proofs.GivenLaws.{Fine, by-fine}
 use Rattle.action.proofs.RatesGiven.{sound}
 use Rattle.action.proofs.PossibleLaws.{Could, could, sixBits, redirectType}
 
-number-past : (k : ℕ) (s t : List ℕ) (at : ℕ) → numberAt k (s ++ t) (length s + at) ≡ numberAt k t at
-unfolding numberAt
-number-past zero s t at = refl
-number-past (suc k) s t at = rw (number-past k s t at, add-assoc, getD-append-add s t (at + k) 0)
-
 communities-past : (n : ℕ) (s t : List ℕ) (at : ℕ) → communitiesAt n (s ++ t) (length s + at) ≡ communitiesAt n t at
 unfolding communitiesAt
 communities-past zero s t at = refl
-communities-past (suc n) s t at = rw (number-past 8 s t at, add-assoc, communities-past n s t (at + 8))
+communities-past (suc n) s t at = rw (number-behind 8 s t at, add-assoc, communities-past n s t (at + 8))
 
 -- Communities as octets.
 written : List ℕ → List ℕ

@@ -4,9 +4,9 @@
 use Prim.Native.Nat.{ℕ, zero, suc, _+_, _*_, _/_, _%_, _^_}
 use mathlib.Core.Bool.{Bool, false, cond, not, _||_}
 use mathlib.Core.List.{List, [], _∷_}
-use lib.Bits.{bitAnd}
 use lib.Dec.{ltb, eqb}
 use lib.ListN.{length}
+use Rattle.octets.specs.Bit.{has, bitIf}
 use Rattle.octets.specs.Number.{numberAt}
 use Rattle.action.specs.declared.Actions.{Actions}
 use Rattle.action.specs.declared.Given.{Given}
@@ -61,10 +61,6 @@ kindOf type =
     (cond (eqb type 0x8007) TrafficAction
     (cond (eqb type 0x8009) Marking (cond (isRedirect type) Redirect Other))))
 
--- Is a bit of a community's last octet set?
-abbrev pub hasBit : ℕ → ℕ → Bool
-hasBit community bit = not (eqb (bitAnd community bit) 0)
-
 -- The rate in a community: its last four octets (sections 7.1 and 7.2).
 abbrev pub rateIn : ℕ → Rate
 rateIn c = rateOf (c % 2 ^ 32)
@@ -85,7 +81,7 @@ withRate change NotANumber = Unsound
 unfoldable pub withKind : Kind → Actions → ℕ → Reading
 withKind ByteRate a c = withRate (withByteRate a) (smallestRate (a .bytes) (rateIn c))
 withKind PacketRate a c = withRate (withPacketRate a) (smallestRate (a .packets) (rateIn c))
-withKind TrafficAction a c = Read (withFlags a (a .sample || hasBit c 0x02) (a .onward || hasBit c 0x01))
+withKind TrafficAction a c = Read (withFlags a (a .sample || has c 0x02) (a .onward || has c 0x01))
 withKind Marking a c = Read (withMarking a (firstOf (a .marking) (given (c % 2 ^ 6))))
 withKind Redirect a c = Read (withRedirect a (firstOf (a .redirect) (given c)))
 withKind Other a c = Read a
@@ -117,16 +113,12 @@ wrongLength octets = ltb (64 * 8) octets || not (eqb (octets % 8) 0)
 unfoldable pub actionsOf : List ℕ → Reading
 actionsOf s = cond (wrongLength (length s)) Unsound (withCommunities noActions (communitiesAt (length s / 8) s 0))
 
--- A flag's value, if it is set.
-abbrev pub flag : Bool → ℕ → ℕ
-flag set value = cond set value 0
-
 -- 01: "flags (1: 1 byte rate, 2 packet rate, 4 S, 8 T, 16 marking, 32 redirect)".
 unfoldable pub flagsOf : Actions → ℕ
 flagsOf a =
-    flag (a .bytes .present) 1 + flag (a .packets .present) 2 + flag (a .sample) 4 + flag (a .onward) 8
-    + flag (a .marking .present) 16
-    + flag (a .redirect .present) 32
+    bitIf (a .bytes .present) 1 + bitIf (a .packets .present) 2 + bitIf (a .sample) 4 + bitIf (a .onward) 8
+    + bitIf (a .marking .present) 16
+    + bitIf (a .redirect .present) 32
 
 -- The values of actions, in the order of a record: flags, DSCP, byte rate, packet rate, redirect community; an absent one is 0.
 abbrev pub valuesOf : Actions → List ℕ

@@ -16,7 +16,8 @@ use Rattle.octets.proofs.NumberLaws.{number-small}
 use Rattle.rule.specs.declared.Family.{Family}
 use Rattle.action.specs.declared.Actions.{Actions}
 use Rattle.action.specs.declared.Given.{Given}
-use Rattle.action.specs.Actions.{flag, flagsOf}
+use Rattle.octets.specs.Bit.{bitIf}
+use Rattle.action.specs.Actions.{flagsOf}
 use Rattle.action.specs.Rate.{rateGiven, fitsSignificand}
 use Rattle.action.proofs.GivenLaws.{Fine, by-fine}
 use Rattle.action.proofs.PossibleLaws.{could, sixBits, redirectType}
@@ -28,7 +29,7 @@ use Rattle.entry.proofs.RecordLaws.{Fit, length-written, one-octet, fie
 
 -- the six flags
 
-flag-small : (set : Bool) (value : ℕ) → flag set value ≤ value
+flag-small : (set : Bool) (value : ℕ) → bitIf set value ≤ value
 flag-small true value = omega arith
 flag-small false value = omega arith
 
@@ -67,18 +68,18 @@ at-list : (f : List Bool → Bool) (l : List Bool) → allLists (length l) f ≡
 at-list f [] h = h
 at-list f (b ∷ l) h = at-list (λ m. f (b ∷ m)) l (at-either (λ c. allLists (length l) (λ m. f (c ∷ m))) h b)
 
-flag-set : (set : Bool) (value : ℕ) → 0 < value → not (eqb (flag set value) 0) ≡ set
+flag-set : (set : Bool) (value : ℕ) → 0 < value → not (eqb (bitIf set value) 0) ≡ set
 flag-set true value h = rw (ne-eqb value 0 (λ e. omega arith))
 flag-set false value h = refl
 
 -- the sum of six flags, and whether it has the flag at a place as its bit
 abbrev flagSum : List Bool → ℕ
 flagSum l =
-    flag (getD l 0 false) 1 + flag (getD l 1 false) 2 + flag (getD l 2 false) 4 + flag (getD l 3 false) 8 + flag (getD l 4 false) 16
-    + flag (getD l 5 false) 32
+    bitIf (getD l 0 false) 1 + bitIf (getD l 1 false) 2 + bitIf (getD l 2 false) 4 + bitIf (getD l 3 false) 8 + bitIf (getD l 4 false) 16
+    + bitIf (getD l 5 false) 32
 
 abbrev hasFlag : ℕ → ℕ → List Bool → Bool
-hasFlag bit place l = eqb (bitAnd (flagSum l) bit) (flag (getD l place false) bit)
+hasFlag bit place l = eqb (bitAnd (flagSum l) bit) (bitIf (getD l place false) bit)
 
 -- actions that are written are read again, by computing all 64 flags
 pub actions-back : (a : Actions)
@@ -99,7 +100,7 @@ actions-back a =
 
     says : (bit place : ℕ) → 0 < bit → allLists 6 (hasFlag bit place) ≡ true → not (eqb (bitAnd (flagSum flags) bit) 0) ≡ getD flags place false
     says bit place some h =
-        let e = eqb-true (bitAnd (flagSum flags) bit) (flag (getD flags place false) bit) (at-list (hasFlag bit place) flags h) in
+        let e = eqb-true (bitAnd (flagSum flags) bit) (bitIf (getD flags place false) bit) (at-list (hasFlag bit place) flags h) in
         rw e (flag-set (getD flags place false) bit some)
 
 -- every number fits the width of its field

@@ -1,11 +1,11 @@
 -- A record: its head, a list of fields of fixed widths, and then the value. 01: "Record: value length (2), originator (4), flags (1),
 -- DSCP (1), byte rate (8), packet rate (8), redirect community (8), then the value; big-endian, absent fields zero."
 use Prim.Native.Nat.{ℕ, _+_}
-use mathlib.Core.Bool.{Bool, _&&_, not}
+use mathlib.Core.Bool.{Bool, _&&_}
 use mathlib.Core.List.{List, [], _∷_, _++_}
-use lib.Bits.{bitAnd}
-use lib.Dec.{ltb, eqb}
+use lib.Dec.{ltb}
 use lib.ListN.{length, getD, drop}
+use Rattle.octets.specs.Bit.{has}
 use Rattle.octets.specs.Number.{numberAt, octetsOf}
 use Rattle.rule.specs.declared.Family.{Family}
 use Rattle.action.specs.declared.Actions.{Actions}
@@ -43,7 +43,7 @@ recordOf e = writtenFields headWidths (fieldsOf e) ++ e .value
 
 -- A field with its flag, the number of the flag's bit.
 abbrev pub fieldIf : ℕ → ℕ → ℕ → Given
-fieldIf flags bit number = record { present = not (eqb (bitAnd flags bit) 0); number = number }
+fieldIf flags bit number = record { present = has flags bit; number = number }
 
 -- The actions that fields stand for; 01: "1 byte rate, 2 packet rate, 4 S, 8 T, 16 marking, 32 redirect".
 unfoldable pub actionsIn : ℕ → ℕ → ℕ → ℕ → ℕ → Actions
@@ -51,8 +51,8 @@ actionsIn flags dscp bytes packets redirect =
     record {
       bytes = fieldIf flags 1 bytes;
       packets = fieldIf flags 2 packets;
-      sample = not (eqb (bitAnd flags 4) 0);
-      onward = not (eqb (bitAnd flags 8) 0);
+      sample = has flags 4;
+      onward = has flags 8;
       marking = fieldIf flags 16 dscp;
       redirect = fieldIf flags 32 redirect;
     }

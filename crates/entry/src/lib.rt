@@ -6,13 +6,14 @@ ghost use Rattle.octets.specs.Store.{stored};
 ghost use Rattle.octets.specs.Test.{sameOctets};
 ghost use Rattle.rule.specs.Family.{ipv4};
 ghost use Rattle.rule.specs.Plain.{plain};
-ghost use Rattle.action.specs.Actions.{flag, flagsOf};
+ghost use Rattle.action.specs.Actions.{flagsOf};
 ghost use Rattle.entry.specs.Entry.{plainValue};
 ghost use Rattle.entry.specs.Passing.{Passes};
 ghost use Rattle.entry.specs.Record.{headCost, writtenFields, recordOf, fieldIf, actionsIn, entryOf, goodRecord};
 use action::Actions;
 use action::Given;
 use action::could_be;
+use octets::bit_if;
 use octets::number_at;
 use octets::octet_at;
 use octets::store;
@@ -43,23 +44,16 @@ fn write_fields(widths: &[usize], numbers: &[u64], buffer: &mut [u8], at: usize)
     }
 }
 
-// A flag's value, if it is set.
-fn flag_of(set: bool, value: u8) -> u8
-    ensures { λ r. ⌜ (r ≡ flag set value) × (r ≤ value) ⌝ }
-{
-    if set { value } else { 0 }
-}
-
 // The flags of actions.
 pub fn flags_of(actions: Actions) -> u8
     ensures { λ r. ⌜ r ≡ flagsOf actions ⌝ }
 {
-    let bytes = flag_of(actions.bytes.present, 1);
-    let packets = flag_of(actions.packets.present, 2);
-    let sample = flag_of(actions.sample, 4);
-    let onward = flag_of(actions.onward, 8);
-    let marking = flag_of(actions.marking.present, 16);
-    let redirect = flag_of(actions.redirect.present, 32);
+    let bytes = bit_if(actions.bytes.present, 1);
+    let packets = bit_if(actions.packets.present, 2);
+    let sample = bit_if(actions.sample, 4);
+    let onward = bit_if(actions.onward, 8);
+    let marking = bit_if(actions.marking.present, 16);
+    let redirect = bit_if(actions.redirect.present, 32);
     bytes + packets + sample + onward + marking + redirect
 }
 

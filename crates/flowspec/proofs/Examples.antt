@@ -1,10 +1,10 @@
 -- **The one claim about 01's marked examples**: the definitions give every question of the list the numbers it expects. Assumes nothing.
 use mathlib.Core.Path.{_≡_, refl}
 use mathlib.Core.List.{[], _∷_, map}
-use Rattle.octets.specs.Test.{every}
+use Rattle.octets.specs.Test.{every, oneHolds, sameOctets}
 use Rattle.octets.specs.Number.{numberAt}
 use Rattle.octets.specs.Walk.{walk}
-use Rattle.prefix.specs.Prefix.{bits, sameBits, contains, prefixOrder, prefixOf}
+use Rattle.prefix.specs.Prefix.{bits, contains, prefixOrder, prefixOf}
 use Rattle.rule.specs.Operator.{endsList, sizeOf, isPrefix, isBitmask, sizeAllowed}
 use Rattle.rule.specs.Component.{pairAt, pairsFrom, prefixEnd, bodyEnd, componentAt}
 use Rattle.rule.specs.Value.{componentsFrom, components, checkValue}
@@ -19,13 +19,13 @@ use Rattle.packet.specs.Header.{isUnusable, fragmentData}
 use Rattle.packet.specs.Transport.{transportOctets, transportFields}
 use Rattle.packet.specs.Packet.{fieldsOf, packetOf}
 use Rattle.packet.specs.Operator.{numericHolds}
-use Rattle.packet.specs.PairList.{oneHolds, groupsFrom, groups, listHolds}
+use Rattle.packet.specs.PairList.{groupsFrom, groups, listHolds}
 use Rattle.packet.specs.Match.{dataFor, holdsFor, bodyHolds, fieldMatches, fieldFor, eitherPort, componentMatches, matches}
 use Rattle.flowspec.specs.Examples.{Example, answerTo, examples}
 
 pub marked : map (λ (e : Example). answerTo (e .asks)) examples ≡ map (λ (e : Example). e .expects) examples
 unfolding
-    answerTo numberAt walk bits sameBits contains prefixOrder prefixOf endsList sizeOf isPrefix isBitmask sizeAllowed pairAt pairsFrom prefixEnd bodyEnd componentAt
+    answerTo numberAt walk bits sameOctets contains prefixOrder prefixOf endsList sizeOf isPrefix isBitmask sizeAllowed pairAt pairsFrom prefixEnd bodyEnd componentAt
     componentsFrom components checkValue bodyOf operandAfter after plainOperator plainOperand plainAddress cleared plainFrom plain fieldSize fieldLength lengthField
     bodyOrder partOrder partsOrder precedence scaled wholePart wholeOf rateOfParts rateOf isUnusable fragmentData transportOctets transportFields fieldsOf packetOf
     numericHolds every oneHolds groupsFrom groups listHolds dataFor holdsFor bodyHolds fieldMatches fieldFor eitherPort componentMatches matches

@@ -8,6 +8,7 @@ use lib.Dec.{leb, eqb}
 use lib.ListN.{getD, take}
 use lib.Seq.{take-take}
 use borrow.Author.Tests.{leb-true, eqb-true}
+use Rattle.octets.specs.Test.{Each}
 use Rattle.octets.proofs.Cases.{by-test}
 use Rattle.octets.proofs.Facts.{Octets}
 use Rattle.prefix.specs.declared.Prefix.{Prefix}
@@ -19,7 +20,7 @@ use Rattle.rule.specs.declared.Expected.the-variants.{Length}
 use Rattle.rule.specs.Plain.{bodyOf, plainFrom, plain}
 use Rattle.rule.proofs.PlainLaws.{length-kept}
 use Rattle.rule.proofs.SpellingLaws.{plainPart, components-plain}
-use Rattle.rule.proofs.PartLaws.{Each, SoundPart, each-octets, each-sound}
+use Rattle.rule.proofs.PartLaws.{SoundPart, each-octets, each-sound}
 use Rattle.route.specs.declared.Route.{Route}
 use Rattle.route.specs.declared.Destination.{Destination}
 use Rattle.route.specs.declared.Destination.the-variants.{Missing, At}

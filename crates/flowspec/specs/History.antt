@@ -7,6 +7,7 @@ use mathlib.Core.List.{List, [], _∷_}
 use mathlib.Core.Option.{Option, none, some}
 use lib.ListN.{replicate}
 use Rattle.octets.specs.Number.{Octets}
+use Rattle.octets.specs.Test.{Each}
 use Rattle.sorted.specs.History.{Op, refuse, announce, withdraw}
 use Rattle.sorted.specs.History as S
 use Rattle.rule.specs.declared.Reading.{Reading}
@@ -63,8 +64,7 @@ CanBe (withdrawal rule) = Unit {0}
 
 -- What every call of a history is given.
 abbrev pub EachCanBe : List Made → Type 0
-EachCanBe [] = Unit {0}
-EachCanBe (m ∷ h) = CanBe (m .call) × EachCanBe h
+EachCanBe = Each (λ m. CanBe (m .call))
 
 -- What two histories compare of a call: its kind and, of an announcement, the originator and the actions as read. The rule's spelling,
 -- the communities' octets and the answer are not compared.

@@ -1,3 +1,4 @@
+pub mod Bit
 pub mod Number
 pub mod Order
 pub mod Store

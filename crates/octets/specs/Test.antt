@@ -1,6 +1,6 @@
 -- Tests of lists, element by element.
 use Prim.Native.Nat.{ℕ}
-use mathlib.Core.Bool.{Bool, true, false, _&&_}
+use mathlib.Core.Bool.{Bool, true, false, _&&_, _||_}
 use mathlib.Core.List.{List, [], _∷_}
 use lib.Dec.{eqb}
 
@@ -8,6 +8,16 @@ use lib.Dec.{eqb}
 unfoldable pub every : {A : Type 0} → (A → Bool) → List A → Bool
 every test [] = true
 every test (x ∷ xs) = test x && every test xs
+
+-- Some element passes the test.
+unfoldable pub oneHolds : {A : Type 0} → (A → Bool) → List A → Bool
+oneHolds test [] = false
+oneHolds test (x ∷ xs) = test x || oneHolds test xs
+
+-- A statement holds of each element.
+abbrev pub Each : {A : Type 0} → (A → Type 0) → List A → Type 0
+Each holds [] = Unit {0}
+Each holds (x ∷ xs) = holds x × Each holds xs
 
 -- Every octet is 0.
 unfoldable pub allZero : List ℕ → Bool

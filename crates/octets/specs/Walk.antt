@@ -19,7 +19,8 @@ pub record Walk (A E : Type 0) : Type 0 where
 abbrev pub before : {A E : Type 0} → A → Walk A E → Walk A E
 before a w = record { items = a ∷ w .items; ending = w .ending }
 
--- The walk from a state on. The ending `out` would stand for too few steps.
+-- The walk from a state on. The ending `out` stands for too few steps, and is never reached along octets: each step moves on, so that as
+-- many steps as there are octets, and one more, are enough.
 unfoldable pub walk : {S A E : Type 0} → ℕ → E → (S → Step S A E) → S → Walk A E
 walk zero out step s = record { items = []; ending = out }
 walk (suc n) out step s =

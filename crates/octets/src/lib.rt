@@ -4,6 +4,7 @@ ghost use mathlib.Core.Path.{_≡_};
 ghost use mathlib.Core.List.{_++_};
 ghost use Prim.Native.Nat.{_+_, _<_, _≤_, _^_, compare, min};
 ghost use lib.ListN.{length, getD, take, drop};
+ghost use Rattle.octets.specs.Bit.{bitIf};
 ghost use Rattle.octets.specs.Number.{numberAt, octetsOf};
 ghost use Rattle.octets.specs.Order.{lex, ordered};
 ghost use Rattle.octets.specs.Store.{stored, cleared, movedDown, cutOut, gapOpened};
@@ -14,6 +15,13 @@ pub enum Order {
     First,
     Second,
     Same,
+}
+
+// A bit where a test holds, and 0 where it does not.
+pub fn bit_if(holds: bool, bit: u8) -> u8
+    ensures { λ r. ⌜ (r ≡ bitIf holds bit) × (r ≤ bit) ⌝ }
+{
+    if holds { bit } else { 0 }
 }
 
 // The octet at a place, and 0 past the end.

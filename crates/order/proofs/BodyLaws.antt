@@ -11,6 +11,7 @@ use lib.ListN.{length, getD}
 use lib.Pow.{pow-add}
 use lib.Seq.{ext-getD}
 use borrow.Author.Tests.{leb-true, leb-false, eqb-true, eqb-false}
+use Rattle.octets.specs.Test.{Each}
 use Rattle.octets.specs.Number.{numberAt}
 use Rattle.octets.proofs.Cases.{by-test}
 use Rattle.octets.proofs.Facts.{Octets}
@@ -26,7 +27,7 @@ use Rattle.rule.specs.Plain.{bodyOf, after, cleared, plainAddress, plainFrom, p
 use Rattle.rule.proofs.PlainLaws.{above, length-plain-from, length-kept}
 use Rattle.rule.proofs.ClearedLaws.{octets-plain-from}
 use Rattle.rule.proofs.SpellingLaws.{plainPart, components-plain}
-use Rattle.rule.proofs.PartLaws.{Each, PrefixBody, SoundPart, each-sound, each-octets}
+use Rattle.rule.proofs.PartLaws.{PrefixBody, SoundPart, each-sound, each-octets}
 
 -- no octets spell 0
 none-spelled : (n : ℕ) (e : Expected) (r : List ℕ) → length r ≡ 0 → numberAt n (plainFrom e r) 0 ≡ 0

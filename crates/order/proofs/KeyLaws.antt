@@ -5,6 +5,7 @@ use mathlib.Core.Bool.{true, false}
 use mathlib.Core.Logic.{_⊎_, inl, inr}
 use mathlib.Core.List.{List, [], _∷_, map, head-eq-of-cons-eq, tail-eq-of-cons-eq}
 use Prim.Native.Nat.{ℕ, _*_, compare, Ordering, Ordering·lt, Ordering·eq, Ordering·gt}
+use Rattle.octets.specs.Test.{Each}
 use Rattle.octets.specs.Order.{then, lex}
 use Rattle.octets.proofs.Cases.{by-test}
 use Rattle.octets.proofs.Facts.{Octets}
@@ -19,7 +20,7 @@ use Rattle.rule.specs.Value.{Part, spelled, components, checkValue}
 use Rattle.rule.specs.Plain.{plain}
 use Rattle.rule.proofs.ClearedLaws.{plain-again}
 use Rattle.rule.proofs.SpellingLaws.{check-plain}
-use Rattle.rule.proofs.PartLaws.{Each, spelled-whole}
+use Rattle.rule.proofs.PartLaws.{spelled-whole}
 use Rattle.order.specs.Precedence.{bodyOrder, partOrder, partsOrder, precedence}
 use Rattle.order.specs.Key.{bodyKey, keyOf, keysOf, keyOrder}
 use Rattle.order.proofs.BodyLaws.{PlainBody, plain-bodies, prefix-only}

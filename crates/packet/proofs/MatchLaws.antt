@@ -15,13 +15,13 @@ use Rattle.rule.specs.declared.Next.{Next}
 use Rattle.rule.specs.declared.Next.the-variants.{Nothing, Component, Refused}
 use Rattle.rule.specs.declared.Checked.{Checked}
 use Rattle.rule.specs.Component.{componentAt}
-use Rattle.rule.specs.Value.{Part, componentsFrom, components}
+use Rattle.rule.specs.Value.{Part, componentsFrom, components, part}
 use Rattle.rule.proofs.ValueLaws.{was-found, components-more, components-none, components-refused}
 use Rattle.packet.specs.declared.Field.{Field}
 use Rattle.packet.specs.declared.Field.the-variants.{Shown, Hidden}
 use Rattle.packet.specs.declared.Transport.{Transport}
 use Rattle.packet.specs.declared.Packet.{Packet}
-use Rattle.packet.specs.Match.{bodyHolds, fieldMatches, fieldFor, covers, eitherPort, part, componentMatches, matches}
+use Rattle.packet.specs.Match.{bodyHolds, fieldMatches, fieldFor, covers, eitherPort, componentMatches, matches}
 
 -- how `field_matches` comes to each of its answers
 module _ (kind : ℕ) (body : List ℕ) (field : Field) where

@@ -8,7 +8,7 @@ use native.Mathlib.Decide.{decLt}
 use lib.Bits.{bitAnd}
 use lib.Dec.{leb, ltb, eqb}
 use borrow.Author.Tests.{lt-ltb, le-ltb, le-leb, lt-leb, eq-eqb, ne-eqb}
-use Rattle.packet.specs.Bit.{has}
+use Rattle.octets.specs.Bit.{has}
 use Rattle.packet.specs.Operator.{numericHolds, bitmaskHolds}
 
 -- how two numbers compare: less, greater, equal, at most, at least

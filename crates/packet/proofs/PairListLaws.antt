@@ -6,11 +6,11 @@ use Prim.Native.Nat.{ℕ, _<_}
 use native.Mathlib.Omega.{arith}
 use lib.Dec.{eqb}
 use borrow.Author.Tests.{ne-eqb}
-use Rattle.octets.specs.Test.{every}
+use Rattle.octets.specs.Test.{every, oneHolds}
 use Rattle.rule.specs.Component.{Pair}
 use Rattle.octets.proofs.Cases.{by-test}
 use Rattle.packet.specs.declared.Judged.{Judged}
-use Rattle.packet.specs.PairList.{oneHolds, joins, groupsFrom, groups, listHolds}
+use Rattle.packet.specs.PairList.{joins, groupsFrom, groups, listHolds}
 use Rattle.packet.specs.Judging.{withPair}
 
 module _ (test : Pair → Bool) where

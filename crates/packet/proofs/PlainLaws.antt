@@ -11,10 +11,10 @@ use lib.Dec.{leb, eqb}
 use lib.ListN.{getD}
 use lib.Pow.{pow-pos, high, shl-shr, shr-shr}
 use borrow.Author.Tests.{leb-true, leb-false, eqb-true, eqb-false}
-use Rattle.octets.specs.Test.{every}
+use Rattle.octets.specs.Test.{every, Each}
 use Rattle.octets.specs.Number.{numberAt}
 use Rattle.octets.proofs.Cases.{by-test}
-use Rattle.octets.proofs.Facts.{Octets, octet}
+use Rattle.octets.proofs.Facts.{Octets}
 use Rattle.octets.proofs.NumberLaws.{octets-bits, number-small, number-behind, first-octet}
 use Rattle.prefix.specs.Prefix.{firstBits, contains, prefixOf}
 use Rattle.prefix.proofs.BitLaws.{first-of}
@@ -28,7 +28,7 @@ use Rattle.rule.proofs.ComponentLaws.{pairs-ind}
 use Rattle.rule.proofs.PlainLaws.{whole-octet, above, length-kept}
 use Rattle.rule.proofs.ClearedLaws.{size-kept, operand-again, cleared-small, octets-plain-from}
 use Rattle.rule.proofs.SpellingLaws.{plainPair, plainPairs, pairs-plain, plainPart, components-plain}
-use Rattle.rule.proofs.PartLaws.{Each, each-octets}
+use Rattle.rule.proofs.PartLaws.{each-octets}
 use Rattle.packet.specs.declared.Field.{Field}
 use Rattle.packet.specs.declared.Field.the-variants.{Shown, Hidden}
 use Rattle.packet.specs.declared.Packet.{Packet}
@@ -72,8 +72,7 @@ module _ (kind «data» : ℕ) where
 
   -- each operator is an octet
   abbrev Small : List Pair → Type 0
-  Small [] = Unit {0}
-  Small (p ∷ ps) = (p .operator < 256) × Small ps
+  Small = Each (λ p. p .operator < 256)
 
   pairs-small : (body : List ℕ) → Octets body → Small (pairsFrom kind body 0 .items)
   pairs-small body o =

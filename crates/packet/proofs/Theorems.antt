@@ -2,15 +2,16 @@
 -- fragment meets no rule that asks for its transport header, a list of one range is that range, a list's first AND is no matter, and
 -- what a one-octet value of TCP flags is judged on. Assumes nothing.
 use mathlib.Core.Path.{_≡_, refl, ap, _∙_}
-use mathlib.Core.Bool.{Bool, true, false, cond, _&&_, and-false}
+use mathlib.Core.Bool.{Bool, true, false, _&&_, and-false}
 use mathlib.Core.List.{List, [], _∷_}
+use mathlib.Core.Logic.{_↔_}
 use Prim.Native.Nat.{ℕ, _%_, _<_}
 use native.Mathlib.Omega.{arith}
 use lib.Bits.{bitAnd, and-mask}
 use lib.Dec.{leb, eqb}
 use lib.ListN.{getD}
 use borrow.Author.Tests.{eqb-true, eqb-false, eq-eqb, leb-true}
-use Rattle.octets.specs.Test.{every}
+use Rattle.octets.specs.Test.{every, oneHolds}
 use Rattle.octets.specs.Number.{numberAt}
 use Rattle.octets.proofs.Cases.{by-test, apart, both}
 use Rattle.octets.proofs.Facts.{Octets}
@@ -25,8 +26,8 @@ use Rattle.packet.specs.declared.Packet.{Packet}
 use Rattle.packet.specs.declared.Sight.the-variants.{Usable, Unusable}
 use Rattle.packet.specs.Header.{headerWords, fragmentOffset, isUnusable, protocol}
 use Rattle.packet.specs.Transport.{transportOctets, transportFields}
-use Rattle.packet.specs.Packet.{fieldsOf, packetOf, refusal}
-use Rattle.packet.specs.PairList.{oneHolds, joins, listHolds}
+use Rattle.packet.specs.Packet.{fieldsOf, packetOf}
+use Rattle.packet.specs.PairList.{joins, listHolds}
 use Rattle.packet.specs.Match.{dataFor, holdsFor, pairHolds, fieldMatches, fieldFor, eitherPort, componentMatches, matches}
 use Rattle.packet.proofs.OperatorLaws.{numeric-row}
 use Rattle.packet.proofs.TransportLaws.{later-not-found}
@@ -87,10 +88,11 @@ usable-fields s packet e =
     (λ t. let z : Unusable ≡ Usable packet = rw t at e in apart (cc))
     (λ t. let z : Usable (fieldsOf s) ≡ Usable packet = rw t at e in cc)
 
--- 12 is answered exactly where the octets are unusable
-pub refused-exactly : (s : List ℕ) → refusal (packetOf s) ≡ cond (isUnusable s) 12 0
+-- octets are refused as a packet exactly where they are unusable
+pub unusable-exactly : (s : List ℕ) → (packetOf s ≡ Unusable) ↔ (isUnusable s ≡ true)
 unfolding packetOf
-refused-exactly s = by-test (isUnusable s) (λ t. rw t) (λ t. rw t)
+unusable-exactly s =
+    by-test (isUnusable s) (λ t. (λ e. t, λ u. rw t)) (λ t. (λ e. let z : Usable (fieldsOf s) ≡ Unusable = rw t at e in apart (cc), λ u. apart (cc)))
 
 -- a later fragment shows no transport header
 pub later-hidden : (s : List ℕ) → (fragmentOffset s ≡ 0 → ⊥) → fieldsOf s .transport ≡ hidden

@@ -7,7 +7,7 @@ use lib.Bits.{bitAnd, bitOr}
 use lib.Dec.{ltb, eqb}
 use lib.ListN.{length, getD}
 use Rattle.octets.specs.Number.{numberAt}
-use Rattle.packet.specs.Bit.{has, bitIf}
+use Rattle.octets.specs.Bit.{has, bitIf}
 
 -- The version, 4 for IPv4.
 abbrev pub version : List ℕ → ℕ

@@ -8,7 +8,7 @@ use lib.ListN.{getD}
 use Rattle.octets.specs.Number.{numberAt}
 use Rattle.rule.specs.Operator.{sizeOf}
 use Rattle.packet.specs.declared.Judged.{Judged}
-use Rattle.packet.specs.Bit.{has}
+use Rattle.octets.specs.Bit.{has}
 use Rattle.packet.specs.Match.{holdsFor}
 
 -- One pair further (`found`: an earlier group held; `group`: the present group holds so far): a pair that AND joins goes with the

@@ -1,4 +1,3 @@
-pub mod Bit
 pub mod Header
 pub mod Transport
 pub mod Packet

@@ -65,10 +65,6 @@ covers w body address = contains w (prefixOf w body) (record { length = w; addre
 unfoldable pub eitherPort : List ℕ → Transport → Bool
 eitherPort body transport = fieldMatches 4 body (transport .«source_port») || fieldMatches 4 body (transport .«destination_port»)
 
--- A component of the given type and body.
-abbrev pub part : ℕ → List ℕ → Part
-part kind body = record { kind = kind; body = body }
-
 -- Whether a packet matches a component.
 unfoldable pub componentMatches : Packet → Part → Bool
 componentMatches packet component =

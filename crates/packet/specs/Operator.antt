@@ -4,7 +4,7 @@ use Prim.Native.Nat.{ℕ}
 use mathlib.Core.Bool.{Bool, cond, not, _&&_, _||_}
 use lib.Bits.{bitAnd}
 use lib.Dec.{ltb, eqb}
-use Rattle.packet.specs.Bit.{has}
+use Rattle.octets.specs.Bit.{has}
 
 -- Section 4.2.1.1, and 01: "0x04 less, 0x02 greater, 0x01 equal; they combine": the operator holds where one that is set does.
 unfoldable pub numericHolds : ℕ → ℕ → ℕ → Bool

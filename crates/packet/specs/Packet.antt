@@ -24,8 +24,3 @@ fieldsOf s =
 -- What octets show as a packet.
 unfoldable pub packetOf : List ℕ → Sight
 packetOf s = cond (isUnusable s) Unusable (Usable (fieldsOf s))
-
--- 01's number for each case: 0 is no refusal, 12 "packet unusable".
-abbrev pub refusal : Sight → ℕ
-refusal (Usable packet) = 0
-refusal Unusable = 12

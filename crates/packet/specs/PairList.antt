@@ -1,15 +1,10 @@
 -- A list of pairs of operator and value, judged by a test of single pairs (RFC 8955 section 4.2.1.1, "AND bit"): "The AND operator has
 -- higher priority than OR". So a list is groups of pairs; it holds where one of its groups does, and a group where all its pairs do.
-use mathlib.Core.Bool.{Bool, false, cond, _||_}
+use mathlib.Core.Bool.{Bool, cond}
 use mathlib.Core.List.{List, [], _∷_, _++_}
-use Rattle.octets.specs.Test.{every}
+use Rattle.octets.specs.Test.{every, oneHolds}
 use Rattle.rule.specs.Component.{Pair}
-use Rattle.packet.specs.Bit.{has}
-
--- Whether a test holds of some element of a list.
-unfoldable pub oneHolds : {A : Type 0} → (A → Bool) → List A → Bool
-oneHolds test [] = false
-oneHolds test (a ∷ l) = test a || oneHolds test l
+use Rattle.octets.specs.Bit.{has}
 
 -- 0x40 joins a pair to the one before it by AND.
 abbrev pub joins : Pair → Bool

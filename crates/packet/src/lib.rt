@@ -4,13 +4,14 @@
 ghost use mathlib.Core.Path.{_≡_};
 ghost use Prim.Native.Nat.{_<_};
 ghost use lib.ListN.{length};
-ghost use Rattle.packet.specs.Bit.{bitIf};
+ghost use Rattle.rule.specs.Value.{part};
 ghost use Rattle.packet.specs.Header.{isUnusable, fragmentData};
 ghost use Rattle.packet.specs.Transport.{transportFound, transportOctets, shownIf, hasPorts, hasIcmp, hasFlags, transportFields};
 ghost use Rattle.packet.specs.Packet.{packetOf};
 ghost use Rattle.packet.specs.Operator.{numericHolds, bitmaskHolds};
 ghost use Rattle.packet.specs.Judging.{withPair, judgePair};
-ghost use Rattle.packet.specs.Match.{dataFor, holdsFor, bodyHolds, fieldMatches, fieldFor, covers, eitherPort, part, componentMatches, matches};
+ghost use Rattle.packet.specs.Match.{dataFor, holdsFor, bodyHolds, fieldMatches, fieldFor, covers, eitherPort, componentMatches, matches};
+use octets::bit_if;
 use octets::least;
 use octets::number_at;
 use octets::octet_at;
@@ -80,13 +81,6 @@ fn is_unusable(octets: &[u8]) -> bool
     let total = number_at(2, octets, 2);
     let header = 4 * words as u64;
     total < header
-}
-
-// A bit where a test holds, and 0 where it does not.
-fn bit_if(holds: bool, bit: u8) -> u8
-    ensures { λ r. ⌜ r ≡ bitIf holds bit ⌝ }
-{
-    if holds { bit } else { 0 }
 }
 
 // The fragment component's data, from the header's field of three flags and the fragment offset.

@@ -1,7 +1,7 @@
 -- The first bits of an address, as a list and as a number. Assumes nothing.
 use mathlib.Core.Path.{_≡_, refl, ap, sym, subst, _∙_}
 use mathlib.Core.Bool.{true, _&&_}
-use mathlib.Core.List.{List, [], _∷_}
+use mathlib.Core.List.{_∷_}
 use Prim.Native.Nat.{ℕ, zero, suc, _+_, _-_, _*_, _/_, _%_, _^_, _≤_, _<_}
 use native.Mathlib.Omega.{arith}
 use native.Mathlib.Decide.{decLt}
@@ -12,28 +12,15 @@ use lib.ListN.{length}
 use lib.Seq.{take-all}
 use lib.Pow.{pow-pos, high, low, mod-pow-add, shr-shr, shr-mod}
 use borrow.Author.Tests.{eq-eqb, eqb-true}
-use Rattle.octets.proofs.Cases.{by-test, apart, both, same-test}
-use Rattle.prefix.specs.Prefix.{bits, firstBits, sameBits}
+use Rattle.octets.specs.Test.{sameOctets}
+use Rattle.octets.proofs.Cases.{both, same-test}
+use Rattle.prefix.specs.Prefix.{bits, firstBits}
 
 -- there are w bits
 pub length-bits : (w a : ℕ) → length (bits w a) ≡ w
 unfolding bits
 length-bits zero a = refl
 length-bits (suc w) a = ap suc (length-bits w a)
-
--- the same bits are equal lists, both ways
-pub same-refl : (xs : List ℕ) → sameBits xs xs ≡ true
-unfolding sameBits
-same-refl [] = refl
-same-refl (x ∷ xs) = rw (eq-eqb x x refl) (same-refl xs)
-
-pub same-only : (xs ys : List ℕ) → sameBits xs ys ≡ true → xs ≡ ys
-unfolding sameBits
-same-only [] [] e = refl
-same-only [] (y ∷ ys) e = cc
-same-only (x ∷ xs) [] e = cc
-same-only (x ∷ xs) (y ∷ ys) e =
-    by-test (eqb x y) (λ t. λ i. eqb-true x y t i ∷ same-only xs ys (rw t at e) i) (λ f. apart (cc))
 
 -- the first n bits are the bits of the address shifted until only they are left
 pub first-shifted : (k n a : ℕ) → firstBits (k + n) n a ≡ bits n (a / 2 ^ k)
@@ -58,8 +45,8 @@ pub top-bit : (n a : ℕ) → a % 2 ^ suc n ≡ a / 2 ^ n % 2 * 2 ^ n + a % 2 ^ 
 top-bit n a = rw (← add-one n, add-comm n 1) (mod-pow-add a 1 n)
 
 -- the same bits are equal numbers
-pub same-number : (n a b : ℕ) → sameBits (bits n a) (bits n b) ≡ eqb (a % 2 ^ n) (b % 2 ^ n)
-unfolding bits sameBits
+pub same-number : (n a b : ℕ) → sameOctets (bits n a) (bits n b) ≡ eqb (a % 2 ^ n) (b % 2 ^ n)
+unfolding bits sameOctets
 same-number zero a b = rw (mod-one a, mod-one b)
 same-number (suc n) a b =
     rw (same-number n a b, top-bit n a, top-bit n b)
@@ -75,7 +62,7 @@ module _ (w n a : ℕ) (h : n ≤ w) where
 
 -- the first n bits of two addresses are the same where the addresses so shifted are equal
 pub same-shifted : (w n a b : ℕ) → n ≤ w → a < 2 ^ w → b < 2 ^ w
-    → sameBits (firstBits w n a) (firstBits w n b) ≡ eqb (a / 2 ^ (w - n)) (b / 2 ^ (w - n))
+    → sameOctets (firstBits w n a) (firstBits w n b) ≡ eqb (a / 2 ^ (w - n)) (b / 2 ^ (w - n))
 same-shifted w n a b h l m =
     rw (first-of w n a h, first-of w n b h, same-number, shifted-fits w n a h l, shifted-fits w n b h m)
 
@@ -91,13 +78,13 @@ reached w n a =
     ]
 
 -- no bits are the same bits
-pub no-bits : (w n a b : ℕ) → n ≡ 0 → true ≡ sameBits (firstBits w n a) (firstBits w n b)
-unfolding sameBits
+pub no-bits : (w n a b : ℕ) → n ≡ 0 → true ≡ sameOctets (firstBits w n a) (firstBits w n b)
+unfolding sameOctets
 no-bits w n a b e = rw e
 
 -- the first n bits of two addresses, or all of them, are the same where what is left when the others are shifted out is equal
 pub same-first : (w n lowest a b : ℕ) → lowest ≡ w - n → a < 2 ^ w → b < 2 ^ w
-    → eqb (a / 2 ^ lowest) (b / 2 ^ lowest) ≡ sameBits (firstBits w n a) (firstBits w n b)
+    → eqb (a / 2 ^ lowest) (b / 2 ^ lowest) ≡ sameOctets (firstBits w n a) (firstBits w n b)
 same-first w n lowest a b is l m =
     let e : w - (w - (w - n)) ≡ lowest = omega arith in
     rw (← reached w n a, ← reached w n b) (sym (same-shifted w (w - (w - n)) a b (omega arith) l m ∙ rw e))

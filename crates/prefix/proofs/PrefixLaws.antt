@@ -10,13 +10,14 @@ use native.Mathlib.Nat.{mod-lt, mod-eq-of-lt, mul-le-mul-right}
 use lib.Dec.{leb, eqb, leb·zero, leb·suc-zero, leb·suc-suc}
 use lib.Pow.{pow-pos}
 use borrow.Author.Tests.{eq-eqb, ne-eqb, eqb-true, eqb-false}
+use Rattle.octets.specs.Test.{sameOctets}
 use Rattle.octets.specs.Order.{lex, then, ordered}
 use Rattle.octets.specs.declared.Order.{Order}
 use Rattle.octets.proofs.Cases.{by-test}
 use Rattle.octets.proofs.OrderLaws.{nat-order, lex-order, lt-cmp, gt-cmp, eq-cmp}
 use Rattle.prefix.proofs.BitLaws.{top-bit}
 use Rattle.prefix.proofs.ContainLaws.{tie}
-use Rattle.prefix.specs.Prefix.{bits, firstBits, sameBits, contains, prefixOrder, WellFormed}
+use Rattle.prefix.specs.Prefix.{bits, firstBits, contains, prefixOrder, WellFormed}
 use Rattle.prefix.specs.declared.Prefix.{Prefix}
 
 -- of two numbers one is lower, or they are equal
@@ -50,7 +51,7 @@ then-decided Ordering·gt p q h = refl
 abbrev ordering : ℕ → ℕ → ℕ → ℕ → ℕ → Ordering
 ordering w l m a b =
     cond
-    (leb l m && sameBits (firstBits w l a) (firstBits w l b) || leb m l && sameBits (firstBits w m b) (firstBits w m a))
+    (leb l m && sameOctets (firstBits w l a) (firstBits w l b) || leb m l && sameOctets (firstBits w m b) (firstBits w m a))
     (compare m l)
     (compare (a % 2 ^ w) (b % 2 ^ w))
 
@@ -61,7 +62,7 @@ bitOf w a = a / 2 ^ w % 2
 -- where the first bits tie the rest decides, and where they do not they do
 more-bits : (w l m a b : ℕ) → ordering w l m a b ≡ lex compare (firstBits w l a) (firstBits w m b)
     → ordering (suc w) (suc l) (suc m) a b ≡ lex compare (firstBits (suc w) (suc l) a) (firstBits (suc w) (suc m) b)
-unfolding bits sameBits
+unfolding bits sameOctets
 more-bits w l m a b ih =
     let x = bitOf w a in
     let y = bitOf w b in
@@ -78,7 +79,7 @@ more-bits w l m a b ih =
     (then-decided (compare x y) _ _ (λ g. e (nat-order .only x y g))))
 
 by-bits : (w l m a b : ℕ) → l ≤ w → m ≤ w → ordering w l m a b ≡ lex compare (firstBits w l a) (firstBits w m b)
-unfolding bits sameBits
+unfolding bits sameOctets
 by-bits w zero zero a b h k = refl
 by-bits zero zero (suc m) a b h k = absurd (omega arith)
 by-bits zero (suc l) m a b h k = absurd (omega arith)

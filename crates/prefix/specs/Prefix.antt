@@ -2,11 +2,12 @@
 -- A prefix is a length and an address; it stands for the first `length` bits of the address, the highest bit first.
 use Prim.Native.Nat.{ℕ, zero, suc, _-_, _/_, _%_, _^_, _≤_, _<_, compare, Ordering}
 use mathlib.Core.Path.{_≡_}
-use mathlib.Core.Bool.{Bool, true, false, cond, _&&_, _||_}
+use mathlib.Core.Bool.{Bool, cond, _&&_, _||_}
 use mathlib.Core.List.{List, [], _∷_}
-use lib.Dec.{leb, eqb}
+use lib.Dec.{leb}
 use lib.ListN.{take, getD}
 use Rattle.octets.specs.Number.{numberAt}
+use Rattle.octets.specs.Test.{sameOctets}
 use Rattle.prefix.specs.declared.Prefix.{Prefix}
 
 -- The n lowest bits of a number, the highest of them first.
@@ -18,17 +19,10 @@ bits (suc n) a = a / 2 ^ n % 2 ∷ bits n a
 abbrev pub firstBits : ℕ → ℕ → ℕ → List ℕ
 firstBits w n a = take n (bits w a)
 
--- Whether two runs of bits are the same, bit by bit.
-unfoldable pub sameBits : List ℕ → List ℕ → Bool
-sameBits [] [] = true
-sameBits [] (y ∷ ys) = false
-sameBits (x ∷ xs) [] = false
-sameBits (x ∷ xs) (y ∷ ys) = eqb x y && sameBits xs ys
-
 -- A prefix contains another that is no shorter and begins with the same bits; every prefix contains itself.
 unfoldable pub contains : ℕ → Prefix → Prefix → Bool
 contains w p q =
-    leb (p .length) (q .length) && sameBits (firstBits w (p .length) (p .address)) (firstBits w (p .length) (q .address))
+    leb (p .length) (q .length) && sameOctets (firstBits w (p .length) (p .address)) (firstBits w (p .length) (q .address))
 
 -- RFC 8955 section 5.1: the more specific comes first if one contains the other, else the lower address.
 unfoldable pub prefixOrder : ℕ → Prefix → Prefix → Ordering

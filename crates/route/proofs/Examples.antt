@@ -3,7 +3,8 @@ use mathlib.Core.Path.{_≡_, refl}
 use mathlib.Core.Bool.{true, false}
 use mathlib.Core.List.{List, [], _∷_, _++_}
 use Prim.Native.Nat.{ℕ}
-use Rattle.prefix.specs.Prefix.{bits, sameBits, contains}
+use Rattle.octets.specs.Test.{sameOctets}
+use Rattle.prefix.specs.Prefix.{bits, contains}
 use Rattle.route.specs.declared.Destination.{Destination}
 use Rattle.route.specs.declared.Destination.the-variants.{Missing, At}
 use Rattle.route.specs.Route.{routeAt, routesOf, plainPrefix, rises, risesToNext, rising, soundRoutes}
@@ -35,5 +36,5 @@ pub examples : (soundRoutes 32 one ∷ soundRoutes 32 two ∷ soundRoutes 32 (0x
     ∷ feasible 32 true Missing 7 (routesOf two)
     ∷ [])
     ≡ true ∷ true ∷ false ∷ true ∷ false ∷ true ∷ false ∷ true ∷ false ∷ false ∷ false ∷ true ∷ []
-unfolding bits sameBits contains routeAt routesOf plainPrefix rises risesToNext rising soundRoutes covers moreSpecific longer matched bestMatch undisputed validated judged feasible
+unfolding bits sameOctets contains routeAt routesOf plainPrefix rises risesToNext rising soundRoutes covers moreSpecific longer matched bestMatch undisputed validated judged feasible
 examples = refl

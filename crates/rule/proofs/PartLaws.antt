@@ -10,6 +10,7 @@ use native.Mathlib.Numerals.{add-one}
 use native.Mathlib.Nat.{add-zero}
 use lib.ListN.{length, getD, drop, take-append-drop, drop-of-length-le, length-drop, List·getD-eq-default}
 use lib.Seq.{drop-cons, drop-drop, getD-take, getD-drop, length-take-le}
+use Rattle.octets.specs.Test.{Each}
 use Rattle.octets.proofs.Facts.{Octets}
 use Rattle.rule.specs.declared.Family.{Family}
 use Rattle.rule.specs.declared.BodyEnd.{BodyEnd}
@@ -50,11 +51,6 @@ module _ (family : Family) (v : List ℕ) where
 abbrev pub Rising : ℕ → List Part → Type 0
 Rising previous [] = Unit {0}
 Rising previous (p ∷ ps) = (previous < p .kind) × Rising (p .kind) ps
-
--- what holds of each component
-abbrev pub Each : (Part → Type 0) → List Part → Type 0
-Each P [] = Unit {0}
-Each P (p ∷ ps) = P p × Each P ps
 
 module _ (family : Family) (v : List ℕ) where
   pub types-rise : Rising 0 (components family v)

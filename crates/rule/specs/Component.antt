@@ -43,8 +43,7 @@ pairStep v at (More next) = more (pairOf v at next) next
 pairStep v at (Last next) = last (pairOf v at next) (At next)
 pairStep v at (RefusedPair number place) = stop (RefusedBody number place)
 
--- The pairs of a list from a place on, and where the list ends; the ending for too few steps, `RefusedBody 6 (length v)`, is
--- never reached: each step moves on, so length + 1 steps are enough.
+-- The pairs of a list from a place on, and where the list ends.
 unfoldable pub pairsFrom : ℕ → List ℕ → ℕ → Walk Pair BodyEnd
 pairsFrom kind v at = walk (length v + 1) (RefusedBody 6 (length v)) (λ i. pairStep v i (pairAt kind v i)) at
 

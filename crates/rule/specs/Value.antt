@@ -17,6 +17,10 @@ pub record Part : Type 0 where
   pub kind : ℕ
   pub body : List ℕ
 
+-- A component of the given type and body.
+abbrev pub part : ℕ → List ℕ → Part
+part kind body = record { kind = kind; body = body }
+
 -- The octets that a list of components spells.
 unfoldable pub spelled : List Part → List ℕ
 spelled [] = []
@@ -31,25 +35,28 @@ pub record Progress : Type 0 where
   pub at : ℕ
   pub previous : ℕ
 
+-- A reader that has read nothing.
+abbrev pub atStart : Progress
+atStart = record { at = 0; previous = 0 }
+
 -- A step along a value.
 abbrev pub componentStep : List ℕ → ℕ → Next → Step Progress Part Checked
 componentStep v at Nothing = stop Accepted
-componentStep v at (Component kind next) = more (record { kind = kind; body = between v (at + 1) next }) (record { at = next; previous = kind })
+componentStep v at (Component kind next) = more (part kind (between v (at + 1) next)) (record { at = next; previous = kind })
 componentStep v at (RefusedNext number place) = stop (Refused number place)
 
--- The components of a value from a place on, and whether all of it is accepted; the ending for too few steps,
--- `Refused 6 (length v)`, is never reached: each step moves on, so length + 1 steps are enough.
+-- The components of a value from a place on, and whether all of it is accepted.
 unfoldable pub componentsFrom : Family → List ℕ → Progress → Walk Part Checked
 componentsFrom family v p =
     walk (length v + 1) (Refused 6 (length v)) (λ (q : Progress). componentStep v (q .at) (componentAt family v (q .at) (q .previous))) p
 
 -- The components of a value, in the order in which they stand.
 unfoldable pub components : Family → List ℕ → List Part
-components family v = componentsFrom family v (record { at = 0; previous = 0 }) .items
+components family v = componentsFrom family v atStart .items
 
 -- Refusals 1 to 7 of a value: over 4,095 octets is 1, no octet is 2, then 3 to 7 as met.
 unfoldable pub checkValue : Family → List ℕ → Checked
 checkValue family v =
     cond (ltb 4095 (length v)) (Refused 1 0)
     (cond (eqb (length v) 0) (Refused 2 0)
-    (componentsFrom family v (record { at = 0; previous = 0 }) .ending))
+    (componentsFrom family v atStart .ending))

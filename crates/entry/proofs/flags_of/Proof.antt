@@ -4,23 +4,23 @@ use borrow.Author.Needs.{needs}
 use Rattle.entry.proofs.flags_of.Statement.{statement}
 use Rattle.entry.proofs.flags_of.Tie as tie
 
-flag-of-requires : tie.Need-flag-of-requires
-flag-of-requires c κs = search needs
+bit-if-requires : tie.Need-bit-if-requires
+bit-if-requires c κs = search needs
 
-flag-of-requires-2 : tie.Need-flag-of-requires-2
-flag-of-requires-2 c κs = search needs
+bit-if-requires-2 : tie.Need-bit-if-requires-2
+bit-if-requires-2 c κs = search needs
 
-flag-of-requires-3 : tie.Need-flag-of-requires-3
-flag-of-requires-3 c κs = search needs
+bit-if-requires-3 : tie.Need-bit-if-requires-3
+bit-if-requires-3 c κs = search needs
 
-flag-of-requires-4 : tie.Need-flag-of-requires-4
-flag-of-requires-4 c κs = search needs
+bit-if-requires-4 : tie.Need-bit-if-requires-4
+bit-if-requires-4 c κs = search needs
 
-flag-of-requires-5 : tie.Need-flag-of-requires-5
-flag-of-requires-5 c κs = search needs
+bit-if-requires-5 : tie.Need-bit-if-requires-5
+bit-if-requires-5 c κs = search needs
 
-flag-of-requires-6 : tie.Need-flag-of-requires-6
-flag-of-requires-6 c κs = search needs
+bit-if-requires-6 : tie.Need-bit-if-requires-6
+bit-if-requires-6 c κs = search needs
 
 add-result : tie.Need-add-result
 add-result c = search needs
@@ -45,12 +45,12 @@ pub flags-of-spec : {M : Type 1} → statement M
 flags-of-spec =
     tie.close
     (tie.spec
-    flag-of-requires
-    flag-of-requires-2
-    flag-of-requires-3
-    flag-of-requires-4
-    flag-of-requires-5
-    flag-of-requires-6
+    bit-if-requires
+    bit-if-requires-2
+    bit-if-requires-3
+    bit-if-requires-4
+    bit-if-requires-5
+    bit-if-requires-6
     add-result
     add-result-2
     add-result-3

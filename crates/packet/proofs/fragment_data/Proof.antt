@@ -18,7 +18,7 @@ bit-if-requires-4 c κs = search needs
 
 returns : tie.Need-returns
 unfolding fragmentData
-returns c = rw (c .bit-if4 .ensures, c .before .bit-if3 .ensures, c .before .before .bit-if2 .ensures, c .before .before .before .bit-if .ensures)
+returns c = rw (c .bit-if4 .ensures .0, c .before .bit-if3 .ensures .0, c .before .before .bit-if2 .ensures .0, c .before .before .before .bit-if .ensures .0)
 
 pub fragment-data-spec : {M : Type 1} → statement M
 fragment-data-spec =
