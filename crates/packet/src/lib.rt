@@ -1,4 +1,4 @@
-// One packet and one rule (RFC 8955 sections 4.2 and 5): what an IPv4 packet shows, what an operator asks of a number, what a list of
+// One packet and one rule (RFC 8955 section 4.2): what an IPv4 packet shows, what an operator asks of a number, what a list of
 // pairs asks of a field, and whether a packet matches a rule. `packet_of` alone reads the packet's octets; what follows goes by what
 // it found. Every public function answers whatever octets it is lent.
 ghost use mathlib.Core.Path.{_≡_};
