@@ -25,7 +25,7 @@ use Rattle.table.specs.Sound.{mostOctets, soundTable, soundness}
 use Rattle.flowspec.proofs.TableLaws.{was-sound, was-unsound}
 use Rattle.table.proofs.WalkLaws.{was-found, records-more, records-end, records-unsound, records-ind}
 use Rattle.table.proofs.EntryLaws.{length-there}
-use Rattle.text.specs.Spelling.{spelled}
+use Rattle.text.specs.Spelling.{quoted}
 use Rattle.text.specs.Hex.{hexOf}
 use Rattle.text.specs.Print.{laid, Printed}
 use Rattle.text.proofs.DecimalLaws.{length-decimal}
@@ -76,7 +76,7 @@ module _ (t : List ℕ) (at count : ℕ) (counting : Counting t at count) where
 -- how long a record's line is
 pub length-rule : (held : List ℕ) → length (ruleText held) ≡ 2 * length held + 6
 unfolding ruleText
-length-rule held = rw (length-append (hexOf held) (spelled "\n"), length-hexOf held) (omega arith)
+length-rule held = rw (length-append (hexOf held) (quoted "\n"), length-hexOf held) (omega arith)
 
 -- some records are printed, and those from a place on are left
 pub record Printing (t out : List ℕ) (at place : ℕ) (now : List ℕ) (end : ℕ) : Type 0 where

@@ -9,7 +9,7 @@ use lib.Dec.{leb}
 use lib.ListN.{length, length-append}
 use borrow.Author.Tests.{le-leb, lt-leb}
 use Rattle.octets.proofs.Cases.{by-test}
-use Rattle.text.specs.Spelling.{spelled}
+use Rattle.text.specs.Spelling.{quoted}
 use Rattle.text.specs.Decimal.{decimalOf}
 use Rattle.text.specs.Print.{Printed}
 use Rattle.text.proofs.DecimalLaws.{decimal-short}
@@ -41,7 +41,7 @@ module _ (number place : ℕ) where
   unfolding placeText
   place-high h = rw (le-leb 3 number (omega arith), lt-leb number 7 h)
 
-  pub place-told : 3 ≤ number → number ≤ 7 → placeText number place ≡ spelled "\t" ++ decimalOf place
+  pub place-told : 3 ≤ number → number ≤ 7 → placeText number place ≡ quoted "\t" ++ decimalOf place
   unfolding placeText
   place-told h k = rw (le-leb 3 number h, le-leb number 7 k)
 
@@ -53,7 +53,7 @@ place-short number place h =
 
 pub length-count : (count : ℕ) → length (countText count) ≡ 7 + length (decimalOf count)
 unfolding countText
-length-count count = rw (length-append (decimalOf count) (spelled "\n")) (omega arith)
+length-count count = rw (length-append (decimalOf count) (quoted "\n")) (omega arith)
 
 pub count-short : (count : ℕ) → count < 2 ^ 64 → length (countText count) ≤ 27
 count-short count h = omega (arith, length-count count, decimal-short count h)
@@ -61,5 +61,5 @@ count-short count h = omega (arith, length-count count, decimal-short count h)
 pub answer-short : (number place : ℕ) → number < 2 ^ 64 → place < 2 ^ 64 → length (answerText number place) ≤ mostText
 unfolding answerText
 answer-short number place h k =
-    rw (length-append (decimalOf number) (placeText number place ++ spelled "\n"), length-append (placeText number place) (spelled "\n"))
+    rw (length-append (decimalOf number) (placeText number place ++ quoted "\n"), length-append (placeText number place) (quoted "\n"))
     (omega (arith, decimal-short number h, place-short number place k))

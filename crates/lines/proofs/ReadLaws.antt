@@ -10,7 +10,7 @@ use borrow.Author.Tests.{le-ltb}
 use Rattle.octets.specs.Test.{sameOctets}
 use Rattle.octets.proofs.TestLaws.{same-octets}
 use Rattle.rule.specs.Value.{between}
-use Rattle.text.specs.Spelling.{spelled}
+use Rattle.text.specs.Spelling.{quoted}
 use Rattle.text.specs.Hex.{areOctets, wordIn}
 use Rattle.text.specs.Decimal.{isNumber}
 use Rattle.text.specs.Field.{fieldEnd}
@@ -28,19 +28,19 @@ unknown line what e = record { is = sym e; within = tt }
 
 -- the fields behind a first field, where they are not of the kinds that it asks for
 module _ (line : List ℕ) (fs : List (List ℕ)) where
-  pub no-route : areOf (isAddress ∷ isNumber ∷ isNumber ∷ isNumber ∷ []) fs ≡ false → Says line Unknown (said (spelled "route" ∷ fs))
+  pub no-route : areOf (isAddress ∷ isNumber ∷ isNumber ∷ isNumber ∷ []) fs ≡ false → Says line Unknown (said (quoted "route" ∷ fs))
   unfolding said areOf sameOctets
   no-route e = unknown line _ (rw e)
 
-  pub no-announce : areOf (isRule ∷ isNumber ∷ areOctets ∷ []) fs ≡ false → Says line Unknown (said (spelled "announce" ∷ fs))
+  pub no-announce : areOf (isRule ∷ isNumber ∷ areOctets ∷ []) fs ≡ false → Says line Unknown (said (quoted "announce" ∷ fs))
   unfolding said areOf sameOctets
   no-announce e = unknown line _ (rw e)
 
-  pub no-withdraw : areOf (isRule ∷ []) fs ≡ false → Says line Unknown (said (spelled "withdraw" ∷ fs))
+  pub no-withdraw : areOf (isRule ∷ []) fs ≡ false → Says line Unknown (said (quoted "withdraw" ∷ fs))
   unfolding said areOf sameOctets
   no-withdraw e = unknown line _ (rw e)
 
-  pub no-list : areOf [] fs ≡ false → Says line Unknown (said (spelled "list" ∷ fs))
+  pub no-list : areOf [] fs ≡ false → Says line Unknown (said (quoted "list" ∷ fs))
   unfolding said areOf sameOctets
   no-list e = unknown line _ (rw e)
 
@@ -51,7 +51,7 @@ module _ (line : List ℕ) (word : ℕ) where
       → (originator originatorEnd : ℕ) → Numbered line sizeEnd originator originatorEnd
       → (neighbour last : ℕ) → Numbered line originatorEnd neighbour last
       → length line ≤ last → (address : ℕ) → address ≡ wordIn (between line start end)
-      → Says line (Route address size originator neighbour) (said (spelled "route" ∷ behind line word))
+      → Says line (Route address size originator neighbour) (said (quoted "route" ∷ behind line word))
   unfolding said areOf sameOctets
   route-read start end f size sizeEnd n originator originatorEnd o neighbour last a h address e =
       record {
@@ -80,7 +80,7 @@ module _ (line : List ℕ) (word : ℕ) where
   pub announce-read : (start end : ℕ) → Fielded isRule line word start end
       → (originator stop : ℕ) → Numbered line end originator stop
       → (communities last : ℕ) → Fielded areOctets line stop communities last
-      → length line ≤ last → Says line (Announce start end originator communities) (said (spelled "announce" ∷ behind line word))
+      → length line ≤ last → Says line (Announce start end originator communities) (said (quoted "announce" ∷ behind line word))
   unfolding said areOf sameOctets
   announce-read start end f originator stop n communities last a h =
       let w = a .within in
@@ -91,14 +91,14 @@ module _ (line : List ℕ) (word : ℕ) where
       }
 
   pub withdraw-read : (start end : ℕ) → Fielded isRule line word start end → length line ≤ end
-      → Says line (Withdraw start) (said (spelled "withdraw" ∷ behind line word))
+      → Says line (Withdraw start) (said (quoted "withdraw" ∷ behind line word))
   unfolding said areOf sameOctets
   withdraw-read start end f h =
       let w = f .within in
       let u = f .rising in
       record { is = rw (← whole isRule word start end f h, f .is, at-end line end h, f .good); within = omega arith }
 
-  pub list-read : length line ≤ word → Says line Listing (said (spelled "list" ∷ behind line word))
+  pub list-read : length line ≤ word → Says line Listing (said (quoted "list" ∷ behind line word))
   unfolding said areOf sameOctets
   list-read h = record { is = rw (at-end line word h); within = tt }
 
@@ -119,7 +119,7 @@ module _ (line : List ℕ) (short : length line ≤ mostSigns) (end : ℕ) (e : 
       let w = same-octets (take end line) word (sym same ∙ t) in
       record { is = says .is ∙ sym (line-fields ∙ rw w); within = says .within }
 
-  pub line-other : sameOctets (take end line) (spelled "route") ≡ false → sameOctets (take end line) (spelled "announce") ≡ false
-      → sameOctets (take end line) (spelled "withdraw") ≡ false → sameOctets (take end line) (spelled "list") ≡ false → Says line Unknown (lineOf line)
+  pub line-other : sameOctets (take end line) (quoted "route") ≡ false → sameOctets (take end line) (quoted "announce") ≡ false
+      → sameOctets (take end line) (quoted "withdraw") ≡ false → sameOctets (take end line) (quoted "list") ≡ false → Says line Unknown (lineOf line)
   unfolding said areOf
   line-other r a w l = unknown line _ (line-fields ∙ rw (r, a, w, l))

@@ -11,20 +11,20 @@ use Rattle.table.specs.Sound.{soundTable}
 use Rattle.flowspec.specs.Told.{Told}
 use Rattle.text.specs.Hex.{hexOf}
 use Rattle.text.specs.Decimal.{decimalOf}
-use Rattle.text.specs.Spelling.{spelled}
+use Rattle.text.specs.Spelling.{quoted}
 use Rattle.text.specs.Print.{laid}
 
 -- "3 to 7 print their place as a further field."
 unfoldable pub placeText : ℕ → ℕ → List ℕ
-placeText number place = cond (leb 3 number && leb number 7) (spelled "\t" ++ decimalOf place) []
+placeText number place = cond (leb 3 number && leb number 7) (quoted "\t" ++ decimalOf place) []
 
 -- The answer of a call: its number in decimal, 0 where it is done.
 unfoldable pub answerText : ℕ → ℕ → List ℕ
-answerText number place = spelled "answer\t" ++ (decimalOf number ++ (placeText number place ++ spelled "\n"))
+answerText number place = quoted "answer\t" ++ (decimalOf number ++ (placeText number place ++ quoted "\n"))
 
 -- The answer to "a line of another form, over 16,384 octets, or a route past 4,096".
 abbrev pub unknownText : List ℕ
-unknownText = spelled "answer\t?\n"
+unknownText = quoted "answer\t?\n"
 
 -- What announcing and withdrawing answer.
 abbrev pub changeText : Told → List ℕ
@@ -32,7 +32,7 @@ changeText told = answerText (told .number) (told .place)
 
 -- A record of the table: its octets in hex.
 unfoldable pub ruleText : List ℕ → List ℕ
-ruleText held = spelled "rule\t" ++ (hexOf held ++ spelled "\n")
+ruleText held = quoted "rule\t" ++ (hexOf held ++ quoted "\n")
 
 -- Records, one line each, in the order of the table.
 unfoldable pub rulesText : List (List ℕ) → List ℕ
@@ -41,7 +41,7 @@ rulesText (held ∷ rest) = ruleText held ++ rulesText rest
 
 -- How many records there are.
 unfoldable pub countText : ℕ → List ℕ
-countText count = spelled "rules\t" ++ (decimalOf count ++ spelled "\n")
+countText count = quoted "rules\t" ++ (decimalOf count ++ quoted "\n")
 
 -- The table: the number of its records, then each of them. A table that is not sound, which the program never has, is answered by 10.
 unfoldable pub listText : List ℕ → List ℕ

@@ -10,7 +10,7 @@ use Rattle.octets.specs.Test.{sameOctets}
 use Rattle.text.specs.Hex.{areOctets, octetsIn, wordIn}
 use Rattle.text.specs.Decimal.{isNumber, numberIn}
 use Rattle.text.specs.Field.{fields}
-use Rattle.text.specs.Spelling.{spelled}
+use Rattle.text.specs.Spelling.{quoted}
 
 -- What a line says: a route to add (address, length, originator, neighbour AS), a rule to announce (the rule's octets, its originator,
 -- its communities' octets), a rule to withdraw, that the table is to be listed, or nothing of these.
@@ -31,7 +31,7 @@ field n fs = getD fs n []
 
 -- The quoted word.
 abbrev pub isWord : String → List ℕ → Bool
-isWord word text = sameOctets text (spelled word)
+isWord word text = sameOctets text (quoted word)
 
 -- An address: exactly eight hex digits.
 abbrev pub isAddress : List ℕ → Bool

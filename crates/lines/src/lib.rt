@@ -8,7 +8,7 @@ ghost use lib.ListN.{length};
 ghost use Rattle.table.specs.Walk.{records};
 ghost use Rattle.flowspec.specs.Announce.{announcing, withdrawing};
 ghost use Rattle.flowspec.specs.Told.{changeTold};
-ghost use Rattle.text.specs.Spelling.{spelled};
+ghost use Rattle.text.specs.Spelling.{quoted};
 ghost use Rattle.text.specs.Hex.{octetsIn};
 ghost use Rattle.text.specs.Print.{Printed};
 ghost use Rattle.lines.specs.Line.{mostSigns, isAddress, isRule, said, lineOf};
@@ -164,7 +164,7 @@ fn number_behind(line: &[u8], end: usize) -> Number
 
 // What a line says whose first field, which ends at a place, is `route`.
 fn read_route(line: &[u8], word: usize) -> Form
-    ensures { λ r. ⌜ Says (now (line .entry)) r (said (spelled "route" ∷ behind (now (line .entry)) word)) ⌝ }
+    ensures { λ r. ⌜ Says (now (line .entry)) r (said (quoted "route" ∷ behind (now (line .entry)) word)) ⌝ }
 {
     let Field::At { start, end } = field_behind(Kind::Address, line, word) else {
         return Form::Unknown;
@@ -192,7 +192,7 @@ fn read_route(line: &[u8], word: usize) -> Form
 
 // What a line says whose first field is `announce`.
 fn read_announce(line: &[u8], word: usize) -> Form
-    ensures { λ r. ⌜ Says (now (line .entry)) r (said (spelled "announce" ∷ behind (now (line .entry)) word)) ⌝ }
+    ensures { λ r. ⌜ Says (now (line .entry)) r (said (quoted "announce" ∷ behind (now (line .entry)) word)) ⌝ }
 {
     let Field::At { start, end } = field_behind(Kind::Rule, line, word) else {
         return Form::Unknown;
@@ -220,7 +220,7 @@ fn read_announce(line: &[u8], word: usize) -> Form
 
 // What a line says whose first field is `withdraw`.
 fn read_withdraw(line: &[u8], word: usize) -> Form
-    ensures { λ r. ⌜ Says (now (line .entry)) r (said (spelled "withdraw" ∷ behind (now (line .entry)) word)) ⌝ }
+    ensures { λ r. ⌜ Says (now (line .entry)) r (said (quoted "withdraw" ∷ behind (now (line .entry)) word)) ⌝ }
 {
     let Field::At { start, end } = field_behind(Kind::Rule, line, word) else {
         return Form::Unknown;
@@ -233,7 +233,7 @@ fn read_withdraw(line: &[u8], word: usize) -> Form
 
 // What a line says whose first field is `list`.
 fn read_list(line: &[u8], word: usize) -> Form
-    ensures { λ r. ⌜ Says (now (line .entry)) r (said (spelled "list" ∷ behind (now (line .entry)) word)) ⌝ }
+    ensures { λ r. ⌜ Says (now (line .entry)) r (said (quoted "list" ∷ behind (now (line .entry)) word)) ⌝ }
 {
     if word < line.len() {
         return Form::Unknown;

@@ -6,7 +6,7 @@ use lib.Dec.{eqb}
 use lib.ListN.{length, getD}
 use Rattle.octets.specs.Test.{every}
 use Rattle.octets.specs.Number.{numberAt}
-use Rattle.text.specs.Spelling.{spelled, isFrom}
+use Rattle.text.specs.Spelling.{quoted, isFrom}
 
 -- A digit: 0 to 9, or a to f.
 unfoldable pub isHexDigit : ℕ → Bool
@@ -18,7 +18,7 @@ hexValue sign = cond (isFrom 0x30 0x39 sign) (sign - 0x30) (cond (isFrom 0x61 0x
 
 -- The digit for a number below 16.
 unfoldable pub hexDigit : ℕ → ℕ
-hexDigit n = getD (spelled "0123456789abcdef") n 0
+hexDigit n = getD (quoted "0123456789abcdef") n 0
 
 -- Octets in hex: an even number of digits, possibly none. So "a line of another form" has an odd number, or an upper-case digit.
 unfoldable pub areOctets : List ℕ → Bool

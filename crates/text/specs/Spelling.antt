@@ -7,9 +7,9 @@ use mathlib.Core.List.{List, [], _∷_}
 use lib.Dec.{leb}
 
 -- The signs of a quoted text.
-abbrev pub spelled : String → List ℕ
-spelled none = []
-spelled (sign before text) = code sign ∷ spelled text
+abbrev pub quoted : String → List ℕ
+quoted none = []
+quoted (sign before text) = code sign ∷ quoted text
 
 -- A sign from one to another.
 abbrev pub isFrom : ℕ → ℕ → ℕ → Bool
