@@ -131,8 +131,8 @@ pub fn compare_values(first: &[u8], second: &[u8]) -> Order
 {
     let size = first.len();
     let other = second.len();
-    let mut work = [0u8; 4096];
-    let mut space = [0u8; 4096];
+    let mut work = [0u8; rule::WORKING];
+    let mut space = [0u8; rule::WORKING];
     rule::fill_plain(first, &mut work);
     rule::fill_plain(second, &mut space);
     compare_plain(&work[..size], &space[..other])

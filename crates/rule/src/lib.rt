@@ -19,6 +19,12 @@ ghost use Rattle.octets.specs.Store.{stored};
 use octets::octet_at;
 use octets::store;
 
+// The octets a value has at most.
+pub const MOST_VALUE: usize = 4095;
+
+// The octets of a working array, in which a plain spelling is built.
+pub const WORKING: usize = MOST_VALUE + 1;
+
 // ---- Answers ----
 
 // What a family of addresses decides about its rules.
@@ -293,7 +299,7 @@ pub fn next_component(family: Family, value: &[u8], at: usize, previous: u8) -> 
 pub fn check_value(family: Family, value: &[u8]) -> Checked
     ensures { λ r. ⌜ r ≡ checkValue family (now (value .entry)) ⌝ }
 {
-    if 4095 < value.len() {
+    if MOST_VALUE < value.len() {
         return Checked::Refused {
             number: 1,
             place: 0,
@@ -561,7 +567,7 @@ pub fn write_accepted(value: &[u8], buffer: &mut [u8]) -> Writing
             place: 0,
         };
     }
-    let mut work = [0u8; 4096];
+    let mut work = [0u8; WORKING];
     fill_plain(value, &mut work);
     write_length(size, buffer);
     store(buffer, field, &work[..size]);

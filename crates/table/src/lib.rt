@@ -302,7 +302,7 @@ pub fn announce_value(
     ensures { λ r. ⌜ (r ≡ announced ipv4 (now (table .entry)) (record { originator = originator; actions = actions; value = plain (now (value .entry)) }) feasible .number) × (now (table .exit) ≡ announced ipv4 (now (table .entry)) (record { originator = originator; actions = actions; value = plain (now (value .entry)) }) feasible .table) ⌝ }
 {
     let size = value.len();
-    let mut work = [0u8; 4096];
+    let mut work = [0u8; rule::WORKING];
     rule::fill_plain(value, &mut work);
     if !feasible {
         remove_rule(table, used, &work[..size]);
@@ -320,7 +320,7 @@ pub fn withdraw_value(table: &mut [u8], used: usize, value: &[u8]) -> u8
     ensures { λ r. ⌜ (r ≡ withdrawn ipv4 (now (table .entry)) (keysOf ipv4 (plain (now (value .entry)))) .number) × (now (table .exit) ≡ withdrawn ipv4 (now (table .entry)) (keysOf ipv4 (plain (now (value .entry)))) .table) ⌝ }
 {
     let size = value.len();
-    let mut work = [0u8; 4096];
+    let mut work = [0u8; rule::WORKING];
     rule::fill_plain(value, &mut work);
     if remove_rule(table, used, &work[..size]) {
         return 0;
