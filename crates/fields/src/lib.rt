@@ -8,6 +8,7 @@ ghost use Rattle.io.specs.Counts.{Counts};
 use action::Actions;
 use libc::STDOUT_FILENO;
 use octets::number_at;
+use text::Numeral;
 use text::field_end;
 use text::place_of;
 
@@ -73,11 +74,10 @@ fn times_of(star: &[u8]) -> usize {
     if star.len() == 0 {
         return 1;
     }
-    let number = &star[1..];
-    if text::is_number(number) {
-        return text::number_in(number) as usize;
+    match text::read_number(&star[1..]) {
+        Numeral::Number(number) => number as usize,
+        Numeral::NotANumber => 0,
     }
-    0
 }
 
 // Fills the front of a room with the octets that digits spell, as far as it reaches: how many there are.

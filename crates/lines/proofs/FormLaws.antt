@@ -6,11 +6,16 @@ use Prim.Native.Nat.{ℕ, _+_, _<_, _≤_}
 use native.Mathlib.Omega.{arith}
 use lib.ListN.{length}
 use borrow.Author.Tests.{lt-ltb, le-ltb}
+use Rattle.octets.proofs.Cases.{apart}
 use Rattle.rule.specs.Value.{between}
-use Rattle.text.specs.Decimal.{isNumber, numberIn}
-use Rattle.text.specs.Field.{fields, fieldEnd}
+use Rattle.text.specs.declared.Numeral.{Numeral}
+use Rattle.text.specs.declared.Numeral.the-variants.{NotANumber, Number as Numbering}
+use Rattle.text.specs.Decimal.{isNumber, readNumber}
+use Rattle.text.specs.Field.{fieldEnd}
+use Rattle.text.proofs.DecimalLaws.{was-none, was-read}
 use Rattle.text.proofs.FieldLaws.{fields-from}
 use Rattle.lines.specs.declared.Kind.{Kind}
+use Rattle.lines.specs.declared.Kind.the-variants.{Any}
 use Rattle.lines.specs.declared.Field.{Field}
 use Rattle.lines.specs.declared.Field.the-variants.{Missing, At}
 use Rattle.lines.specs.declared.Number.{Number}
@@ -62,7 +67,7 @@ module _ (test : List ℕ → Bool) (line : List ℕ) (end : ℕ) where
 
 -- what its answers say
 module _ (test : List ℕ → Bool) (line : List ℕ) (end : ℕ) (field : Field) (says : FieldSays test line end field) where
-  pub was-missing : field ≡ Missing → firstIs test (behind line end) ≡ false
+  was-missing : field ≡ Missing → firstIs test (behind line end) ≡ false
   was-missing h = subst (FieldSays test line end) h says
 
   pub field-fails : (kinds : List (List ℕ → Bool)) → field ≡ Missing → areOf (test ∷ kinds) (behind line end) ≡ false
@@ -71,11 +76,24 @@ module _ (test : List ℕ → Bool) (line : List ℕ) (end : ℕ) (field : Field
   pub was-there : (start stop : ℕ) → field ≡ At start stop → Fielded test line end start stop
   was-there start stop h = subst (FieldSays test line end) h says
 
--- the number in a field that is one
-pub numbered : (line : List ℕ) (end start stop number : ℕ) → Fielded isNumber line end start stop → number ≡ numberIn (between line start stop)
-    → NumberSays line end (Read number stop)
-numbered line end start stop number f e = record { start = start; there = f; says = sym e }
+-- how `number_behind` comes to its answers
+pub none-at-all : (line : List ℕ) (end : ℕ) (field : Field) → FieldSays (isOf Any) line end field → field ≡ Missing → NumberSays line end NoNumber
+none-at-all line end field says h = none (behind line end) (was-missing (isOf Any) line end field says h)
+  where
+    none : (fs : List (List ℕ)) → firstIs (isOf Any) fs ≡ false → firstIs isNumber fs ≡ false
+    none [] e = refl
+    none (text ∷ fs) e = apart (cc)
 
+module _ (line : List ℕ) (end start stop : ℕ) (f : Fielded (isOf Any) line end start stop) (numeral : Numeral) (is : numeral ≡ readNumber (between line start stop)) where
+  pub not-numbered : numeral ≡ NotANumber → NumberSays line end NoNumber
+  not-numbered e = rw (f .is) (was-none (between line start stop) numeral is e)
+
+  pub numbered : (number : ℕ) → numeral ≡ Numbering number → NumberSays line end (Read number stop)
+  numbered number e =
+      let n = was-read (between line start stop) numeral is number e in
+      record { start = start; there = record { is = f .is; good = n .0; rising = f .rising; within = f .within }; says = sym (n .1) }
+
+-- what its answers say
 module _ (line : List ℕ) (end : ℕ) (number : Number) (says : NumberSays line end number) where
   pub number-fails : (kinds : List (List ℕ → Bool)) → number ≡ NoNumber → areOf (isNumber ∷ kinds) (behind line end) ≡ false
   number-fails kinds h = fails isNumber kinds (behind line end) (subst (NumberSays line end) h says)

@@ -11,7 +11,7 @@ use Rattle.text.specs.Hex.{areOctets, octetsIn}
 use Rattle.text.specs.Decimal.{isNumber, numberIn}
 use Rattle.text.specs.Field.{fields}
 use Rattle.lines.specs.declared.Kind.{Kind}
-use Rattle.lines.specs.declared.Kind.the-variants.{Address, Rule, Decimal, Actions}
+use Rattle.lines.specs.declared.Kind.the-variants.{Address, Rule, Actions, Any}
 use Rattle.lines.specs.declared.Field.{Field}
 use Rattle.lines.specs.declared.Field.the-variants.{Missing, At}
 use Rattle.lines.specs.declared.Number.{Number}
@@ -28,8 +28,8 @@ behind line end = cond (ltb end (length line)) (fields (drop (end + 1) line)) []
 abbrev pub isOf : Kind → List ℕ → Bool
 isOf Address = isAddress
 isOf Rule = isRule
-isOf Decimal = isNumber
 isOf Actions = areOctets
+isOf Any = λ text. true
 
 -- Whether there is a first field and it passes a test.
 abbrev pub firstIs : (List ℕ → Bool) → List (List ℕ) → Bool

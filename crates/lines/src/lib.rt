@@ -19,6 +19,7 @@ ghost use Rattle.lines.specs.Promise.{Gathers, Serves};
 use flowspec::Change;
 use table::NextRecord;
 use table::Soundness;
+use text::Numeral;
 
 // The octets a line has at most.
 const MOST_SIGNS: usize = 16384;
@@ -45,12 +46,12 @@ pub struct Gathered {
     pub ended: bool,
 }
 
-// What a field of a line is to be.
+// What a field of a line is to be. A number is read from any field.
 pub enum Kind {
     Address,
     Rule,
-    Decimal,
     Actions,
+    Any,
 }
 
 // A field of a line, by the places where it begins and ends, or that there is none of its kind.
@@ -131,8 +132,8 @@ fn is_of(kind: Kind, field: &[u8]) -> bool
     match kind {
         Kind::Address => is_address(field),
         Kind::Rule => is_rule(field),
-        Kind::Decimal => text::is_number(field),
         Kind::Actions => text::are_octets(field),
+        Kind::Any => true,
     }
 }
 
@@ -155,10 +156,12 @@ fn field_behind(kind: Kind, line: &[u8], end: usize) -> Field
 fn number_behind(line: &[u8], end: usize) -> Number
     ensures { λ r. ⌜ NumberSays (now (line .entry)) end r ⌝ }
 {
-    let Field::At { start, end: stop } = field_behind(Kind::Decimal, line, end) else {
+    let Field::At { start, end: stop } = field_behind(Kind::Any, line, end) else {
         return Number::NoNumber;
     };
-    let number = text::number_in(&line[start..stop]);
+    let Numeral::Number(number) = text::read_number(&line[start..stop]) else {
+        return Number::NoNumber;
+    };
     Number::Read(number, stop)
 }
 

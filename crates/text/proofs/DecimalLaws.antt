@@ -1,7 +1,7 @@
 -- Numbers in decimal: that reading and writing a number are inverse to each other, how long a number is, and what a loop along a text
 -- knows at each turn. Assumes nothing.
 use mathlib.Core.Path.{_≡_, refl, sym, _∙_}
-use mathlib.Core.Bool.{Bool, true, false, _&&_, not, and-false, and-eq-true-iff}
+use mathlib.Core.Bool.{Bool, true, false, cond, _&&_, not, and-false, and-eq-true-iff}
 use mathlib.Core.List.{List, [], _∷_, _++_, append-assoc, append-nil}
 use Prim.Native.Nat.{ℕ, zero, suc, _+_, _-_, _*_, _/_, _%_, _<_, _≤_, _^_}
 use native.Mathlib.Omega.{arith}
@@ -11,10 +11,12 @@ use native.Mathlib.Nat.{pow-suc, zero-add}
 use lib.Dec.{eqb, lit<, ltb}
 use lib.ListN.{length, getD, drop, length-append, drop-of-length-le}
 use lib.Seq.{drop-cons}
-use borrow.Author.Tests.{ltb-true, le-leb, lt-ltb, le-ltb, ne-eqb, eqb-false, not-true, not-false}
+use borrow.Author.Tests.{le-leb, lt-ltb, le-ltb, ne-eqb, eqb-false, not-true, not-false}
 use Rattle.octets.specs.Test.{every}
-use Rattle.octets.proofs.Cases.{apart}
-use Rattle.text.specs.Decimal.{isDigit, numberFrom, numberIn, startsWell, isNumber, digitsOf, decimalOf}
+use Rattle.octets.proofs.Cases.{by-test, apart}
+use Rattle.text.specs.declared.Numeral.{Numeral}
+use Rattle.text.specs.declared.Numeral.the-variants.{Number, NotANumber}
+use Rattle.text.specs.Decimal.{isDigit, numberFrom, numberIn, startsWell, isNumber, readNumber, digitsOf, decimalOf}
 use Rattle.text.specs.Print.{laid}
 use Rattle.text.proofs.HexLaws.{from-range, sign-more, sign-not, sign-all}
 use Rattle.text.proofs.PrintLaws.{laid-behind}
@@ -202,72 +204,52 @@ well-many [] h k = absurd (h refl)
 well-many (x ∷ []) h k = absurd (k refl)
 well-many (x ∷ y ∷ t) h k = refl
 
--- whether digits behind those that spell n go on to spell a number within 32 bits
-abbrev pub goesOn : ℕ → List ℕ → Bool
-goesOn n t = every isDigit t && ltb (numberFrom n t) (2 ^ 32)
+-- what reading digits behind those that spell n answers
+abbrev pub goesOn : ℕ → List ℕ → Numeral
+goesOn n t = cond (every isDigit t && ltb (numberFrom n t) (2 ^ 32)) (Number (numberFrom n t)) NotANumber
 
 module _ (t : List ℕ) (found : Bool) (is : found ≡ startsWell t) where
-  pub number-starts : not found ≡ false → isNumber t ≡ goesOn 0 (drop 0 t)
-  unfolding isNumber numberIn
+  pub number-starts : not found ≡ false → readNumber t ≡ goesOn 0 (drop 0 t)
+  unfolding readNumber isNumber numberIn
   number-starts f = rw (sym is ∙ not-false found f)
 
-  pub number-not : not found ≡ true → false ≡ isNumber t
-  unfolding isNumber
+  pub number-not : not found ≡ true → NotANumber ≡ readNumber t
+  unfolding readNumber isNumber
   number-not f = rw (sym is ∙ not-true found f)
 
-pub number-next : (t : List ℕ) (i n : ℕ) → i < length t → numberFrom n (drop i t) ≡ numberFrom (n * 10 + (getD t i 0 - 0x30)) (drop (i + 1) t)
+number-next : (t : List ℕ) (i n : ℕ) → i < length t → numberFrom n (drop i t) ≡ numberFrom (n * 10 + (getD t i 0 - 0x30)) (drop (i + 1) t)
 unfolding numberFrom
 number-next t i n h = rw (drop-cons t i 0 h, numberFrom, add-one)
 
-pub number-all : (t : List ℕ) (i n : ℕ) → length t ≤ i → numberFrom n (drop i t) ≡ n
+number-all : (t : List ℕ) (i n : ℕ) → length t ≤ i → numberFrom n (drop i t) ≡ n
 unfolding numberFrom
 number-all t i n h = rw (drop-of-length-le t h)
 
 -- what is past 32 bits stays so
-large : (n : ℕ) (t : List ℕ) → 2 ^ 32 ≤ n → goesOn n t ≡ false
-large n t h = rw (le-ltb (numberFrom n t) (2 ^ 32) (omega (arith, number-rises n t))) (and-false (every isDigit t))
+large : (n : ℕ) (t : List ℕ) → 2 ^ 32 ≤ n → goesOn n t ≡ NotANumber
+large n t h = rw (le-ltb (numberFrom n t) (2 ^ 32) (omega (arith, number-rises n t)), and-false (every isDigit t))
 
--- the test of a number, from its first digit on
-module _ (t : List ℕ) (i n : ℕ) (r : Bool) (so-far : r ≡ goesOn n (drop i t)) where
+-- reading a number, from its first digit on
+module _ (t : List ℕ) (i n : ℕ) (r : Numeral) (so-far : r ≡ goesOn n (drop i t)) where
   module _ (found : Bool) (is : found ≡ isDigit (getD t i 0)) (inside : i < length t) where
     pub goes-more : (m : ℕ) → not found ≡ false → m ≡ n * 10 + (getD t i 0 - 0x30) → r ≡ goesOn m (drop (i + 1) t)
     goes-more m f e = so-far ∙ rw (number-next t i n inside, ← e, sign-more isDigit t i (every isDigit (drop i t)) refl found is inside f)
 
-    pub goes-past : not found ≡ false → 2 ^ 32 ≤ n * 10 + (getD t i 0 - 0x30) → false ≡ r
+    pub goes-past : not found ≡ false → 2 ^ 32 ≤ n * 10 + (getD t i 0 - 0x30) → NotANumber ≡ r
     goes-past f h = sym (goes-more (n * 10 + (getD t i 0 - 0x30)) f refl ∙ large (n * 10 + (getD t i 0 - 0x30)) (drop (i + 1) t) h)
 
-    pub goes-not : not found ≡ true → false ≡ r
+    pub goes-not : not found ≡ true → NotANumber ≡ r
     goes-not f = sym (so-far ∙ rw (← sign-not isDigit t i (every isDigit (drop i t)) refl found is inside f))
 
-  pub goes-all : length t ≤ i → n < 2 ^ 32 → true ≡ r
-  goes-all h k = sym (so-far ∙ rw (← sign-all isDigit t i (every isDigit (drop i t)) refl h, number-all t i n h) (lt-ltb n (2 ^ 32) k))
+  pub goes-all : length t ≤ i → n < 2 ^ 32 → Number n ≡ r
+  goes-all h k = sym (so-far ∙ rw (← sign-all isDigit t i (every isDigit (drop i t)) refl h, number-all t i n h, lt-ltb n (2 ^ 32) k))
 
--- a number is read from its first digit on
-pub number-within : (t : List ℕ) → isNumber t ≡ true → goesOn 0 t ≡ true
-unfolding isNumber numberIn
-number-within t e = and-eq-true-iff (startsWell t) (goesOn 0 t) .0 e .1
+-- what a caller knows by the answer
+module _ (t : List ℕ) (found : Numeral) (is : found ≡ readNumber t) where
+  pub was-read : (n : ℕ) → found ≡ Number n → (isNumber t ≡ true) × (n ≡ numberIn t)
+  unfolding readNumber
+  was-read n e = by-test (isNumber t) (λ h. (h, let z : Number n ≡ Number (numberIn t) = sym e ∙ is ∙ rw h in cc)) (λ h. let z : Number n ≡ NotANumber = sym e ∙ is ∙ rw h in apart (cc))
 
--- what is known of a number's next digit: it is one, and what it makes of the digits before it stays within 32 bits and goes on
-pub record NextDigit (t : List ℕ) (i n : ℕ) : Type 0 where
-  pub low : 0x30 ≤ getD t i 0
-  pub high : getD t i 0 ≤ 0x39
-  pub within : n * 10 + (getD t i 0 - 0x30) < 2 ^ 32
-  pub goes-on : goesOn (n * 10 + (getD t i 0 - 0x30)) (drop (i + 1) t) ≡ true
-
-pub next-digit : (t : List ℕ) (i n : ℕ) → goesOn n (drop i t) ≡ true → i < length t → NextDigit t i n
-unfolding every
-next-digit t i n e h =
-    let x : ℕ = getD t i 0 in
-    let m : ℕ = n * 10 + (x - 0x30) in
-    let d = and-eq-true-iff (every isDigit (drop i t)) (ltb (numberFrom n (drop i t)) (2 ^ 32)) .0 e in
-    let f : isDigit x && every isDigit (drop (suc i) t) ≡ true = rw (drop-cons t i 0 h, every) at (d .0) in
-    let s = and-eq-true-iff (isDigit x) (every isDigit (drop (suc i) t)) .0 f in
-    let r = from-range 0x30 0x39 x (s .0) in
-    let g : true ≡ goesOn m (drop (i + 1) t) = goes-more t i n true (sym e) true (sym (s .0)) h m refl refl in
-    let k = and-eq-true-iff (every isDigit (drop (i + 1) t)) (ltb (numberFrom m (drop (i + 1) t)) (2 ^ 32)) .0 (sym g) in
-    record {
-      low = r .0;
-      high = r .1;
-      within = omega (arith, number-rises m (drop (i + 1) t), ltb-true (numberFrom m (drop (i + 1) t)) (2 ^ 32) (k .1));
-      goes-on = sym g;
-    }
+  pub was-none : found ≡ NotANumber → isNumber t ≡ false
+  unfolding readNumber
+  was-none e = by-test (isNumber t) (λ h. let z : Number (numberIn t) ≡ NotANumber = sym (is ∙ rw h) ∙ e in apart (cc)) (λ h. h)

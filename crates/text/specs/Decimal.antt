@@ -1,9 +1,11 @@
 -- Numbers in decimal, as the lines of the program have them (01: "other numbers decimal, within 32 bits, no leading zero").
 use Prim.Native.Nat.{ℕ, zero, suc, _+_, _-_, _*_, _/_, _%_, _^_}
-use mathlib.Core.Bool.{Bool, true, false, _&&_, not}
+use mathlib.Core.Bool.{Bool, true, false, cond, _&&_, not}
 use mathlib.Core.List.{List, [], _∷_, _++_}
 use lib.Dec.{ltb, eqb}
 use Rattle.octets.specs.Test.{every}
+use Rattle.text.specs.declared.Numeral.{Numeral}
+use Rattle.text.specs.declared.Numeral.the-variants.{Number, NotANumber}
 use Rattle.text.specs.Spelling.{isFrom}
 
 -- A digit: 0 to 9.
@@ -28,6 +30,10 @@ startsWell (digit ∷ next ∷ text) = not (eqb digit 0x30)
 -- A number: decimal, within 32 bits, no leading zero.
 unfoldable pub isNumber : List ℕ → Bool
 isNumber text = startsWell text && (every isDigit text && ltb (numberIn text) (2 ^ 32))
+
+-- What reading a text as a number answers.
+unfoldable pub readNumber : List ℕ → Numeral
+readNumber text = cond (isNumber text) (Number (numberIn text)) NotANumber
 
 -- The digits of a number: one below 10 is a digit by itself, any other has the digits of its tenth and then its last.
 -- `steps` bounds how many they are.

@@ -1,13 +1,12 @@
 // Texts as the lines of the program have them: fields parted by tabs, octets in hex, numbers in decimal, and printing these into a lent
 // buffer. What is printed past the buffer's end is dropped, and the place goes on, so that a caller sees how long all of it is.
 ghost use mathlib.Core.Path.{_≡_};
-ghost use mathlib.Core.Bool.{true};
 ghost use mathlib.Core.List.{[], _∷_};
 ghost use Prim.Native.Nat.{_+_, _<_, _≤_, _^_};
 ghost use lib.ListN.{length};
 ghost use Rattle.text.specs.Spelling.{isFrom};
 ghost use Rattle.text.specs.Hex.{isHexDigit, hexValue, hexDigit, areOctets, octetsIn, hexOf, wordIn};
-ghost use Rattle.text.specs.Decimal.{startsWell, isNumber, numberIn, decimalOf};
+ghost use Rattle.text.specs.Decimal.{startsWell, readNumber, decimalOf};
 ghost use Rattle.text.specs.Field.{placeOf, fieldEnd};
 ghost use Rattle.text.specs.Print.{laid, Printed};
 use octets::number_at;
@@ -115,6 +114,12 @@ pub fn word_in(text: &[u8]) -> u32
 
 // ---- Decimal ----
 
+// What a text is as a number: the number that it spells, or none.
+pub enum Numeral {
+    Number(u32),
+    NotANumber,
+}
+
 // Whether a text has a first digit that may stand there.
 fn starts_well(text: &[u8]) -> bool
     ensures { λ r. ⌜ r ≡ startsWell (now (text .entry)) ⌝ }
@@ -128,43 +133,29 @@ fn starts_well(text: &[u8]) -> bool
     text[0] != b'0'
 }
 
-// Whether a text is a number: decimal, within 32 bits, no leading zero.
-pub fn is_number(text: &[u8]) -> bool
-    ensures { λ r. ⌜ r ≡ isNumber (now (text .entry)) ⌝ }
+// The number that a text spells, or that it is none: a number is decimal, within 32 bits, and has no leading zero.
+pub fn read_number(text: &[u8]) -> Numeral
+    ensures { λ r. ⌜ r ≡ readNumber (now (text .entry)) ⌝ }
 {
     if !starts_well(text) {
-        return false;
+        return Numeral::NotANumber;
     }
     let mut number: u64 = 0;
     let mut i = 0;
     while i < text.len() {
         let sign = text[i];
         if !is_from(b'0', b'9', sign) {
-            return false;
+            return Numeral::NotANumber;
         }
         let digit = sign - b'0';
         number = number * 10 + digit as u64;
         if 4294967295 < number {
-            return false;
+            return Numeral::NotANumber;
         }
         i += 1;
     }
-    true
-}
-
-// The number that a text spells.
-pub fn number_in(text: &[u8]) -> u32
-    requires { ⌜ isNumber (now text) ≡ true ⌝ }
-    ensures { λ r. ⌜ r ≡ numberIn (now (text .entry)) ⌝ }
-{
-    let mut number: u32 = 0;
-    let mut i = 0;
-    while i < text.len() {
-        let digit = text[i] - b'0';
-        number = number * 10 + digit as u32;
-        i += 1;
-    }
-    number
+    let read = number as u32;
+    Numeral::Number(read)
 }
 
 // ---- Printing ----

@@ -1,4 +1,5 @@
 -- Each kind has its test.
+use mathlib.Core.Path.{refl}
 use Rattle.lines.proofs.FormLaws.{kind-is}
 use borrow.Author.Needs.{needs}
 use Rattle.lines.proofs.is_of.Statement.{statement}
@@ -19,14 +20,11 @@ is-rule-requires c κs = search needs
 enum-told-3 : tie.Need-enum-told-3
 enum-told-3 c = search needs
 
-is-number-requires : tie.Need-is-number-requires
-is-number-requires c κs = search needs
+are-octets-requires : tie.Need-are-octets-requires
+are-octets-requires c κs = search needs
 
 enum-told-4 : tie.Need-enum-told-4
 enum-told-4 c = search needs
-
-are-octets-requires : tie.Need-are-octets-requires
-are-octets-requires c κs = search needs
 
 returns : tie.Need-returns
 returns c = kind-is _ _ _ (c .before .enum-told .given .1) (c .is-address .ensures)
@@ -35,10 +33,10 @@ returns-2 : tie.Need-returns-2
 returns-2 c = kind-is _ _ _ (c .before .enum-told2 .given .1) (c .is-rule .ensures)
 
 returns-3 : tie.Need-returns-3
-returns-3 c = kind-is _ _ _ (c .before .enum-told3 .given .1) (c .is-number .ensures)
+returns-3 c = kind-is _ _ _ (c .before .enum-told3 .given .1) (c .are-octets .ensures)
 
 returns-4 : tie.Need-returns-4
-returns-4 c = kind-is _ _ _ (c .before .enum-told4 .given .1) (c .are-octets .ensures)
+returns-4 c = kind-is _ _ _ (c .enum-told4 .given .1) refl
 
 pub is-of-spec : {M : Type 1} → statement M
 is-of-spec =
@@ -49,9 +47,8 @@ is-of-spec =
     enum-told-2
     is-rule-requires
     enum-told-3
-    is-number-requires
-    enum-told-4
     are-octets-requires
+    enum-told-4
     returns
     returns-2
     returns-3

@@ -1,13 +1,13 @@
--- The field of digits says the number.
+-- Whatever field there is says the number, or that it is none.
 use native.Mathlib.Omega.{arith}
-use Rattle.text.specs.Decimal.{isNumber}
-use Rattle.lines.specs.Form.{Fielded}
-use Rattle.lines.proofs.FormLaws.{was-missing, was-there, numbered}
+use Rattle.lines.specs.declared.Kind.the-variants.{Any}
+use Rattle.lines.specs.Form.{isOf, Fielded}
+use Rattle.lines.proofs.FormLaws.{was-there, none-at-all, not-numbered, numbered}
 use borrow.Author.Needs.{needs}
 use Rattle.lines.proofs.number_behind.Statement.{statement}
 use Rattle.lines.proofs.number_behind.Tie as tie
 
-there : (c : tie.After-known-told) → Fielded isNumber (c .before .before .before .before .before .args .line .now) (c .before .before .before .before .before .args .end) (c .before .start .given .0 .0) (c .before .start .given .0 .1 .0)
+there : (c : tie.After-known-told) → Fielded (isOf Any) (c .before .before .before .before .before .args .line .now) (c .before .before .before .before .before .args .end) (c .before .start .given .0 .0) (c .before .start .given .0 .1 .0)
 there c = was-there _ _ _ _ (c .before .before .before .field-behind .ensures) _ _ (c .before .start .given .1)
 
 field-behind-requires : tie.Need-field-behind-requires
@@ -20,22 +20,31 @@ enum-told : tie.Need-enum-told
 enum-told c = search needs
 
 returns : tie.Need-returns
-returns c = was-missing _ _ _ _ (c .before .before .field-behind .ensures) (c .enum-told .given .1)
+returns c = none-at-all _ _ _ (c .before .before .field-behind .ensures) (c .enum-told .given .1)
 
-sub-number-in : tie.Need-sub-number-in
-sub-number-in c = omega (arith, there c)
+sub-read-number : tie.Need-sub-read-number
+sub-read-number c = omega (arith, there c)
 
-part-number-in-start : tie.Need-part-number-in-start
-part-number-in-start c = omega (arith, there c)
+part-read-number-start : tie.Need-part-read-number-start
+part-read-number-start c = omega (arith, there c)
 
-part-number-in-end : tie.Need-part-number-in-end
-part-number-in-end c = omega (arith, there c)
+part-read-number-end : tie.Need-part-read-number-end
+part-read-number-end c = omega (arith, there c)
 
-number-in-requires : tie.Need-number-in-requires
-number-in-requires c κs = there (c .before) .good
+read-number-requires : tie.Need-read-number-requires
+read-number-requires c κs = search needs
+
+enum-known-number : tie.Need-enum-known-number
+enum-known-number c = search needs
+
+enum-told-2 : tie.Need-enum-told-2
+enum-told-2 c = search needs
 
 returns-2 : tie.Need-returns-2
-returns-2 c = numbered _ _ _ _ _ (there (c .before .before)) (c .number-in .ensures)
+returns-2 c = not-numbered _ _ _ _ (there (c .before .before .before .before)) _ (c .before .before .read-number .ensures) (c .enum-told2 .given .1)
+
+returns-3 : tie.Need-returns-3
+returns-3 c = numbered _ _ _ _ (there (c .before .before .before .before .before)) _ (c .before .before .before .read-number .ensures) _ (c .before .number .given .1)
 
 pub number-behind-spec : {M : Type 1} → statement M
 number-behind-spec =
@@ -45,8 +54,11 @@ number-behind-spec =
     enum-known-start
     enum-told
     returns
-    sub-number-in
-    part-number-in-start
-    part-number-in-end
-    number-in-requires
-    returns-2)
+    sub-read-number
+    part-read-number-start
+    part-read-number-end
+    read-number-requires
+    enum-known-number
+    enum-told-2
+    returns-2
+    returns-3)

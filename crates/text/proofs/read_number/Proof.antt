@@ -5,14 +5,14 @@ use mathlib.Core.Path.{_≡_}
 use native.Mathlib.Omega.{arith}
 use lib.ListN.{length, drop}
 use borrow.Author.Tests.{not-false}
-use Rattle.text.specs.Decimal.{isNumber}
+use Rattle.text.specs.Decimal.{readNumber}
 use Rattle.text.proofs.HexLaws.{low-decimal}
 use Rattle.text.proofs.DecimalLaws.{goesOn, number-starts, number-not, goes-more, goes-past, goes-not, goes-all}
-use Rattle.text.proofs.is_number.Statement.{statement}
-use Rattle.text.proofs.is_number.Tie as tie
+use Rattle.text.proofs.read_number.Statement.{statement}
+use Rattle.text.proofs.read_number.Tie as tie
 
 abbrev Inv-loop : tie.InvT-loop
-Inv-loop text number₀ i₀ number i = (number < 2 ^ 32) × (isNumber text ≡ goesOn number (drop i text))
+Inv-loop text number₀ i₀ number i = (number < 2 ^ 32) × (readNumber text ≡ goesOn number (drop i text))
 
 abbrev μ-loop : tie.MeasureT-loop
 μ-loop text number₀ i₀ number i = length text - i
@@ -60,11 +60,14 @@ loop-less c = search needs
 loop-again : tie.Need-loop-again Inv-loop μ-loop
 loop-again c = (search needs, search (goes-more, needs))
 
+cast-read : tie.Need-cast-read Inv-loop μ-loop
+cast-read c = search needs
+
 returns-4 : tie.Need-returns-4 Inv-loop μ-loop
 returns-4 c = search (goes-all, needs)
 
-pub is-number-spec : {M : Type 1} → statement M
-is-number-spec =
+pub read-number-spec : {M : Type 1} → statement M
+read-number-spec =
     tie.close
     (tie.spec
     Inv-loop
@@ -83,4 +86,5 @@ is-number-spec =
     add-i
     loop-less
     loop-again
+    cast-read
     returns-4)
