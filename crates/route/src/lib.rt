@@ -37,7 +37,7 @@ pub enum Neighbours {
 }
 
 // The most words lent: 4,096 routes of four words.
-const MOST_WORDS: usize = 16384;
+pub const MOST_WORDS: usize = 16384;
 
 // The route whose four words begin at a place.
 fn route_at(words: &[u32], at: usize) -> Route
