@@ -13,17 +13,7 @@ use libc::STDOUT_FILENO;
 const BLOCK: usize = 65536;
 
 // The octets of the buffer for a line: one more than a line may have.
-const LINE: usize = 16385;
-
-// The words of 4,096 routes.
-const WORDS: usize = 16384;
-
-// The octets of the table.
-const TABLE: usize = 65536;
-
-// The octets of the longest text that a line prints, which is the list of a full table: 65,536 octets hold at most 1,985 records of at
-// least 33 octets, so that it has a line of at most 11 octets, two octets for each octet of the records and six more for each record.
-const TEXT: usize = 142993;
+const LINE: usize = lines::MOST_SIGNS + 1;
 
 // Where the program stands: the octets of a line not ended yet that its buffer holds, the words of routes in use, and whether the output
 // still takes what is written.
@@ -146,8 +136,8 @@ fn run(block: &mut [u8], line: &mut [u8], routes: &mut [u32], table: &mut [u8], 
 fn main() {
     let mut block = [0u8; BLOCK];
     let mut line = [0u8; LINE];
-    let mut routes = [0u32; WORDS];
-    let mut table = [0u8; TABLE];
-    let mut out = [0u8; TEXT];
+    let mut routes = [0u32; route::MOST_WORDS];
+    let mut table = [0u8; table::MOST_OCTETS];
+    let mut out = [0u8; lines::MOST_TEXT];
     run(&mut block, &mut line, &mut routes, &mut table, &mut out);
 }

@@ -2,7 +2,7 @@
 use mathlib.Core.Path.{_≡_, refl, ap, sym, subst, _∙_}
 use mathlib.Core.Bool.{Bool, true, false, not}
 use mathlib.Core.List.{List, [], _∷_}
-use Prim.Native.Nat.{ℕ, suc, _+_, _*_, _<_, _≤_, min}
+use Prim.Native.Nat.{ℕ, suc, _+_, _-_, _*_, _<_, _≤_, min}
 use native.Mathlib.Omega.{arith}
 use native.Mathlib.Decide.{decLt}
 use lib.Dec.{leb}
@@ -31,10 +31,10 @@ use Rattle.lines.proofs.CutLaws.{too-long}
 
 -- how `route_fits` comes to its answers, and what room it finds
 module _ (routes : List ℕ) (used : ℕ) where
-  pub fits-not : 16380 < used → false ≡ routeFits used routes
+  pub fits-not : mostWords - 4 < used → false ≡ routeFits used routes
   fits-not h = rw (lt-leb (used + 4) mostWords (omega arith))
 
-  pub fits-by-length : used ≤ 16380 → leb (used + 4) (length routes) ≡ routeFits used routes
+  pub fits-by-length : used ≤ mostWords - 4 → leb (used + 4) (length routes) ≡ routeFits used routes
   fits-by-length h = rw (le-leb (used + 4) mostWords (omega arith))
 
 pub route-room : (routes : List ℕ) (used : ℕ) (fits : Bool) → fits ≡ routeFits used routes → not fits ≡ false

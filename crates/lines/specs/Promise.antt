@@ -17,7 +17,7 @@ abbrev pub servedTold : Outcome → Served
 servedTold outcome = record { printed = length (outcome .text); used = outcome .used }
 
 -- Serving a line: the text stands at the front of the output's buffer, as far as that reaches, and the rest of it is kept. A buffer of
--- 142,993 octets takes every text whole.
+-- `mostText` octets takes every text whole.
 pub record Serves (line : List ℕ) (used : ℕ) (routes table out : List ℕ) (answer : Served) (routesExit tableExit outExit : List ℕ)
     (kept : List (List ℕ)) : Type 0 where
   pub is : answer ≡ servedTold (served line used routes table)

@@ -5,6 +5,7 @@ ghost use mathlib.Core.Bool.{false};
 ghost use mathlib.Core.List.{[], _∷_};
 ghost use Prim.Native.Nat.{_+_, _≤_};
 ghost use lib.ListN.{length};
+ghost use Rattle.table.specs.Sound.{mostOctets};
 ghost use Rattle.table.specs.Walk.{records};
 ghost use Rattle.flowspec.specs.Announce.{announcing, withdrawing};
 ghost use Rattle.flowspec.specs.Told.{changeTold};
@@ -22,16 +23,16 @@ use table::Soundness;
 use text::Numeral;
 
 // The octets a line has at most.
-const MOST_SIGNS: usize = 16384;
+pub const MOST_SIGNS: usize = 16384;
 
 // The octets that a field of a line spells at most: two digits an octet.
-const MOST_OCTETS: usize = 8192;
+const FIELD_OCTETS: usize = MOST_SIGNS / 2;
+
+// The octets of the longest text that a line prints, which `mostText` in specs/Answer.antt counts.
+pub const MOST_TEXT: usize = 142993;
 
 // The words of a route: address, length, originator and neighbour AS.
 const ROUTE_WORDS: usize = 4;
-
-// The words of routes at most: 4,096 routes.
-const MOST_WORDS: usize = 16384;
 
 // What serving a line answers: how long the printed text is, and how many words of the routes' buffer are in use.
 pub struct Served {
@@ -270,7 +271,7 @@ fn read_line(line: &[u8]) -> Form
 
 // ---- Printing an answer ----
 
-// Prints the place of a refusal from 3 to 7: where to go on.
+// Prints the place of a refusal from 3 to 7: where to go on. It stands behind the answer's number, which ends within 100 octets.
 fn put_place(out: &mut [u8], at: usize, number: u8, place: usize) -> usize
     requires { ⌜ at ≤ 100 ⌝ }
     ensures { λ r. ⌜ Printed (now (out .entry)) at (placeText number place) (now (out .exit)) r ⌝ }
@@ -338,9 +339,9 @@ fn put_count(out: &mut [u8], count: usize) -> usize
     text::put_octets(out, end, b"\n")
 }
 
-// Prints a record from a place on: where to go on.
+// Prints a record from a place on: where to go on. No list has a million octets, and no record is longer than a table.
 fn put_record(out: &mut [u8], at: usize, held: &[u8]) -> usize
-    requires { ⌜ (at ≤ 1000000) × (length (now held) ≤ 65536) ⌝ }
+    requires { ⌜ (at ≤ 1000000) × (length (now held) ≤ mostOctets) ⌝ }
     ensures { λ r. ⌜ Printed (now (out .entry)) at (ruleText (now (held .entry))) (now (out .exit)) r ⌝ }
 {
     let start = text::put_octets(out, at, b"rule\t");
@@ -348,9 +349,9 @@ fn put_record(out: &mut [u8], at: usize, held: &[u8]) -> usize
     text::put_octets(out, end, b"\n")
 }
 
-// Prints the records of a table from a place on: where to go on.
+// Prints the records of a table from a place on: where to go on. They stand behind their count, whose line ends within 100 octets.
 fn put_records(table: &[u8], out: &mut [u8], at: usize) -> usize
-    requires { ⌜ (length (now table) ≤ 65536) × (at ≤ 100) ⌝ }
+    requires { ⌜ (length (now table) ≤ mostOctets) × (at ≤ 100) ⌝ }
     ensures { λ r. ⌜ Printed (now (out .entry)) at (rulesText (records (now (table .entry)))) (now (out .exit)) r ⌝ }
 {
     let mut place: usize = 0;
@@ -384,7 +385,7 @@ fn put_list(out: &mut [u8], table: &[u8]) -> usize
 fn route_fits(used: usize, routes: &[u32]) -> bool
     ensures { λ r. ⌜ r ≡ routeFits used (now (routes .entry)) ⌝ }
 {
-    if MOST_WORDS - ROUTE_WORDS < used {
+    if route::MOST_WORDS - ROUTE_WORDS < used {
         return false;
     }
     used + ROUTE_WORDS <= routes.len()
@@ -431,9 +432,9 @@ fn serve_announce(
     requires { ⌜ (length (now rule) ≤ mostSigns) × (length (now communities) ≤ mostSigns) ⌝ }
     ensures { λ r. ⌜ Changes (announcing false (now (routes .entry)) (octetsIn (now (rule .entry))) originator (octetsIn (now (communities .entry))) (now (table .entry))) (now (out .entry)) r (now (table .exit)) (now (out .exit)) ⌝ }
 {
-    let mut octets = [0u8; MOST_OCTETS];
+    let mut octets = [0u8; FIELD_OCTETS];
     let size = text::read_octets(rule, &mut octets);
-    let mut actions = [0u8; MOST_OCTETS];
+    let mut actions = [0u8; FIELD_OCTETS];
     let count = text::read_octets(communities, &mut actions);
     let change = flowspec::announce(
         table,
@@ -451,7 +452,7 @@ fn serve_withdraw(rule: &[u8], table: &mut [u8], out: &mut [u8]) -> usize
     requires { ⌜ length (now rule) ≤ mostSigns ⌝ }
     ensures { λ r. ⌜ Changes (withdrawing (octetsIn (now (rule .entry))) (now (table .entry))) (now (out .entry)) r (now (table .exit)) (now (out .exit)) ⌝ }
 {
-    let mut octets = [0u8; MOST_OCTETS];
+    let mut octets = [0u8; FIELD_OCTETS];
     let size = text::read_octets(rule, &mut octets);
     let change = flowspec::withdraw(table, &octets[..size]);
     put_change(out, change)

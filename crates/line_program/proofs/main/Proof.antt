@@ -6,22 +6,22 @@ use Rattle.line_program.proofs.main.Statement.{statement}
 use Rattle.line_program.proofs.main.Tie as tie
 
 slice-aggregate-run : tie.Need-slice-aggregate-run
-slice-aggregate-run c = sym (length-replicate {A = ℕ} 65536 0)
+slice-aggregate-run c = sym (length-replicate {A = ℕ} _ 0)
 
 slice-aggregate-run-2 : tie.Need-slice-aggregate-run-2
-slice-aggregate-run-2 c = sym (length-replicate {A = ℕ} 16385 0)
+slice-aggregate-run-2 c = sym (length-replicate {A = ℕ} _ 0)
 
 slice-aggregate-run-3 : tie.Need-slice-aggregate-run-3
-slice-aggregate-run-3 c = sym (length-replicate {A = ℕ} 16384 0)
+slice-aggregate-run-3 c = sym (length-replicate {A = ℕ} _ 0)
 
 slice-aggregate-run-4 : tie.Need-slice-aggregate-run-4
-slice-aggregate-run-4 c = sym (length-replicate {A = ℕ} 65536 0)
+slice-aggregate-run-4 c = sym (length-replicate {A = ℕ} _ 0)
 
 slice-aggregate-run-5 : tie.Need-slice-aggregate-run-5
-slice-aggregate-run-5 c = sym (length-replicate {A = ℕ} 142993 0)
+slice-aggregate-run-5 c = sym (length-replicate {A = ℕ} _ 0)
 
 run-requires : tie.Need-run-requires
-run-requires c κs = length-replicate {A = ℕ} 142993 0
+run-requires c κs = length-replicate {A = ℕ} _ 0
 
 returns : tie.Need-returns
 returns c = tt
