@@ -12,7 +12,7 @@ use borrow.Author.Tests.{ltb-true, lt-ltb, le-ltb, leb-true, eqb-true, ne-eqb, n
 use Rattle.octets.specs.Number.{numberAt}
 use Rattle.octets.proofs.Cases.{by-test, apart, both}
 use Rattle.octets.proofs.Facts.{Octets, below}
-use Rattle.octets.proofs.NumberLaws.{number-small}
+use Rattle.octets.proofs.NumberLaws.{number-small, one-octet}
 use Rattle.rule.specs.declared.Family.{Family}
 use Rattle.action.specs.declared.Actions.{Actions}
 use Rattle.action.specs.declared.Given.{Given}
@@ -25,7 +25,7 @@ use Rattle.action.specs.Possible.{couldBe}
 use Rattle.entry.specs.Entry.{Entry, plainValue, possible}
 use Rattle.entry.specs.Record.{headWidths, headCost, writtenFields, readFields, fieldsOf, recordOf, actionsIn, entryOf, goodRecord}
 use Rattle.entry.proofs.ValueLaws.{Possible, is-possible}
-use Rattle.entry.proofs.RecordLaws.{Fit, length-written, one-octet, fields-back, back-fields}
+use Rattle.entry.proofs.RecordLaws.{Fit, length-written, fields-back, back-fields}
 
 -- the six flags
 

@@ -4,11 +4,10 @@ use mathlib.Core.Path.{_≡_, refl, sym, ap, ap₂, _∙_}
 use mathlib.Core.List.{List, [], _∷_, _++_, append-assoc}
 use Prim.Native.Nat.{ℕ, _+_, _^_, _<_, _≤_}
 use native.Mathlib.Omega.{arith}
-use native.Mathlib.Nat.{add-zero}
 use native.Mathlib.Numerals.{add-one}
 use lib.ListN.{length, getD, take, drop, length-append, drop-of-length-le}
 use lib.Seq.{take-add, drop-cons, drop-drop}
-use Rattle.octets.specs.Number.{numberAt, octetsOf}
+use Rattle.octets.specs.Number.{octetsOf}
 use Rattle.octets.specs.Store.{stored}
 use Rattle.octets.proofs.Facts.{Octets}
 use Rattle.octets.proofs.NumberLaws.{length-octetsOf, number-octets, octets-number}
@@ -38,10 +37,6 @@ unfolding writtenFields
 length-written [] ns h = refl
 length-written (w ∷ ws) [] h = absurd (omega arith)
 length-written (w ∷ ws) (n ∷ ns) h = simp length-append (omega (arith, length-octetsOf w n, length-written ws ns (omega arith)))
-
-pub one-octet : (s : List ℕ) (at : ℕ) → numberAt 1 s at ≡ getD s at 0
-unfolding numberAt
-one-octet s at = let e : getD s (at + 0) 0 ≡ getD s at 0 = rw add-zero in omega arith
 
 -- fields that are written, within any octets, are read again
 pub fields-back : (p ws ns s : List ℕ) → Fit ws ns → readFields ws (p ++ writtenFields ws ns ++ s) (length p) ≡ ns

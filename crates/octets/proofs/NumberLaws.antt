@@ -124,6 +124,11 @@ number-past n (suc j) s at h =
     let past = List·getD-eq-default s 0 {n = at + (n + j)} (omega arith) in
     rw (add-suc n j, number-past n j s at h, past, pow-suc, ← mul-assoc (numberAt n s at) (256 ^ j) 256) (add-zero _)
 
+-- a number of one octet is the octet
+pub one-octet : (s : List ℕ) (at : ℕ) → numberAt 1 s at ≡ getD s at 0
+unfolding numberAt
+one-octet s at = let e : getD s (at + 0) 0 ≡ getD s at 0 = rw add-zero in omega arith
+
 -- where there are no octets the number is 0
 pub number-none : (n at : ℕ) → numberAt n [] at ≡ 0
 unfolding numberAt

@@ -9,15 +9,15 @@ use native.Mathlib.Nat.{add-zero, mul-assoc, mul-mod-left, mul-add-mod-self-righ
 use lib.Dec.{leb, eqb}
 use lib.ListN.{length, getD}
 use lib.Pow.{pow-add}
-use lib.Seq.{ext-getD}
 use borrow.Author.Tests.{leb-true, leb-false, eqb-true, eqb-false}
 use Rattle.octets.specs.Test.{Each}
 use Rattle.octets.specs.Number.{numberAt}
 use Rattle.octets.proofs.Cases.{by-test}
 use Rattle.octets.proofs.Facts.{Octets}
-use Rattle.octets.proofs.NumberLaws.{octets-bits, number-small, number-behind, first-octet, number-none, number-only}
+use Rattle.octets.proofs.NumberLaws.{octets-bits, number-small, number-behind, first-octet, number-none}
 use Rattle.prefix.specs.declared.Prefix.{Prefix}
 use Rattle.prefix.specs.Prefix.{prefixOf, WellFormed}
+use Rattle.prefix.proofs.BodyLaws.{body-only}
 use Rattle.rule.specs.declared.Family.{Family}
 use Rattle.rule.specs.declared.Expected.{Expected}
 use Rattle.rule.specs.declared.Expected.the-variants.{Kind, Length, Address}
@@ -127,15 +127,7 @@ module _ (family : Family) (n : ℕ) (wide : family .width ≡ 8 * n) where
   unfolding prefixOf
   prefix-only a b A B o p e =
       let first : getD a 0 0 ≡ getD b 0 0 = ap (λ (q : Prefix). q .length) e in
-      let address : numberAt n a 1 ≡ numberAt n b 1 = rw eighth at (ap (λ (q : Prefix). q .address) e) in
       let left = A .whole in
       let right = B .whole in
-      ext-getD 0 a b (omega arith) (octets-same first address)
-    where
-      octets-same : getD a 0 0 ≡ getD b 0 0 → numberAt n a 1 ≡ numberAt n b 1 → (i : ℕ) → i < length a → getD a i 0 ≡ getD b i 0
-      octets-same first address zero h = first
-      octets-same first address (suc i) h =
-          let whole = A .whole in
-          let within = A .within in
-          let k : 1 + i ≡ suc i = omega arith in
-          rw (← k) (number-only n a b 1 o p address i (omega arith))
+      let within = A .within in
+      body-only (family .width) a b o p (omega arith) (omega arith) e

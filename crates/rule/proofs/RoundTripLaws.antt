@@ -27,7 +27,7 @@ use Rattle.rule.proofs.ValueLaws.{accepted-small}
 use Rattle.rule.proofs.PlainLaws.{length-plain}
 use Rattle.rule.proofs.ClearedLaws.{plain-again}
 use Rattle.rule.proofs.SpellingLaws.{check-plain}
-use Rattle.rule.proofs.ReadingLaws.{short-size, long-size, short-length, long-length, read-accepted, ReadRule, rule-read, alone-whole}
+use Rattle.rule.proofs.ReadingLaws.{short-size, long-size, short-length, long-length, read-accepted, alone-whole, one-read}
 use Rattle.rule.proofs.WritingLaws.{one-octet-field, two-octet-field, length-rule}
 
 -- the low four bits of the longer field's first octet
@@ -82,21 +82,21 @@ read-written family v ok o =
     (checkValue family (take (start + size - start) (drop start s))) refl (omega arith) (omega arith) value in
     (sym (alone-whole family s (firstRule family s) refl start size (sym read) (sym whole)), value-back v)
 
--- the one rule that octets are: its value is accepted, and it is all of them
-pub one-read : (family : Family) (s : List ℕ) (start size : ℕ) → oneRule family s ≡ Rule start size → ReadRule family s start size × (start + size ≡ length s)
+-- the one rule that octets are is all of them
+pub one-whole : (family : Family) (s : List ℕ) (start size : ℕ) → oneRule family s ≡ Rule start size → start + size ≡ length s
 unfolding oneRule
-one-read family s start size e = go (firstRule family s) refl e
+one-whole family s start size e = go (firstRule family s) e
   where
-    go : (r : Reading) → firstRule family s ≡ r → alone (length s) r ≡ Rule start size → ReadRule family s start size × (start + size ≡ length s)
-    go (Rule a b) f q =
+    go : (r : Reading) → alone (length s) r ≡ Rule start size → start + size ≡ length s
+    go (Rule a b) q =
         by-test (eqb (a + b) (length s))
         (λ t.
         let same : Rule a b ≡ Rule start size = rw t at q in
         let p : a ≡ start = cc in
         let r : b ≡ size = cc in
-        (rule-read family s start size (f ∙ same), rw (← p, ← r) (eqb-true (a + b) (length s) t)))
+        rw (← p, ← r) (eqb-true (a + b) (length s) t))
         (λ t. let other : Refused 15 0 ≡ Rule start size = rw t at q in apart (cc))
-    go (Refused number place) f q = apart (cc)
+    go (Refused number place) q = apart (cc)
 
 -- an accepted value is written wherever there is room
 pub accepted-written : (family : Family) (v b : List ℕ) → checkValue family v ≡ Accepted → length (ruleFor v) ≤ length b
@@ -112,7 +112,7 @@ module _ (family : Family) (s : List ℕ) (start size : ℕ) (read : oneRule fam
       → (writing family (take size (drop start s)) (length b) ≡ Written (length (ruleFor (take size (drop start s)))))
       × (afterWriting family (take size (drop start s)) b
       ≡ ruleFor (take size (drop start s)) ++ drop (length (ruleFor (take size (drop start s)))) b)
-  write-read b room = accepted-written family (take size (drop start s)) b (one-read family s start size read .0 .accepted) room
+  write-read b room = accepted-written family (take size (drop start s)) b (one-read family s start size read .accepted) room
 
   -- What was written is written again as it was.
   pub write-again : (v : List ℕ) → checkValue family v ≡ Accepted → Octets v → s ≡ ruleFor v → ruleFor (take size (drop start s)) ≡ s

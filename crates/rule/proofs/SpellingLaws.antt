@@ -15,7 +15,7 @@ use Rattle.octets.specs.Number.{numberAt}
 use Rattle.octets.specs.Walk.{Walk, before}
 use Rattle.octets.proofs.Cases.{by-test}
 use Rattle.octets.proofs.Facts.{Octets}
-use Rattle.octets.proofs.NumberLaws.{number-alike}
+use Rattle.octets.proofs.NumberLaws.{number-alike, one-octet}
 use Rattle.rule.specs.declared.Family.{Family}
 use Rattle.rule.specs.declared.Expected.{Expected}
 use Rattle.rule.specs.declared.Expected.the-variants.{Kind, Length, Address, Operator, Operand}
@@ -35,11 +35,6 @@ use Rattle.rule.proofs.ComponentLaws.{pair-cases, prefix-cases, compone
 use Rattle.rule.proofs.ValueLaws.{was-found, components-more, components-none, components-refused, components-ind}
 use Rattle.rule.proofs.PlainLaws.{length-plain-from}
 use Rattle.rule.proofs.ClearedLaws.{size-kept, end-kept}
-
--- the number in one octet
-number-one : (s : List ℕ) (i : ℕ) → numberAt 1 s i ≡ getD s (i + 0) 0
-unfolding numberAt
-number-one s i = omega arith
 
 -- the octet at a place is as expected, where the first is as `start` says: from there on the spelling is that of what is left
 Expects : Expected → List ℕ → ℕ → Expected → Type 0
@@ -99,13 +94,13 @@ module _ (start : Expected) (v : List ℕ) where
   value-cleared n i kind last x h allowed =
       let octets : (j : ℕ) → j < n → getD (plainFrom start v) (i + j) 0 ≡ plainOperand kind (getD v (i + j) 0)
       = λ j k. value-octets j n i kind last x h k in
-      by-test (eqb kind 11) (λ t. let e = eqb-true kind 11 t in one-octet n i kind (eqb-true n 1 (rw e at allowed)) octets)
-      (λ t. by-test (eqb kind 12) (λ u. let e = eqb-true kind 12 u in one-octet n i kind (eqb-true n 1 (rw e at allowed)) octets)
+      by-test (eqb kind 11) (λ t. let e = eqb-true kind 11 t in of-one n i kind (eqb-true n 1 (rw e at allowed)) octets)
+      (λ t. by-test (eqb kind 12) (λ u. let e = eqb-true kind 12 u in of-one n i kind (eqb-true n 1 (rw e at allowed)) octets)
       (λ u. rw (t, u) (number-alike n (plainFrom start v) v i (λ j k. rw (t, u) at (octets j k)))))
     where
-      one-octet : (n i kind : ℕ) → n ≡ 1 → ((j : ℕ) → j < n → getD (plainFrom start v) (i + j) 0 ≡ plainOperand kind (getD v (i + j) 0))
+      of-one : (n i kind : ℕ) → n ≡ 1 → ((j : ℕ) → j < n → getD (plainFrom start v) (i + j) 0 ≡ plainOperand kind (getD v (i + j) 0))
           → numberAt n (plainFrom start v) i ≡ plainOperand kind (numberAt n v i)
-      one-octet n i kind e octets = rw (e, number-one (plainFrom start v) i, number-one v i) (octets 0 (omega arith))
+      of-one n i kind e octets = rw (e, one-octet (plainFrom start v) i, one-octet v i) (rw (add-zero i) at (octets 0 (omega arith)))
 
 -- a pair in the plain spelling, and a list of them: only the first operator loses its AND
 abbrev pub plainPair : ℕ → Bool → Pair → Pair
