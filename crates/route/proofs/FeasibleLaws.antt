@@ -11,6 +11,7 @@ use lib.ListN.{getD}
 use borrow.Author.Tests.{ltb-true, ltb-false}
 use Rattle.octets.proofs.Cases.{by-test, apart}
 use Rattle.prefix.specs.declared.Prefix.{Prefix}
+use Rattle.prefix.specs.Prefix.{WellFormed}
 use Rattle.prefix.proofs.ContainLaws.{nested, contains-both-ways}
 use Rattle.route.specs.declared.Route.{Route}
 use Rattle.route.specs.declared.Destination.the-variants.{Missing, At}
@@ -19,7 +20,7 @@ use Rattle.route.specs.declared.BestMatch.the-variants.{Nothing, Found}
 use Rattle.route.specs.Route.{routesOf, rising, soundRoutes}
 use Rattle.route.specs.Feasible.{covers, moreSpecific, longer, matched, bestMatch, undisputed, judged, feasible}
 use Rattle.route.proofs.PassLaws.{validated-same}
-use Rattle.route.proofs.SoundLaws.{every-plain, plain-formed, only-once, sound-rising, addresses-fit}
+use Rattle.route.proofs.SoundLaws.{only-once, sound-rising, sound-formed}
 
 -- section 6 b) in its own words: the unicast route with the longest possible prefix length covering the destination
 pub record Longest (w : ℕ) (d : Prefix) (rs : List Route) (r : Route) : Type 0 where
@@ -99,33 +100,32 @@ best-longest w d (s ∷ rs) r e =
     go Nothing f t g below = let same : s ≡ r = let h = rw f at g in cc in rw (← same) (alone w d s rs t f)
     go (Found u) f t g below = before w d s rs t u (below u f) r (rw f at g)
 
--- a sound list has one longest route at most
-pub one-longest : (w : ℕ) (d : Prefix) (rs : List Route) → rising w rs ≡ true → ((r : Route) → List·Memᴰ r rs → r .prefix .address < 2 ^ w)
+-- routes that rise, each with a well-formed prefix, have one longest at most
+pub one-longest : (w : ℕ) (d : Prefix) (rs : List Route) → rising rs ≡ true → ((r : Route) → List·Memᴰ r rs → WellFormed w (r .prefix))
     → (r s : Route) → Longest w d rs r → Longest w d rs s → r ≡ s
 unfolding covers
-one-longest w d rs sound fits r s R S =
+one-longest w d rs rise formed r s R S =
     let h = R .longest s (S .among) (S .covering) in
     let k = S .longest r (R .among) (R .covering) in
-    let P = plain-formed w (r .prefix) (every-plain w rs sound r (R .among)) (fits r (R .among)) in
-    let Q = plain-formed w (s .prefix) (every-plain w rs sound s (S .among)) (fits s (S .among)) in
     let there = nested w (r .prefix) (s .prefix) d (omega arith) (R .covering) (S .covering) in
     let back = nested w (s .prefix) (r .prefix) d (omega arith) (S .covering) (R .covering) in
-    only-once w rs sound r s (R .among) (S .among) (contains-both-ways w (r .prefix) (s .prefix) P Q there back)
+    only-once rs rise r s (R .among) (S .among)
+    (contains-both-ways w (r .prefix) (s .prefix) (formed r (R .among)) (formed s (S .among)) there back)
 
--- and in it the longest route is the best match
-pub longest-best : (w : ℕ) (d : Prefix) (rs : List Route) → rising w rs ≡ true → ((r : Route) → List·Memᴰ r rs → r .prefix .address < 2 ^ w)
+-- and among them the longest is the best match
+pub longest-best : (w : ℕ) (d : Prefix) (rs : List Route) → rising rs ≡ true → ((r : Route) → List·Memᴰ r rs → WellFormed w (r .prefix))
     → (r : Route) → Longest w d rs r → bestMatch w d rs ≡ Found r
-longest-best w d rs sound fits r R = go (bestMatch w d rs) refl
+longest-best w d rs rise formed r R = go (bestMatch w d rs) refl
   where
     go : (b : BestMatch) → bestMatch w d rs ≡ b → bestMatch w d rs ≡ Found r
     go Nothing e = let f = none-covers w d rs e r (R .among) in let g = R .covering in apart (cc)
-    go (Found s) e = e ∙ ap Found (one-longest w d rs sound fits s r (best-longest w d rs s e) R)
+    go (Found s) e = e ∙ ap Found (one-longest w d rs rise formed s r (best-longest w d rs s e) R)
 
 -- so among the routes that sound words spell, each word a number of w bits, the best match is the one longest route
 pub sound-best : (w : ℕ) (d : Prefix) (ws : List ℕ) → soundRoutes w ws ≡ true → ((i : ℕ) → getD ws i 0 < 2 ^ w)
     → (r : Route) → (bestMatch w d (routesOf ws) ≡ Found r) ↔ Longest w d (routesOf ws) r
 sound-best w d ws sound fits r =
-    (best-longest w d (routesOf ws) r, longest-best w d (routesOf ws) (sound-rising w ws sound) (addresses-fit (2 ^ w) ws fits) r)
+    (best-longest w d (routesOf ws) r, longest-best w d (routesOf ws) (sound-rising w ws sound) (sound-formed w ws sound fits) r)
 
 -- the routes that matter: those that cover the destination or lie strictly inside it
 abbrev pub matters : ℕ → Prefix → Route → Bool

@@ -1,6 +1,6 @@
 -- The routes that words spell, one after the other, and the soundness of a list route by route. Assumes nothing.
 use mathlib.Core.Path.{_≡_, refl, sym, _∙_}
-use mathlib.Core.Bool.{Bool, true, false, not, _&&_}
+use mathlib.Core.Bool.{Bool, true, false, not, _&&_, and-false}
 use mathlib.Core.List.{List, [], _∷_}
 use Prim.Native.Nat.{ℕ, _+_, _-_, _*_, _%_, _^_, _≤_, _<_}
 use native.Mathlib.Omega.{arith}
@@ -12,9 +12,11 @@ use lib.ListN.{length, getD, drop, length-drop}
 use lib.Pow.{pow-pos, shl-exact}
 use lib.Seq.{drop-cons}
 use borrow.Author.Tests.{le-leb, lt-leb, eq-eqb, ne-eqb, not-true, not-false}
+use Rattle.octets.specs.Test.{every}
 use Rattle.prefix.specs.declared.Prefix.{Prefix}
 use Rattle.route.specs.declared.Route.{Route}
-use Rattle.route.specs.Route.{routeAt, routesOf, plainPrefix, rises, risesToNext, rising, soundRoutes}
+use Rattle.route.specs.Route.{routeAt, routesOf, plainPrefix, rises, rising, soundRoutes}
+use Rattle.route.specs.Pass.{risesToNext}
 
 word-next : (ws : List ℕ) (i j : ℕ) → i + 1 ≡ j → i < length ws → drop i ws ≡ getD ws i 0 ∷ drop j ws
 word-next ws i j e h = drop-cons ws i 0 h ∙ rw (← e, add-one)
@@ -45,18 +47,40 @@ routes-end ws at h = none (drop at ws) (rw (length-drop at ws) (omega arith))
 module _ (w : ℕ) (ws : List ℕ) where
   pub too-long : 16384 < length ws → false ≡ soundRoutes w ws
   unfolding soundRoutes
-  too-long h = rw (lt-leb (length ws) 16384 h)
+  too-long h = rw (lt-leb (length ws) 16384 h) (sym (and-false (eqb (length ws % 4) 0)))
 
-  pub left-over : length ws ≤ 16384 → (length ws % 4 ≡ 0 → ⊥) → false ≡ soundRoutes w ws
+  pub left-over : (length ws % 4 ≡ 0 → ⊥) → false ≡ soundRoutes w ws
   unfolding soundRoutes
-  left-over h e = rw (le-leb (length ws) 16384 h, ne-eqb (length ws % 4) 0 e)
+  left-over e = rw (ne-eqb (length ws % 4) 0 e)
+
+-- every prefix is plain, and the routes rise
+abbrev pub inOrder : ℕ → List Route → Bool
+inOrder w rs = every (λ (r : Route). plainPrefix w (r .prefix)) rs && rising rs
+
+-- both tests in one pass: a route's own prefix, the route beside the next, and then the others
+rising-next : (r : Route) (rs : List Route) → rising (r ∷ rs) ≡ (risesToNext (r ∷ rs) && rising rs)
+unfolding rising risesToNext
+rising-next r [] = refl
+rising-next r (s ∷ rs) = refl
+
+in-turn : (a b c d : Bool) → ((a && b) && (c && d)) ≡ (a && (c && (b && d)))
+in-turn true b true d = refl
+in-turn true b false d = and-false b
+in-turn false b c d = refl
+
+in-order-next : (w : ℕ) (r : Route) (rs : List Route)
+    → inOrder w (r ∷ rs) ≡ (plainPrefix w (r .prefix) && (risesToNext (r ∷ rs) && inOrder w rs))
+unfolding every
+in-order-next w r rs =
+    rw (rising-next r rs)
+    (in-turn (plainPrefix w (r .prefix)) (every (λ (s : Route). plainPrefix w (s .prefix)) rs) (risesToNext (r ∷ rs)) (rising rs))
 
 -- what holds before each route of the check: the list is sound exactly where the routes from here on are
 pub record Checked (w : ℕ) (ws : List ℕ) (at : ℕ) : Type 0 where
   pub whole : length ws % 4 ≡ 0
   pub place : at % 4 ≡ 0
   pub within : at ≤ length ws
-  pub rest : rising w (routesOf (drop at ws)) ≡ soundRoutes w ws
+  pub rest : inOrder w (routesOf (drop at ws)) ≡ soundRoutes w ws
 
 pub check-start : (w : ℕ) (ws : List ℕ) → length ws ≤ 16384 → length ws % 4 ≡ 0 → Checked w ws 0
 unfolding soundRoutes
@@ -70,9 +94,11 @@ check-start w ws h e =
 
 module _ (w : ℕ) (ws : List ℕ) (at : ℕ) (r : Route) (p : Bool) (c : Checked w ws at) (h : at < length ws) (here : r ≡ routeAt ws at)
     (plain : p ≡ plainPrefix w (r .prefix)) where
-  split : rising w (routesOf (drop at ws)) ≡ p && (risesToNext (routesOf (drop at ws)) && rising w (routesOf (drop (at + 4) ws)))
-  unfolding rising
-  split = let k = c .whole in let l = c .place in rw (routes-next ws at (omega arith), ← here, ← plain)
+  split : inOrder w (routesOf (drop at ws)) ≡ p && (risesToNext (routesOf (drop at ws)) && inOrder w (routesOf (drop (at + 4) ws)))
+  split =
+      let k = c .whole in
+      let l = c .place in
+      rw (routes-next ws at (omega arith), ← here, plain) (in-order-next w r (routesOf (drop (at + 4) ws)))
 
   pub not-plain : not p ≡ true → false ≡ soundRoutes w ws
   not-plain e = rw (not-true p e) at (sym split) ∙ c .rest
@@ -90,7 +116,7 @@ module _ (w : ℕ) (ws : List ℕ) (at : ℕ) (r : Route) (p : Bool) (c : Checke
       }
 
 pub check-end : (w : ℕ) (ws : List ℕ) (at : ℕ) → Checked w ws at → length ws ≤ at → true ≡ soundRoutes w ws
-unfolding rising
+unfolding every rising
 check-end w ws at c h = rw (routes-end ws at (omega arith)) at (c .rest)
 
 -- the last route rises to none, and another to the one after it

@@ -1,12 +1,21 @@
--- What one pass over the routes keeps of those strictly inside the destination: whether they have no neighbour AS, one, or several.
+-- How the code goes over the routes: each beside the next, and of those strictly inside the destination it keeps whether they have no
+-- neighbour AS, one, or several. No promise names these words.
 use Prim.Native.Nat.{ℕ}
 use mathlib.Core.Bool.{Bool, true, false, cond}
+use mathlib.Core.List.{List, [], _∷_}
 use lib.Dec.{eqb}
 use Rattle.prefix.specs.declared.Prefix.{Prefix}
 use Rattle.route.specs.declared.Route.{Route}
 use Rattle.route.specs.declared.Neighbours.{Neighbours}
 use Rattle.route.specs.declared.Neighbours.the-variants.{Nobody, One, Several}
+use Rattle.route.specs.Route.{rises}
 use Rattle.route.specs.Feasible.{moreSpecific}
+
+-- The first of the routes comes before the next, if there is a next.
+unfoldable pub risesToNext : List Route → Bool
+risesToNext [] = true
+risesToNext (r ∷ []) = true
+risesToNext (r ∷ s ∷ routes) = rises (r .prefix) (s .prefix)
 
 -- The neighbour ASes with one more.
 unfoldable pub added : Neighbours → ℕ → Neighbours

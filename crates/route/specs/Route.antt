@@ -4,10 +4,11 @@ use mathlib.Core.Bool.{Bool, true, _&&_, _||_}
 use mathlib.Core.List.{List, [], _∷_}
 use lib.Dec.{leb, ltb, eqb}
 use lib.ListN.{length, getD}
+use Rattle.octets.specs.Test.{every}
 use Rattle.prefix.specs.declared.Prefix.{Prefix}
 use Rattle.route.specs.declared.Route.{Route}
 
--- The route whose four words begin at a place: address, length, originator, neighbour AS.
+-- 01: "four a route: address, length, originator, neighbour AS": the route whose words begin at a place.
 unfoldable pub routeAt : List ℕ → ℕ → Route
 routeAt words at =
     record {
@@ -16,7 +17,7 @@ routeAt words at =
       neighbour = getD words (at + 3) 0;
     }
 
--- The routes that words spell, four words each; up to three words left over spell none.
+-- 01: "Routes are lent as 32-bit words, four a route": the routes that words spell; up to three words left over spell none.
 unfoldable pub routesOf : List ℕ → List Route
 routesOf [] = []
 routesOf (a ∷ []) = []
@@ -24,26 +25,23 @@ routesOf (a ∷ l ∷ []) = []
 routesOf (a ∷ l ∷ o ∷ []) = []
 routesOf (a ∷ l ∷ o ∷ n ∷ words) = routeAt (a ∷ l ∷ o ∷ n ∷ []) 0 ∷ routesOf words
 
--- A prefix is plain: no longer than the width, and no bit past the length.
+-- 01: "length at most 32, no bit past the length": such a prefix is plain.
 unfoldable pub plainPrefix : ℕ → Prefix → Bool
 plainPrefix w p = leb (p .length) w && eqb (p .address % 2 ^ (w - p .length)) 0
 
--- A prefix comes before another by address, then by length.
+-- 01: "by address then length": a prefix comes before another.
 unfoldable pub rises : Prefix → Prefix → Bool
 rises p q = ltb (p .address) (q .address) || eqb (p .address) (q .address) && ltb (p .length) (q .length)
 
--- The first of the routes comes before the next, if there is a next.
-unfoldable pub risesToNext : List Route → Bool
-risesToNext [] = true
-risesToNext (r ∷ []) = true
-risesToNext (r ∷ s ∷ routes) = rises (r .prefix) (s .prefix)
+-- 01: "strictly rising by address then length": each route comes before the next.
+unfoldable pub rising : List Route → Bool
+rising [] = true
+rising (r ∷ []) = true
+rising (r ∷ s ∷ routes) = rises (r .prefix) (s .prefix) && rising (s ∷ routes)
 
--- The routes are strictly rising by address, then by length; it also tests that each prefix is no longer than the width and has no bit
--- past its length.
-unfoldable pub rising : ℕ → List Route → Bool
-rising w [] = true
-rising w (r ∷ routes) = plainPrefix w (r .prefix) && (risesToNext (r ∷ routes) && rising w routes)
-
--- Sound: a multiple of four words, at most 4,096 routes, length at most w, no bit past the length, strictly rising by address then length.
+-- 01: "Sound: a multiple of four words, at most 4,096 routes, length at most 32, no bit past the length, strictly rising by address then
+-- length."
 unfoldable pub soundRoutes : ℕ → List ℕ → Bool
-soundRoutes w words = leb (length words) (4 * 4096) && (eqb (length words % 4) 0 && rising w (routesOf words))
+soundRoutes w words =
+    eqb (length words % 4) 0
+    && (leb (length words) (4 * 4096) && (every (λ r. plainPrefix w (r .prefix)) (routesOf words) && rising (routesOf words)))

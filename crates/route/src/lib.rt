@@ -2,9 +2,9 @@
 ghost use mathlib.Core.Path.{_≡_};
 ghost use Prim.Native.Nat.{_+_, _≤_};
 ghost use lib.ListN.{length, drop};
-ghost use Rattle.route.specs.Route.{routeAt, routesOf, plainPrefix, rises, risesToNext, soundRoutes};
+ghost use Rattle.route.specs.Route.{routeAt, routesOf, plainPrefix, rises, soundRoutes};
 ghost use Rattle.route.specs.Feasible.{matched, longer, validated, judged, feasible};
-ghost use Rattle.route.specs.Pass.{added, noted, agrees};
+ghost use Rattle.route.specs.Pass.{risesToNext, added, noted, agrees};
 ghost use Rattle.rule.specs.Family.{ipv4};
 ghost use Rattle.route.specs.Destination.{destinationFor, destinationOf};
 use prefix::Prefix;
