@@ -8,7 +8,7 @@ use lib.Dec.{leb, eqb}
 use lib.ListN.{getD, take}
 use lib.Seq.{take-take}
 use borrow.Author.Tests.{leb-true, eqb-true}
-use Rattle.octets.specs.Test.{Each}
+use Rattle.octets.specs.Test.{every, Each}
 use Rattle.octets.proofs.Cases.{by-test}
 use Rattle.octets.proofs.Facts.{Octets}
 use Rattle.prefix.specs.declared.Prefix.{Prefix}
@@ -24,11 +24,10 @@ use Rattle.rule.proofs.PartLaws.{SoundPart, each-octets, each-sound}
 use Rattle.route.specs.declared.Route.{Route}
 use Rattle.route.specs.declared.Destination.{Destination}
 use Rattle.route.specs.declared.Destination.the-variants.{Missing, At}
-use Rattle.route.specs.declared.BestMatch.{BestMatch}
-use Rattle.route.specs.declared.BestMatch.the-variants.{Nothing, Found}
 use Rattle.route.specs.Route.{routesOf}
 use Rattle.route.specs.Destination.{destinationFor, destinationAmong, destinationOf}
-use Rattle.route.specs.Feasible.{covers, moreSpecific, matched, bestMatch, undisputed, validated, judged, feasible}
+use Rattle.route.specs.Feasible.{covers, moreSpecific, matched, bestMatch, undisputed, feasible}
+use Rattle.route.proofs.FeasibleLaws.{judged-alike}
 use Rattle.packet.proofs.PlainLaws.{first-kept}
 use Rattle.flowspec.specs.Feasibility.{isFeasible}
 
@@ -61,18 +60,10 @@ module _ (p q : Prefix) (same : Alike p q) where
   best-alike [] = refl
   best-alike (r ∷ routes) = rw (covers-alike r, best-alike routes)
 
-  undisputed-alike : (routes : List Route) (neighbour : ℕ) → undisputed 32 p routes neighbour ≡ undisputed 32 q routes neighbour
-  unfolding undisputed
+  undisputed-alike : (routes : List Route) (neighbour : ℕ) → undisputed 32 p neighbour routes ≡ undisputed 32 q neighbour routes
+  unfolding undisputed every
   undisputed-alike [] neighbour = refl
   undisputed-alike (r ∷ routes) neighbour = rw (inside-alike r, undisputed-alike routes neighbour)
-
-  judged-alike : (originator : ℕ) (routes : List Route) → judged 32 p originator routes ≡ judged 32 q originator routes
-  unfolding judged validated
-  judged-alike originator routes = rw (best-alike routes) (go (bestMatch 32 q routes))
-    where
-      go : (best : BestMatch) → validated best originator (undisputed 32 p routes) ≡ validated best originator (undisputed 32 q routes)
-      go Nothing = refl
-      go (Found best) = rw (undisputed-alike routes (best .neighbour))
 
 -- two destinations that differ past the length at most
 abbrev AlikeTo : Destination → Destination → Type 0
@@ -87,7 +78,8 @@ unfolding feasible
 feasible-alike relaxed Missing Missing originator routes same = refl
 feasible-alike relaxed Missing (At q) originator routes same = absurd same
 feasible-alike relaxed (At p) Missing originator routes same = absurd same
-feasible-alike relaxed (At p) (At q) originator routes same = judged-alike p q same originator routes
+feasible-alike relaxed (At p) (At q) originator routes same =
+    judged-alike 32 p q originator routes routes (best-alike p q same routes) (undisputed-alike p q same routes)
 
 -- the prefix of a body in the plain spelling differs past its length at most
 body-alike : (body : List ℕ) → Octets body → getD body 0 0 ≤ 32 → Alike (prefixOf 32 (plainFrom Length body)) (prefixOf 32 body)

@@ -8,7 +8,7 @@ use Rattle.prefix.specs.Prefix.{bits, contains}
 use Rattle.route.specs.declared.Destination.{Destination}
 use Rattle.route.specs.declared.Destination.the-variants.{Missing, At}
 use Rattle.route.specs.Route.{routeAt, routesOf, plainPrefix, rises, rising, soundRoutes}
-use Rattle.route.specs.Feasible.{covers, moreSpecific, longer, matched, bestMatch, undisputed, validated, judged, feasible}
+use Rattle.route.specs.Feasible.{covers, moreSpecific, longer, matched, bestMatch, undisputed, judged, feasible}
 
 -- 192.0.2.0/24 of originator 7 and AS 64500
 abbrev one : List ℕ
@@ -36,5 +36,5 @@ pub examples : (soundRoutes 32 one ∷ soundRoutes 32 two ∷ soundRoutes 32 (0x
     ∷ feasible 32 true Missing 7 (routesOf two)
     ∷ [])
     ≡ true ∷ true ∷ false ∷ true ∷ false ∷ true ∷ false ∷ true ∷ false ∷ false ∷ false ∷ true ∷ []
-unfolding every bits sameOctets contains routeAt routesOf plainPrefix rises rising soundRoutes covers moreSpecific longer matched bestMatch undisputed validated judged feasible
+unfolding every bits sameOctets contains routeAt routesOf plainPrefix rises rising soundRoutes covers moreSpecific longer matched bestMatch undisputed judged feasible
 examples = refl

@@ -9,6 +9,7 @@ use native.Mathlib.Omega.{arith}
 use lib.Dec.{ltb}
 use lib.ListN.{getD}
 use borrow.Author.Tests.{ltb-true, ltb-false}
+use Rattle.octets.specs.Test.{every}
 use Rattle.octets.proofs.Cases.{by-test, apart}
 use Rattle.prefix.specs.declared.Prefix.{Prefix}
 use Rattle.prefix.specs.Prefix.{WellFormed}
@@ -19,7 +20,6 @@ use Rattle.route.specs.declared.BestMatch.{BestMatch}
 use Rattle.route.specs.declared.BestMatch.the-variants.{Nothing, Found}
 use Rattle.route.specs.Route.{routesOf, rising, soundRoutes}
 use Rattle.route.specs.Feasible.{covers, moreSpecific, longer, matched, bestMatch, undisputed, judged, feasible}
-use Rattle.route.proofs.PassLaws.{validated-same}
 use Rattle.route.proofs.SoundLaws.{only-once, sound-rising, sound-formed}
 
 -- section 6 b) in its own words: the unicast route with the longest possible prefix length covering the destination
@@ -142,19 +142,26 @@ best-only w d (r ∷ rs) =
     by-test (covers w d r) (λ e. rw (e, best-only w d rs))
     (λ e. by-test (moreSpecific w d r) (λ f. rw (e, f, best-only w d rs)) (λ f. rw (e, f, no-match w d r e, best-only w d rs)))
 
-undisputed-only : (w : ℕ) (d : Prefix) (rs : List Route) (n : ℕ) → undisputed w d (only (matters w d) rs) n ≡ undisputed w d rs n
-unfolding undisputed
+undisputed-only : (w : ℕ) (d : Prefix) (rs : List Route) (n : ℕ) → undisputed w d n (only (matters w d) rs) ≡ undisputed w d n rs
+unfolding undisputed every
 undisputed-only w d [] n = refl
 undisputed-only w d (r ∷ rs) n =
     by-test (covers w d r) (λ e. rw (e, undisputed-only w d rs n))
     (λ e. by-test (moreSpecific w d r) (λ f. rw (e, f, f, undisputed-only w d rs n)) (λ f. rw (e, f, undisputed-only w d rs n)))
 
+-- destinations with the same best match, whose routes more specific are of the same neighbour ASes, are judged alike
+pub judged-alike : (w : ℕ) (d e : Prefix) (originator : ℕ) (rs ss : List Route) → bestMatch w d rs ≡ bestMatch w e ss
+    → ((n : ℕ) → undisputed w d n rs ≡ undisputed w e n ss) → judged w d originator rs ≡ judged w e originator ss
+unfolding judged
+judged-alike w d e originator rs ss b u = go (bestMatch w e ss) refl
+  where
+    go : (best : BestMatch) → bestMatch w e ss ≡ best → judged w d originator rs ≡ judged w e originator ss
+    go Nothing f = rw (judged, b, f)
+    go (Found r) f = rw (judged, b, f, u (r .neighbour))
+
 -- a destination is judged by the routes that matter
 pub judged-only : (w : ℕ) (d : Prefix) (originator : ℕ) (rs : List Route) → judged w d originator (only (matters w d) rs) ≡ judged w d originator rs
-unfolding judged
-judged-only w d originator rs =
-    rw (best-only w d rs)
-    (validated-same (bestMatch w d rs) originator (undisputed w d (only (matters w d) rs)) (undisputed w d rs) (undisputed-only w d rs))
+judged-only w d originator rs = judged-alike w d d originator (only (matters w d) rs) rs (best-only w d rs) (undisputed-only w d rs)
 
 -- lists with the same routes that matter judge a rule alike
 pub feasible-alike : (w : ℕ) (relaxed : Bool) (d : Prefix) (originator : ℕ) (rs ss : List Route) → only (matters w d) rs ≡ only (matters w d) ss

@@ -8,6 +8,7 @@ use native.Mathlib.Omega.{arith}
 use lib.Dec.{ltb, eqb}
 use lib.ListN.{length, drop}
 use borrow.Author.Tests.{lt-ltb, le-ltb, ltb-true, ltb-false, eq-eqb, ne-eqb, eqb-true, eqb-false, not-true, not-false}
+use Rattle.octets.specs.Test.{every}
 use Rattle.octets.proofs.Cases.{by-test}
 use Rattle.prefix.specs.declared.Prefix.{Prefix}
 use Rattle.prefix.specs.Prefix.{contains}
@@ -19,8 +20,8 @@ use Rattle.route.specs.declared.BestMatch.the-variants.{Nothing, Found}
 use Rattle.route.specs.declared.Neighbours.{Neighbours}
 use Rattle.route.specs.declared.Neighbours.the-variants.{Nobody, One, Several}
 use Rattle.route.specs.Route.{routeAt, routesOf}
-use Rattle.route.specs.Feasible.{covers, moreSpecific, longer, matched, bestMatch, undisputed, validated, judged, feasible}
-use Rattle.route.specs.Pass.{added, noted, agrees}
+use Rattle.route.specs.Feasible.{covers, moreSpecific, longer, matched, bestMatch, undisputed, judged, feasible}
+use Rattle.route.specs.Pass.{added, noted, agrees, validated}
 use Rattle.route.proofs.RouteLaws.{routes-next, routes-end}
 
 -- the longer of three matches is the same however they are taken together
@@ -73,7 +74,7 @@ noted-agrees w d seen r n =
 pub record Passed (w : ℕ) (d : Prefix) (ws : List ℕ) (best : BestMatch) (seen : Neighbours) (at : ℕ) : Type 0 where
   pub within : at ≤ length ws
   pub matching : longer best (bestMatch w d (routesOf (drop at ws))) ≡ bestMatch w d (routesOf ws)
-  pub agreeing : (n : ℕ) → agrees seen n && undisputed w d (routesOf (drop at ws)) n ≡ undisputed w d (routesOf ws) n
+  pub agreeing : (n : ℕ) → agrees seen n && undisputed w d n (routesOf (drop at ws)) ≡ undisputed w d n (routesOf ws)
 
 pub pass-start : (w : ℕ) (d : Prefix) (ws : List ℕ) → Passed w d ws Nothing Nobody 0
 unfolding longer agrees
@@ -82,7 +83,7 @@ pass-start w d ws = record { within = omega arith; matching = refl; agreeing = �
 pub pass-on : (w : ℕ) (d : Prefix) (ws : List ℕ) (best : BestMatch) (seen : Neighbours) (at : ℕ) (r : Route) (b : BestMatch) (s : Neighbours)
     → Passed w d ws best seen at → 4 ≤ length ws - at → r ≡ routeAt ws at → b ≡ longer best (matched w d r) → s ≡ noted w d seen r
     → Passed w d ws b s (at + 4)
-unfolding bestMatch undisputed
+unfolding bestMatch undisputed every
 pass-on w d ws best seen at r b s c h e f g =
     record {
       within = omega arith;
@@ -92,20 +93,21 @@ pass-on w d ws best seen at r b s c h e f g =
       agreeing = λ n. rw (g, noted-agrees w d seen r n, and-assoc) (rw (routes-next ws at (omega arith), ← e) at (c .agreeing n));
     }
 
--- the verdict hangs on the neighbour ASes' answers alone
-pub validated-same : (best : BestMatch) (originator : ℕ) (f g : ℕ → Bool) → ((n : ℕ) → f n ≡ g n) → validated best originator f ≡ validated best originator g
-unfolding validated
-validated-same Nothing originator f g e = refl
-validated-same (Found r) originator f g e = rw (e (r .neighbour))
+-- what the pass has kept says what the routes do
+kept-says : (w : ℕ) (d : Prefix) (originator : ℕ) (rs : List Route) (best : BestMatch) (seen : Neighbours) → bestMatch w d rs ≡ best
+    → ((n : ℕ) → agrees seen n ≡ undisputed w d n rs) → validated best originator seen ≡ judged w d originator rs
+unfolding validated judged
+kept-says w d originator rs Nothing seen e f = rw (judged, e)
+kept-says w d originator rs (Found r) seen e f = rw (judged, e, f (r .neighbour))
 
 pub pass-end : (w : ℕ) (d : Prefix) (ws : List ℕ) (best : BestMatch) (seen : Neighbours) (at originator : ℕ) (v : Bool)
-    → Passed w d ws best seen at → length ws - at < 4 → v ≡ validated best originator (agrees seen) → v ≡ judged w d originator (routesOf ws)
-unfolding bestMatch undisputed judged
+    → Passed w d ws best seen at → length ws - at < 4 → v ≡ validated best originator seen → v ≡ judged w d originator (routesOf ws)
+unfolding bestMatch undisputed every
 pass-end w d ws best seen at originator v c h e =
     let none = routes-end ws at (omega arith) in
-    let b : best ≡ bestMatch w d (routesOf ws) = sym (longer-none best) ∙ (rw none at (c .matching)) in
-    let s : (n : ℕ) → agrees seen n ≡ undisputed w d (routesOf ws) n = λ n. sym (and-true (agrees seen n)) ∙ (rw none at (c .agreeing n)) in
-    e ∙ rw b (validated-same (bestMatch w d (routesOf ws)) originator (agrees seen) (undisputed w d (routesOf ws)) s)
+    e
+    ∙ kept-says w d originator (routesOf ws) best seen (sym (rw none at (c .matching)) ∙ longer-none best)
+    (λ n. sym (and-true (agrees seen n)) ∙ (rw none at (c .agreeing n)))
 
 -- one route more: the best match stays where the route does not cover the destination, or is no longer
 module _ (w : ℕ) (d : Prefix) (best : BestMatch) (r : Route) (t : Bool) (says : t ≡ contains w (r .prefix) d) where
@@ -141,16 +143,17 @@ module _ (w : ℕ) (d : Prefix) (seen : Neighbours) (r : Route) where
   inside t s says e h f = rw (← says, not-false t e, lt-ltb (d .length) (r .prefix .length) h) f
 
 -- the three ways to conclude
-module _ (best : BestMatch) (originator : ℕ) (f : ℕ → Bool) where
-  pub no-match : best ≡ Nothing → false ≡ validated best originator f
+module _ (best : BestMatch) (originator : ℕ) (seen : Neighbours) where
+  pub no-match : best ≡ Nothing → false ≡ validated best originator seen
   unfolding validated
   no-match e = rw e
 
-  pub other-originator : (r : Route) → best ≡ Found r → (r .originator ≡ originator → ⊥) → false ≡ validated best originator f
+  pub other-originator : (r : Route) → best ≡ Found r → (r .originator ≡ originator → ⊥) → false ≡ validated best originator seen
   unfolding validated
   other-originator r e h = rw (e, ne-eqb (r .originator) originator h)
 
-  pub by-neighbour : (r : Route) (v : Bool) → best ≡ Found r → r .originator ≡ originator → v ≡ f (r .neighbour) → v ≡ validated best originator f
+  pub by-neighbour : (r : Route) (v : Bool) → best ≡ Found r → r .originator ≡ originator → v ≡ agrees seen (r .neighbour)
+      → v ≡ validated best originator seen
   unfolding validated
   by-neighbour r v e h g = rw (e, eq-eqb (r .originator) originator h) g
 

@@ -1,11 +1,13 @@
--- How the code goes over the routes: each beside the next, and of those strictly inside the destination it keeps whether they have no
--- neighbour AS, one, or several. No promise names these words.
+-- How the code goes over the routes: once with each beside the next, and once with the best match kept and, of the routes strictly inside
+-- the destination, whether they have no neighbour AS, one, or several. No promise names these words.
 use Prim.Native.Nat.{ℕ}
-use mathlib.Core.Bool.{Bool, true, false, cond}
+use mathlib.Core.Bool.{Bool, true, false, cond, _&&_}
 use mathlib.Core.List.{List, [], _∷_}
 use lib.Dec.{eqb}
 use Rattle.prefix.specs.declared.Prefix.{Prefix}
 use Rattle.route.specs.declared.Route.{Route}
+use Rattle.route.specs.declared.BestMatch.{BestMatch}
+use Rattle.route.specs.declared.BestMatch.the-variants.{Nothing, Found}
 use Rattle.route.specs.declared.Neighbours.{Neighbours}
 use Rattle.route.specs.declared.Neighbours.the-variants.{Nobody, One, Several}
 use Rattle.route.specs.Route.{rises}
@@ -32,3 +34,8 @@ unfoldable pub agrees : Neighbours → ℕ → Bool
 agrees Nobody n = true
 agrees (One m) n = eqb m n
 agrees Several n = false
+
+-- There is a best match, it has the announcement's originator, and all neighbour ASes noted are its own.
+unfoldable pub validated : BestMatch → ℕ → Neighbours → Bool
+validated Nothing originator seen = false
+validated (Found best) originator seen = eqb (best .originator) originator && agrees seen (best .neighbour)

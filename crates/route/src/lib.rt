@@ -3,8 +3,8 @@ ghost use mathlib.Core.Path.{_≡_};
 ghost use Prim.Native.Nat.{_+_, _≤_};
 ghost use lib.ListN.{length, drop};
 ghost use Rattle.route.specs.Route.{routeAt, routesOf, plainPrefix, rises, soundRoutes};
-ghost use Rattle.route.specs.Feasible.{matched, longer, validated, judged, feasible};
-ghost use Rattle.route.specs.Pass.{risesToNext, added, noted, agrees};
+ghost use Rattle.route.specs.Feasible.{matched, longer, judged, feasible};
+ghost use Rattle.route.specs.Pass.{risesToNext, added, noted, agrees, validated};
 ghost use Rattle.rule.specs.Family.{ipv4};
 ghost use Rattle.route.specs.Destination.{destinationFor, destinationOf};
 use prefix::Prefix;
@@ -174,7 +174,7 @@ fn all_agree(seen: Neighbours, neighbour: u32) -> bool
 
 // Whether the best match has the originator, and no other neighbour AS than its own was seen.
 fn is_validated(best: BestMatch, originator: u32, seen: Neighbours) -> bool
-    ensures { λ r. ⌜ r ≡ validated best originator (agrees seen) ⌝ }
+    ensures { λ r. ⌜ r ≡ validated best originator seen ⌝ }
 {
     let BestMatch::Found(route) = best else {
         return false;
