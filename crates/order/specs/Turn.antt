@@ -1,4 +1,5 @@
 -- One turn of a comparison, as the code makes it: what it finds, and how that stands to what is left of both values.
+-- No promise names these words.
 use Prim.Native.Nat.{ℕ, _<_, _≤_}
 use mathlib.Core.Path.{_≡_}
 use mathlib.Core.List.{List}
