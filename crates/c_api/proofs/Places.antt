@@ -41,7 +41,7 @@ use Rattle.flowspec.specs.declared.Looked.{Looked}
 use Rattle.flowspec.specs.declared.Looked.the-variants.{Judged, Refused as NotLookedUp}
 use Rattle.flowspec.specs.Told.{changeTold}
 use Rattle.flowspec.specs.Compare.{comparisonOf, compareRead, compareRules}
-use Rattle.flowspec.specs.Feasibility.{readWithRoutes, isFeasible, judged, judgeRead, judgement}
+use Rattle.flowspec.specs.Feasibility.{readWithRoutes, isFeasible, feasibilityOf, judgeRead, judgement}
 use Rattle.flowspec.specs.Announce.{announcedEntry, changeOf, askedBy, asked, announcedBy, announcing, withdrawnBy, withdrawing}
 use Rattle.flowspec.specs.Look.{shown, seen, lookedUp, lookingUp}
 
@@ -92,7 +92,7 @@ pub not-feasible : (relaxed : Bool) (words rule : List ℕ) (originator number p
 unfolding judgement
 not-feasible relaxed words rule originator number place e = subst Judges e (go (readWithRoutes words rule) (with-says words rule))
   where
-    verdict : (b : Bool) → Judges (judged b)
+    verdict : (b : Bool) → Judges (feasibilityOf b)
     verdict true = tt
     verdict false = placeless 8 (omega arith) (omega arith)
 

@@ -18,7 +18,7 @@ use Rattle.route.specs.Destination.{destinationOf}
 use Rattle.route.specs.Feasible.{feasible}
 use Rattle.flowspec.specs.declared.Feasibility.{Feasibility}
 use Rattle.flowspec.specs.declared.Feasibility.the-variants.{Refused}
-use Rattle.flowspec.specs.Feasibility.{readWithRoutes, isFeasible, judged, judgement}
+use Rattle.flowspec.specs.Feasibility.{readWithRoutes, isFeasible, feasibilityOf, judgement}
 use Rattle.flowspec.specs.Told.{feasibilityTold}
 use Rattle.flowspec.specs.Promise.{JudgesOne}
 
@@ -57,7 +57,7 @@ module _ (relaxed : Bool) (words rule : List ℕ) (originator : ℕ) (reading : 
   judge-refused number place e = kept _ (rw (← read, e))
 
   pub judge-read : (start size : ℕ) (feasibly : Bool) (answer : Feasibility) → reading ≡ Rule start size
-      → feasibly ≡ isFeasible relaxed words (valueOf rule start (start + size - start)) originator → answer ≡ judged feasibly
+      → feasibly ≡ isFeasible relaxed words (valueOf rule start (start + size - start)) originator → answer ≡ feasibilityOf feasibly
       → JudgesOne relaxed words rule originator answer (words ∷ rule ∷ [])
   unfolding judgement
   judge-read start size feasibly answer e f a = kept answer (a ∙ rw (← read, e, f, add-sub-cancel-left start size))

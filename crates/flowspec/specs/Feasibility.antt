@@ -21,14 +21,14 @@ unfoldable pub isFeasible : Bool → List ℕ → List ℕ → ℕ → Bool
 isFeasible relaxed words value originator = feasible 32 relaxed (destinationOf ipv4 value) originator (routesOf words)
 
 -- Infeasible is refusal 8.
-abbrev pub judged : Bool → Feasibility
-judged true = Feasible
-judged false = Refused 8 0
+abbrev pub feasibilityOf : Bool → Feasibility
+feasibilityOf true = Feasible
+feasibilityOf false = Refused 8 0
 
 -- A rule that was refused is refused so; a rule that was read is judged.
 abbrev pub judgeRead : Bool → List ℕ → List ℕ → ℕ → Reading → Feasibility
 judgeRead relaxed words rule originator (NotRead number place) = Refused number place
-judgeRead relaxed words rule originator (Rule start size) = judged (isFeasible relaxed words (valueOf rule start size) originator)
+judgeRead relaxed words rule originator (Rule start size) = feasibilityOf (isFeasible relaxed words (valueOf rule start size) originator)
 
 -- 01: "feasibility alone 9, 1 to 7, 15, 8".
 unfoldable pub judgement : Bool → List ℕ → List ℕ → ℕ → Feasibility

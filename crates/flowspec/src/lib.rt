@@ -3,7 +3,7 @@
 ghost use mathlib.Core.Path.{_≡_};
 ghost use mathlib.Core.List.{[], _∷_};
 ghost use Rattle.flowspec.specs.Compare.{comparisonOf};
-ghost use Rattle.flowspec.specs.Feasibility.{readWithRoutes, isFeasible, judged};
+ghost use Rattle.flowspec.specs.Feasibility.{readWithRoutes, isFeasible, feasibilityOf};
 ghost use Rattle.flowspec.specs.Promise.{ReadsOne, WritesOne, ComparesTwo, JudgesOne, ReadsActions, Announces, Withdraws, LooksUp, LocatesFirst, FirstMatches};
 ghost use Rattle.flowspec.specs.Announce.{changeOf, asked};
 ghost use Rattle.flowspec.specs.Look.{seen};
@@ -141,7 +141,7 @@ fn is_feasible(relaxed: bool, routes: &[u32], value: &[u8], originator: u32) -> 
 
 // What is answered of a rule that was judged: infeasible is refusal 8.
 fn feasibility_of(feasible: bool) -> Feasibility
-    ensures { λ r. ⌜ r ≡ judged feasible ⌝ }
+    ensures { λ r. ⌜ r ≡ feasibilityOf feasible ⌝ }
 {
     if feasible {
         return Feasibility::Feasible;
