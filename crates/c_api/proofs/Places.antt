@@ -87,18 +87,18 @@ with-says words rule =
     go (NotRead number place) h = h
     go (Rule start size) h = tt
 
-pub not-feasible : (relaxed : Bool) (words rule : List ℕ) (originator number place : ℕ) → judgement relaxed words rule originator ≡ NotFeasible number place
+pub not-feasible : (setting : Bool) (words rule : List ℕ) (originator number place : ℕ) → judgement setting words rule originator ≡ NotFeasible number place
     → Refusal number place
 unfolding judgement
-not-feasible relaxed words rule originator number place e = subst Judges e (go (readWithRoutes words rule) (with-says words rule))
+not-feasible setting words rule originator number place e = subst Judges e (go (readWithRoutes words rule) (with-says words rule))
   where
     verdict : (b : Bool) → Judges (feasibilityOf b)
     verdict true = tt
     verdict false = placeless 8 (omega arith) (omega arith)
 
-    go : (r : Reading) → Reads r → Judges (judgeRead relaxed words rule originator r)
+    go : (r : Reading) → Reads r → Judges (judgeRead setting words rule originator r)
     go (NotRead number place) h = h
-    go (Rule start size) h = verdict (isFeasible relaxed words (valueOf rule start size) originator)
+    go (Rule start size) h = verdict (isFeasible setting words (valueOf rule start size) originator)
 
 -- ---- announcing and withdrawing ----
 
@@ -120,22 +120,22 @@ abbrev Asks : Request → Type 0
 Asks (NotAsked number place) = Refusal number place
 Asks (Announce start size actions feasible) = Unit {0}
 
-module _ (relaxed : Bool) (words rule : List ℕ) (originator : ℕ) (communities : List ℕ) where
-  asks : Asks (asked relaxed words rule originator communities)
+module _ (setting : Bool) (words rule : List ℕ) (originator : ℕ) (communities : List ℕ) where
+  asks : Asks (asked setting words rule originator communities)
   unfolding asked
   asks = go (readWithRoutes words rule) (with-says words rule) (actionsOf communities)
     where
-      go : (r : Reading) → Reads r → (a : ActionsReading) → Asks (askedBy relaxed words rule originator r a)
+      go : (r : Reading) → Reads r → (a : ActionsReading) → Asks (askedBy setting words rule originator r a)
       go (NotRead number place) h a = h
       go (Rule start size) h Unsound = placeless 13 (omega arith) (omega arith)
       go (Rule start size) h (Read actions) = tt
 
-  pub not-announced : (t : List ℕ) (number place : ℕ) → announcing relaxed words rule originator communities t .answer ≡ NotChanged number place
+  pub not-announced : (t : List ℕ) (number place : ℕ) → announcing setting words rule originator communities t .answer ≡ NotChanged number place
       → Refusal number place
   unfolding announcing
   not-announced t number place e =
       subst Changes e
-      (by-test (soundTable ipv4 t) (λ s. rw s (go (asked relaxed words rule originator communities) asks))
+      (by-test (soundTable ipv4 t) (λ s. rw s (go (asked setting words rule originator communities) asks))
       (λ s. rw s (placeless 10 (omega arith) (omega arith))))
     where
       told : (n : Entry) (feasible : Bool) → announced ipv4 t n feasible .number ≤ 16

@@ -136,8 +136,8 @@ pub extern "C" fn flowspec4_feasible(
 ) -> u64
     ensures { λ r. ⌜ FeasibleCall (now (routes .entry)) setting (now (rule .entry)) originator r (now (routes .exit) ∷ now (rule .exit) ∷ []) ⌝ }
 {
-    let relaxed = is_on(setting);
-    match flowspec::judge_rule(relaxed, routes, rule, originator) {
+    let on = is_on(setting);
+    match flowspec::judge_rule(on, routes, rule, originator) {
         Feasibility::Refused { number, place } => word_of(number, place),
         Feasibility::Feasible => 0,
     }
@@ -169,8 +169,8 @@ pub extern "C" fn flowspec4_announce(
 ) -> u64
     ensures { λ r. ⌜ AnnounceCall (now (table .entry)) (now (routes .entry)) setting (now (rule .entry)) originator (now (communities .entry)) r (now (table .exit)) (now (routes .exit) ∷ now (rule .exit) ∷ now (communities .exit) ∷ []) ⌝ }
 {
-    let relaxed = is_on(setting);
-    let change = flowspec::announce(table, relaxed, routes, rule, originator, communities);
+    let on = is_on(setting);
+    let change = flowspec::announce(table, on, routes, rule, originator, communities);
     change_word(change)
 }
 

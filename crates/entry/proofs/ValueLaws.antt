@@ -10,9 +10,9 @@ use lib.Dec.{ltb, eqb}
 use lib.ListN.{length, getD, drop, length-drop, drop-of-length-le}
 use lib.Seq.{drop-cons, drop-drop}
 use borrow.Author.Tests.{ltb-true, ltb-false, lt-ltb, lt-leb, eq-eqb, ne-eqb}
-use Rattle.octets.specs.Test.{sameOctets}
+use Rattle.octets.specs.Test.{sameList}
 use Rattle.octets.proofs.Cases.{apart, both, neither}
-use Rattle.octets.proofs.TestLaws.{same-octets, octets-same}
+use Rattle.octets.proofs.TestLaws.{same-list, list-same}
 use Rattle.rule.specs.declared.Family.{Family}
 use Rattle.rule.specs.declared.Checked.{Checked}
 use Rattle.rule.specs.declared.Checked.the-variants.{Accepted, Refused}
@@ -29,28 +29,28 @@ use Rattle.entry.specs.Entry.{Entry, isAccepted, plainValue, possible}
 
 -- whether octets, the first of which is as expected, are their own plain spelling
 abbrev pub plainFromHere : Expected → List ℕ → Bool
-plainFromHere e v = sameOctets (plainFrom e v) v
+plainFromHere e v = sameList (plainFrom e v) v
 
 -- how `is_plain` goes on and comes to each of its answers
-pub plain-starts : (v : List ℕ) → sameOctets (plain v) v ≡ plainFromHere Kind (drop 0 v)
+pub plain-starts : (v : List ℕ) → sameList (plain v) v ≡ plainFromHere Kind (drop 0 v)
 unfolding plain
 plain-starts v = refl
 
 module _ (v : List ℕ) (i : ℕ) (e : Expected) (x : ℕ) (t : Bool) (inside : i < length v) (is : x ≡ cleared e (getD v i 0))
     (so-far : t ≡ plainFromHere e (drop i v)) where
   pub plain-on : (next : Expected) → x ≡ getD v i 0 → next ≡ after e (getD v i 0) → t ≡ plainFromHere next (drop (i + 1) v)
-  unfolding plainFrom sameOctets
+  unfolding plainFrom sameList
   plain-on next same then =
-      so-far ∙ rw (drop-cons v i 0 inside, plainFrom, sameOctets, ← is, eq-eqb x (getD v i 0) same, then, add-one)
+      so-far ∙ rw (drop-cons v i 0 inside, plainFrom, sameList, ← is, eq-eqb x (getD v i 0) same, then, add-one)
 
   pub plain-not : (x ≡ getD v i 0 → ⊥) → false ≡ t
-  unfolding plainFrom sameOctets
-  plain-not other = sym (so-far ∙ rw (drop-cons v i 0 inside, plainFrom, sameOctets, ← is, ne-eqb x (getD v i 0) other))
+  unfolding plainFrom sameList
+  plain-not other = sym (so-far ∙ rw (drop-cons v i 0 inside, plainFrom, sameList, ← is, ne-eqb x (getD v i 0) other))
 
   -- and on behind what is passed over
   module _ (next : Expected) (same : x ≡ getD v i 0) (then : next ≡ after e (getD v i 0)) (passed : Passed) (passes : Passes next passed) where
     pub plain-past : length v - (i + 1) < passed .size → true ≡ t
-    unfolding plainFrom sameOctets
+    unfolding plainFrom sameList
     plain-past short =
         let all : length (drop (i + 1) v) ≤ passed .size = simp length-drop (omega arith) in
         let none : drop (passed .size) (drop (i + 1) v) ≡ [] = drop-of-length-le (drop (i + 1) v) all in
@@ -61,22 +61,22 @@ module _ (v : List ℕ) (i : ℕ) (e : Expected) (x : ℕ) (t : Bool) (inside : 
 
 -- octets of a prefix before its last one
 pub address-passes : (n left : ℕ) → 8 * n < left → (s : List ℕ) → plainFromHere (Address left) s ≡ plainFromHere (Address (left - 8 * n)) (drop n s)
-unfolding plainFrom sameOctets after cleared
+unfolding plainFrom sameList after cleared
 address-passes zero left h s = let e : left - 8 * 0 ≡ left = omega arith in rw e
 address-passes (suc n) left h [] = refl
 address-passes (suc n) left h (x ∷ s) =
     let e : left - 8 * suc n ≡ left - 8 - 8 * n = omega arith in
-    rw (plainFrom, sameOctets, ← whole-octet left x (omega arith), eq-eqb x x refl, lt-leb left 8 (omega arith), e) (address-passes n (left - 8) (omega arith) s)
+    rw (plainFrom, sameList, ← whole-octet left x (omega arith), eq-eqb x x refl, lt-leb left 8 (omega arith), e) (address-passes n (left - 8) (omega arith) s)
 
 -- octets of a value
 pub operand-passes : (kind n : ℕ) (last : Bool) → eqb kind 11 ≡ false → eqb kind 12 ≡ false → (s : List ℕ)
     → plainFromHere (Operand kind (suc n) last) s ≡ plainFromHere (operandAfter kind 1 last) (drop (suc n) s)
-unfolding plainFrom sameOctets after cleared plainOperand operandAfter
+unfolding plainFrom sameList after cleared plainOperand operandAfter
 operand-passes kind n last h k [] = refl
-operand-passes kind zero last h k (x ∷ s) = rw (plainFrom, sameOctets, h, k, eq-eqb x x refl)
+operand-passes kind zero last h k (x ∷ s) = rw (plainFrom, sameList, h, k, eq-eqb x x refl)
 operand-passes kind (suc n) last h k (x ∷ s) =
     let more : suc (suc n) - 1 ≡ suc n = omega arith in
-    rw (plainFrom, sameOctets, h, k, eq-eqb x x refl, lt-ltb 1 (suc (suc n)) (omega arith), more) (operand-passes kind n last h k s)
+    rw (plainFrom, sameList, h, k, eq-eqb x x refl, lt-ltb 1 (suc (suc n)) (omega arith), more) (operand-passes kind n last h k s)
 
 pub passes-as : (e f : Expected) (passed : Passed) → e ≡ f → Passes f passed → Passes e passed
 passes-as e f passed same h = rw same h
@@ -103,12 +103,12 @@ operand-all kind left last behind f is =
         operand-passes kind n last (kinds .0) (kinds .1) s
 
 pub plain-all : (v : List ℕ) (i : ℕ) (e : Expected) (t : Bool) → length v ≤ i → t ≡ plainFromHere e (drop i v) → true ≡ t
-unfolding plainFrom sameOctets
+unfolding plainFrom sameList
 plain-all v i e t h so-far = sym (so-far ∙ rw (drop-of-length-le v h))
 
 -- how `is_plain_value` comes to each of its answers
 module _ (family given : Family) (same : given ≡ family) (v : List ℕ) (checked : Checked) (is : checked ≡ checkValue given v) where
-  pub value-accepted : (r : Bool) → checked ≡ Accepted → r ≡ sameOctets (plain v) v → r ≡ plainValue family v
+  pub value-accepted : (r : Bool) → checked ≡ Accepted → r ≡ sameList (plain v) v → r ≡ plainValue family v
   unfolding plainValue
   value-accepted r e h = rw (← same, ← is, e) h
 
@@ -130,14 +130,14 @@ accepts-only (Refused number place) e = apart (cc)
 pub held : (family : Family) (v : List ℕ) → plainValue family v ≡ true → Held family v
 unfolding plainValue
 held family v e =
-    let t = both (isAccepted (checkValue family v)) (sameOctets (plain v) v) e in
+    let t = both (isAccepted (checkValue family v)) (sameList (plain v) v) e in
     let ok = accepts-only (checkValue family v) (t .0) in
     let some = accepted-some family v ok in
-    record { accepted = ok; spelled = same-octets (plain v) v (t .1); some = omega arith; small = accepted-small family v ok }
+    record { accepted = ok; spelled = same-list (plain v) v (t .1); some = omega arith; small = accepted-small family v ok }
 
 pub holds : (family : Family) (v : List ℕ) → checkValue family v ≡ Accepted → plain v ≡ v → plainValue family v ≡ true
 unfolding plainValue
-holds family v ok same = rw (ok, same) (octets-same v)
+holds family v ok same = rw (ok, same) (list-same v)
 
 -- what an entry that could be is
 pub record Possible (family : Family) (e : Entry) : Type 0 where

@@ -3,7 +3,7 @@ use Prim.Native.Nat.{ℕ, _^_}
 use mathlib.Core.Bool.{Bool, true, false, _&&_}
 use mathlib.Core.List.{List}
 use lib.Dec.{ltb}
-use Rattle.octets.specs.Test.{sameOctets}
+use Rattle.octets.specs.Test.{sameList}
 use Rattle.rule.specs.declared.Family.{Family}
 use Rattle.rule.specs.declared.Checked.{Checked}
 use Rattle.rule.specs.declared.Checked.the-variants.{Accepted, Refused}
@@ -30,7 +30,7 @@ isAccepted (Refused number place) = false
 
 -- A value that the table may hold: accepted, and in its plain spelling.
 unfoldable pub plainValue : Family → List ℕ → Bool
-plainValue family v = isAccepted (checkValue family v) && sameOctets (plain v) v
+plainValue family v = isAccepted (checkValue family v) && sameList (plain v) v
 
 -- 01: "accepted plain rules and actions": an originator of 32 bits, actions that some communities give, and an accepted plain value.
 unfoldable pub possible : Family → Entry → Bool

@@ -4,7 +4,7 @@ use Prim.Native.Nat.{ℕ, _≤_}
 use mathlib.Core.Path.{_≡_}
 use mathlib.Core.List.{List}
 use lib.ListN.{drop}
-use Rattle.octets.specs.Test.{sameOctets}
+use Rattle.octets.specs.Test.{sameList}
 use Rattle.rule.specs.declared.Expected.{Expected}
 use Rattle.rule.specs.Plain.{plainFrom}
 use Rattle.entry.specs.declared.Passed.{Passed}
@@ -13,4 +13,4 @@ use Rattle.entry.specs.declared.Passed.{Passed}
 -- they are few keeps a place from passing the end of numbers.
 pub record Passes (expected : Expected) (passed : Passed) : Type 0 where
   pub few : passed .size ≤ 32
-  pub same : (s : List ℕ) → sameOctets (plainFrom expected s) s ≡ sameOctets (plainFrom (passed .expected) (drop (passed .size) s)) (drop (passed .size) s)
+  pub same : (s : List ℕ) → sameList (plainFrom expected s) s ≡ sameList (plainFrom (passed .expected) (drop (passed .size) s)) (drop (passed .size) s)

@@ -3,7 +3,7 @@ ghost use mathlib.Core.Path.{_≡_};
 ghost use Prim.Native.Nat.{_+_, _≤_};
 ghost use lib.ListN.{length};
 ghost use Rattle.octets.specs.Store.{stored};
-ghost use Rattle.octets.specs.Test.{sameOctets};
+ghost use Rattle.octets.specs.Test.{sameList};
 ghost use Rattle.rule.specs.Family.{ipv4};
 ghost use Rattle.rule.specs.Plain.{plain};
 ghost use Rattle.action.specs.Actions.{flagsOf};
@@ -170,7 +170,7 @@ fn passed_over(expected: Expected) -> Passed
 
 // Whether octets are their own plain spelling.
 fn is_plain(value: &[u8]) -> bool
-    ensures { λ r. ⌜ r ≡ sameOctets (plain (now (value .entry))) (now (value .entry)) ⌝ }
+    ensures { λ r. ⌜ r ≡ sameList (plain (now (value .entry))) (now (value .entry)) ⌝ }
 {
     let mut expected = Expected::Kind;
     let mut i = 0;

@@ -38,37 +38,37 @@ tie Ordering·lt e = apart (cc)
 tie Ordering·eq e = refl
 tie Ordering·gt e = apart (cc)
 
-module _ (relaxed : Bool) (routes : List ℕ) where
+module _ (setting : Bool) (routes : List ℕ) where
   -- what is known of a counted call about a rule
   record Settled (k : List (List ℕ)) (call : Call) : Type 0 where
     pub can : CanBe call
-    pub about : isAbout keyOrder (entryKey ipv4) k (asks relaxed routes call) ≡ true
+    pub about : isAbout keyOrder (entryKey ipv4) k (asks setting routes call) ≡ true
 
   abbrev SettledLast : List (List ℕ) → Option Made → Type 0
   SettledLast k none = Unit {0}
   SettledLast k (some m) = Settled k (m .call)
 
   last-settled : (k : List (List ℕ)) (h : List Made) (before : Option Made) → EachCanBe h → SettledLast k before
-      → SettledLast k (lastFrom keyOrder (entryKey ipv4) (askedOf relaxed routes) numberOf before k h)
+      → SettledLast k (lastFrom keyOrder (entryKey ipv4) (askedOf setting routes) numberOf before k h)
   last-settled k [] before can settled = settled
   last-settled k (m ∷ h) before can settled =
-      let counted = isCounted keyOrder (entryKey ipv4) (askedOf relaxed routes) numberOf k m in
+      let counted = isCounted keyOrder (entryKey ipv4) (askedOf setting routes) numberOf k m in
       last-settled k h (cond counted (some m) before) (can .1)
       (by-test counted (λ e.
-      rw e (record { can = can .0; about = both (counts (numberOf m)) (isAbout keyOrder (entryKey ipv4) k (askedOf relaxed routes m)) e .1 })) (λ e. rw e settled))
+      rw e (record { can = can .0; about = both (counts (numberOf m)) (isAbout keyOrder (entryKey ipv4) k (askedOf setting routes m)) e .1 })) (λ e. rw e settled))
 
   -- announcements of one rule by one originator with the same actions as read leave the same in force
   module _ (k : List (List ℕ)) (rule other : List ℕ) (originator : ℕ) (communities others : List ℕ) (o : Octets rule) (p : Octets other)
       (read : actionsOf communities ≡ actionsOf others) where
-    same-announced : (q r : Request) → asked relaxed routes rule originator communities ≡ q → asked relaxed routes other originator others ≡ r
+    same-announced : (q r : Request) → asked setting routes rule originator communities ≡ q → asked setting routes other originator others ≡ r
         → isAbout keyOrder (entryKey ipv4) k (asksToAnnounce rule originator q) ≡ true
         → isAbout keyOrder (entryKey ipv4) k (asksToAnnounce other originator r) ≡ true
         → inForce (asksToAnnounce rule originator q) ≡ inForce (asksToAnnounce other originator r)
     same-announced (NotAsked number place) r is also a b = apart (cc)
     same-announced (Announce start size actions good) (NotAsked number place) is also a b = apart (cc)
     same-announced (Announce start size actions good) (Announce from extent acts fine) is also a b =
-        let one = asked-from relaxed routes rule originator communities start size actions good is in
-        let two = asked-from relaxed routes other originator others from extent acts fine also in
+        let one = asked-from setting routes rule originator communities start size actions good is in
+        let two = asked-from setting routes other originator others from extent acts fine also in
         let v = octets-value rule start size o in
         let w = octets-value other from extent p in
         let first = key-order .only k (keysOf ipv4 (plain (valueOf rule start size))) (tie _ a) ∙ keys-plain ipv4 (valueOf rule start size) v in
@@ -77,7 +77,7 @@ module _ (relaxed : Bool) (routes : List ℕ) where
         (one-read ipv4 rule start size (one .read) .accepted) (one-read ipv4 other from extent (two .read) .accepted) (sym first ∙ second) in
         let reads : Read actions ≡ Read acts = sym (one .acts) ∙ read ∙ two .acts in
         let same : actions ≡ acts = cc in
-        let judged : good ≡ fine = one .is ∙ feasible-alone relaxed routes (valueOf rule start size) (valueOf other from extent) originator v w values ∙ sym (two .is) in
+        let judged : good ≡ fine = one .is ∙ feasible-alone setting routes (valueOf rule start size) (valueOf other from extent) originator v w values ∙ sym (two .is) in
         rw (judged, same, values)
 
   none-withdrawn : (rule : List ℕ) (r : Reading) → inForce (asksToWithdraw rule r) ≡ none
@@ -85,7 +85,7 @@ module _ (relaxed : Bool) (routes : List ℕ) where
   none-withdrawn rule (NotRead number place) = refl
 
   same-in-force : (k : List (List ℕ)) (call other : Call) → Settled k call → Settled k other → deed call ≡ deed other
-      → inForce (asks relaxed routes call) ≡ inForce (asks relaxed routes other)
+      → inForce (asks setting routes call) ≡ inForce (asks setting routes other)
   same-in-force k (announcement rule originator communities) (withdrawal other) s z e = apart (cc)
   same-in-force k (withdrawal rule) (announcement other originator communities) s z e = apart (cc)
   same-in-force k (withdrawal rule) (withdrawal other) s z e =
@@ -95,15 +95,15 @@ module _ (relaxed : Bool) (routes : List ℕ) where
       let read : actionsOf communities ≡ actionsOf others = cc in
       rw founders
       (same-announced k rule other originator communities others (s .can .0) (z .can .0) read
-      (asked relaxed routes rule originator communities)
-      (asked relaxed routes other originator others)
+      (asked setting routes rule originator communities)
+      (asked setting routes other originator others)
       refl
       refl
       (s .about)
       (rw founders at (z .about)))
 
   same-last : (k : List (List ℕ)) (a b : Option Made) → SettledLast k a → SettledLast k b → deedOf a ≡ deedOf b
-      → leavesInForce (askedOf relaxed routes) a ≡ leavesInForce (askedOf relaxed routes) b
+      → leavesInForce (askedOf setting routes) a ≡ leavesInForce (askedOf setting routes) b
   same-last k none none s z e = refl
   same-last k none (some m) s z e = apart (cc)
   same-last k (some m) none s z e = apart (cc)
@@ -112,13 +112,13 @@ module _ (relaxed : Bool) (routes : List ℕ) where
       same-in-force k (m .call) (l .call) s z deeds
 
   module _ (n : ℕ) (fits : n ≤ mostOctets) (h g : List Made) (can : EachCanBe h) (also : EachCanBe g)
-      (made : Happened relaxed routes (emptyTable n) h) (too : Happened relaxed routes (emptyTable n) g) (agree : Agree relaxed routes h g) where
+      (made : Happened setting routes (emptyTable n) h) (too : Happened setting routes (emptyTable n) g) (agree : Agree setting routes h g) where
     -- **equal octets**
     pub equal-octets : endOf (emptyTable n) h ≡ endOf (emptyTable n) g
     equal-octets =
-        histories-agree relaxed routes n fits h g can also made too
+        histories-agree setting routes n fits h g can also made too
         (λ k.
-        same-last k (lastCounted relaxed routes k h) (lastCounted relaxed routes k g) (last-settled k h none can tt) (last-settled k g none also tt) (agree k))
+        same-last k (lastCounted setting routes k h) (lastCounted setting routes k g) (last-settled k h none can tt) (last-settled k g none also tt) (agree k))
 
     -- **one verdict**, with one count and one set of merged actions, on every packet
     pub equal-verdicts : (packet : List ℕ) (a b : Looked) (k l : List (List ℕ)) → LooksUp (endOf (emptyTable n) h) packet a k

@@ -30,46 +30,46 @@ pub change-refused : (number : ℕ) → (number ≡ 0 → ⊥) → NotChanged nu
 unfolding changeOf
 change-refused number h = rw (ne-eqb number 0 h)
 
-module _ (relaxed : Bool) (words rule : List ℕ) (originator : ℕ) (communities : List ℕ) (reading : Reading) (read-is : reading ≡ readWithRoutes words rule) where
-  pub ask-refused : (number place : ℕ) → reading ≡ NotRead number place → Refused number place ≡ asked relaxed words rule originator communities
+module _ (setting : Bool) (words rule : List ℕ) (originator : ℕ) (communities : List ℕ) (reading : Reading) (read-is : reading ≡ readWithRoutes words rule) where
+  pub ask-refused : (number place : ℕ) → reading ≡ NotRead number place → Refused number place ≡ asked setting words rule originator communities
   unfolding asked
   ask-refused number place e = rw (← read-is, e)
 
   module _ (start size : ℕ) (e : reading ≡ Rule start size) (actions : ActionsReading) (acts : actions ≡ actionsOf communities) where
-    pub ask-actions : actions ≡ Unsound → Refused 13 0 ≡ asked relaxed words rule originator communities
+    pub ask-actions : actions ≡ Unsound → Refused 13 0 ≡ asked setting words rule originator communities
     unfolding asked
     ask-actions h = rw (← read-is, e, ← acts, h)
 
     pub ask-announce : (read : Actions) (judged : Bool) → actions ≡ Read read
-        → judged ≡ isFeasible relaxed words (valueOf rule start (start + size - start)) originator
-        → Announce start size read judged ≡ asked relaxed words rule originator communities
+        → judged ≡ isFeasible setting words (valueOf rule start (start + size - start)) originator
+        → Announce start size read judged ≡ asked setting words rule originator communities
     unfolding asked
     ask-announce read judged h j = rw (← read-is, e, ← acts, h, j, add-sub-cancel-left start size)
 
 -- what an announcement that asks for an entry was read from, and how it was judged
-pub record Asked (relaxed : Bool) (words rule : List ℕ) (originator : ℕ) (communities : List ℕ) (start size : ℕ) (actions : Actions) (judged : Bool) : Type 0 where
+pub record Asked (setting : Bool) (words rule : List ℕ) (originator : ℕ) (communities : List ℕ) (start size : ℕ) (actions : Actions) (judged : Bool) : Type 0 where
   pub read : oneRule ipv4 rule ≡ Rule start size
   pub acts : actionsOf communities ≡ Read actions
-  pub is : judged ≡ isFeasible relaxed words (valueOf rule start size) originator
+  pub is : judged ≡ isFeasible setting words (valueOf rule start size) originator
 
-module _ (relaxed : Bool) (words rule : List ℕ) (originator : ℕ) (communities : List ℕ) (start size : ℕ) (actions : Actions) (judged : Bool) where
-  pub asked-from : asked relaxed words rule originator communities ≡ Announce start size actions judged
-      → Asked relaxed words rule originator communities start size actions judged
+module _ (setting : Bool) (words rule : List ℕ) (originator : ℕ) (communities : List ℕ) (start size : ℕ) (actions : Actions) (judged : Bool) where
+  pub asked-from : asked setting words rule originator communities ≡ Announce start size actions judged
+      → Asked setting words rule originator communities start size actions judged
   unfolding asked
   asked-from e =
       go (readWithRoutes words rule) refl (actionsOf communities) refl e
     where
       go : (r : Reading) → readWithRoutes words rule ≡ r → (a : ActionsReading) → actionsOf communities ≡ a
-          → askedBy relaxed words rule originator r a ≡ Announce start size actions judged
-          → Asked relaxed words rule originator communities start size actions judged
+          → askedBy setting words rule originator r a ≡ Announce start size actions judged
+          → Asked setting words rule originator communities start size actions judged
       go (NotRead number place) f a g z = apart (cc)
       go (Rule begin extent) f Unsound g z = apart (cc)
       go (Rule begin extent) f (Read read) g z =
           let starts : begin ≡ start = cc in
           let sizes : extent ≡ size = cc in
           let reads : read ≡ actions = cc in
-          let judges : isFeasible relaxed words (valueOf rule begin extent) originator ≡ judged = cc in
+          let judges : isFeasible setting words (valueOf rule begin extent) originator ≡ judged = cc in
           record { read = with-routes words rule start size (f ∙ rw (starts, sizes)); acts = g ∙ rw reads; is = sym judges ∙ rw (starts, sizes) }
 
-  pub asked-rule : asked relaxed words rule originator communities ≡ Announce start size actions judged → ReadRule ipv4 rule start size
+  pub asked-rule : asked setting words rule originator communities ≡ Announce start size actions judged → ReadRule ipv4 rule start size
   asked-rule e = one-read ipv4 rule start size (asked-from e .read)

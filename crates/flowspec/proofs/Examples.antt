@@ -1,7 +1,7 @@
 -- **The one claim about 01's marked examples**: the definitions give every question of the list the numbers it expects. Assumes nothing.
 use mathlib.Core.Path.{_≡_, refl}
 use mathlib.Core.List.{[], _∷_, map}
-use Rattle.octets.specs.Test.{every, oneHolds, sameOctets}
+use Rattle.octets.specs.Test.{every, oneHolds, sameList}
 use Rattle.octets.specs.Number.{numberAt}
 use Rattle.octets.specs.Walk.{walk}
 use Rattle.prefix.specs.Prefix.{bits, contains, prefixOrder, prefixOf}
@@ -25,7 +25,7 @@ use Rattle.flowspec.specs.Examples.{Example, answerTo, examples}
 
 pub marked : map (λ (e : Example). answerTo (e .asks)) examples ≡ map (λ (e : Example). e .expects) examples
 unfolding
-    answerTo numberAt walk bits sameOctets contains prefixOrder prefixOf endsList sizeOf isPrefix isBitmask sizeAllowed pairAt pairsFrom prefixEnd bodyEnd componentAt
+    answerTo numberAt walk bits sameList contains prefixOrder prefixOf endsList sizeOf isPrefix isBitmask sizeAllowed pairAt pairsFrom prefixEnd bodyEnd componentAt
     componentsFrom components checkValue bodyOf operandAfter after plainOperator plainOperand plainAddress cleared plainFrom plain fieldSize fieldLength lengthField
     bodyOrder partOrder partsOrder precedence scaled wholePart wholeOf rateOfParts rateOf isUnusable fragmentData transportOctets transportFields fieldsOf packetOf
     numericHolds every oneHolds groupsFrom groups listHolds dataFor holdsFor bodyHolds fieldMatches fieldFor eitherPort componentMatches matches

@@ -120,28 +120,28 @@ Could rule originator (NotAsked number place) = Unit {0}
 Could rule originator (Announce start size actions feasible) =
     possible ipv4 (announcedEntry rule originator start size actions) ≡ true
 
-pub asked-could : (relaxed : Bool) (routes rule : List ℕ) (originator : ℕ) (communities : List ℕ) → Octets rule → originator < 2 ^ 32
-    → Could rule originator (asked relaxed routes rule originator communities)
-asked-could relaxed routes rule originator communities o small =
-    go (asked relaxed routes rule originator communities) refl
+pub asked-could : (setting : Bool) (routes rule : List ℕ) (originator : ℕ) (communities : List ℕ) → Octets rule → originator < 2 ^ 32
+    → Could rule originator (asked setting routes rule originator communities)
+asked-could setting routes rule originator communities o small =
+    go (asked setting routes rule originator communities) refl
   where
-    go : (r : Request) → asked relaxed routes rule originator communities ≡ r → Could rule originator r
+    go : (r : Request) → asked setting routes rule originator communities ≡ r → Could rule originator r
     go (NotAsked number place) e = tt
     go (Announce start size actions feasible) e =
-        let from = asked-from relaxed routes rule originator communities start size actions feasible e in
+        let from = asked-from setting routes rule originator communities start size actions feasible e in
         let octets = octets-value rule start size o in
         make-possible ipv4 (announcedEntry rule originator start size actions) small
         (read-possible communities actions (from .acts))
         (plain-held (valueOf rule start size) octets (one-read ipv4 rule start size (from .read) .accepted))
 
 -- one call
-module _ (relaxed : Bool) (routes : List ℕ) (t : List ℕ) (es : List Entry) (c : Encodes ipv4 t es) where
+module _ (setting : Bool) (routes : List ℕ) (t : List ℕ) (es : List Entry) (c : Encodes ipv4 t es) where
   same-announcing : (rule : List ℕ) (originator : ℕ) (communities : List ℕ) → Octets rule → originator < 2 ^ 32
-      → Same (length t) (announcing relaxed routes rule originator communities t)
-      (apply keyOrder (entryKey ipv4) cost (length t) (asks relaxed routes (announcement rule originator communities)) es)
+      → Same (length t) (announcing setting routes rule originator communities t)
+      (apply keyOrder (entryKey ipv4) cost (length t) (asks setting routes (announcement rule originator communities)) es)
   unfolding announcing
   same-announcing rule originator communities o small =
-      rw (encodes-sound ipv4 t es c) (go (asked relaxed routes rule originator communities) (asked-could relaxed routes rule originator communities o small))
+      rw (encodes-sound ipv4 t es c) (go (asked setting routes rule originator communities) (asked-could setting routes rule originator communities o small))
     where
       go : (r : Request) → Could rule originator r
           → Same (length t) (announcedBy t rule originator r) (apply keyOrder (entryKey ipv4) cost (length t) (asksToAnnounce rule originator r) es)
@@ -150,7 +150,7 @@ module _ (relaxed : Bool) (routes : List ℕ) (t : List ℕ) (es : List Entry) (
           same-announced t es c (announcedEntry rule originator start size actions) feasible ok
 
   same-withdrawing : (rule : List ℕ)
-      → Same (length t) (withdrawing rule t) (apply keyOrder (entryKey ipv4) cost (length t) (asks relaxed routes (withdrawal rule)) es)
+      → Same (length t) (withdrawing rule t) (apply keyOrder (entryKey ipv4) cost (length t) (asks setting routes (withdrawal rule)) es)
   unfolding withdrawing
   same-withdrawing rule = rw (encodes-sound ipv4 t es c) (go (oneRule ipv4 rule))
     where
@@ -158,34 +158,34 @@ module _ (relaxed : Bool) (routes : List ℕ) (t : List ℕ) (es : List Entry) (
       go (NotRead number place) = record { answers = refl; encodes = c; long = refl }
       go (Rule start size) = same-withdrawn t es c (keysOf ipv4 (plain (valueOf rule start size)))
 
-  same-made : (call : Call) (answer : Change) (left : List ℕ) → CanBe call → Promised relaxed routes call t answer left
-      → Same (length t) (record { answer = answer; table = left }) (apply keyOrder (entryKey ipv4) cost (length t) (asks relaxed routes call) es)
+  same-made : (call : Call) (answer : Change) (left : List ℕ) → CanBe call → Promised setting routes call t answer left
+      → Same (length t) (record { answer = answer; table = left }) (apply keyOrder (entryKey ipv4) cost (length t) (asks setting routes call) es)
   same-made (announcement rule originator communities) answer left can p =
       rw (p .is, p .leaves) (same-announcing rule originator communities (can .0) (can .1))
   same-made (withdrawal rule) answer left can p = rw (p .is, p .leaves) (same-withdrawing rule)
 
 -- any history: the table at its end encodes the entries that the same calls leave on lists, and each call was answered as it is there
-module _ (relaxed : Bool) (routes : List ℕ) where
+module _ (setting : Bool) (routes : List ℕ) where
   step : (n : ℕ) (m : Made) (t : List ℕ) (es : List Entry) → Encodes ipv4 t es → length t ≡ n → CanBe (m .call)
-      → Promised relaxed routes (m .call) t (m .answer) (m .left)
-      → Same n (record { answer = m .answer; table = m .left }) (apply keyOrder (entryKey ipv4) cost n (askedOf relaxed routes m) es)
+      → Promised setting routes (m .call) t (m .answer) (m .left)
+      → Same n (record { answer = m .answer; table = m .left }) (apply keyOrder (entryKey ipv4) cost n (askedOf setting routes m) es)
   step n m t es c long can made =
       subst
-      (λ (size : ℕ). Same size (record { answer = m .answer; table = m .left }) (apply keyOrder (entryKey ipv4) cost size (askedOf relaxed routes m) es))
+      (λ (size : ℕ). Same size (record { answer = m .answer; table = m .left }) (apply keyOrder (entryKey ipv4) cost size (askedOf setting routes m) es))
       long
-      (same-made relaxed routes t es c (m .call) (m .answer) (m .left) can made)
+      (same-made setting routes t es c (m .call) (m .answer) (m .left) can made)
 
   record Follows (n : ℕ) (h : List Made) (t : List ℕ) (es : List Entry) : Type 0 where
-    pub encodes : Encodes ipv4 (endOf t h) (run keyOrder (entryKey ipv4) cost n (askedOf relaxed routes) h es)
+    pub encodes : Encodes ipv4 (endOf t h) (run keyOrder (entryKey ipv4) cost n (askedOf setting routes) h es)
     pub long : length (endOf t h) ≡ n
-    pub ran : Ran keyOrder (entryKey ipv4) cost n (askedOf relaxed routes) numberOf h es
+    pub ran : Ran keyOrder (entryKey ipv4) cost n (askedOf setting routes) numberOf h es
 
-  follows : (n : ℕ) (h : List Made) (t : List ℕ) (es : List Entry) → Encodes ipv4 t es → length t ≡ n → EachCanBe h → Happened relaxed routes t h
+  follows : (n : ℕ) (h : List Made) (t : List ℕ) (es : List Entry) → Encodes ipv4 t es → length t ≡ n → EachCanBe h → Happened setting routes t h
       → Follows n h t es
   follows n [] t es c long can made = record { encodes = c; long = long; ran = tt }
   follows n (m ∷ h) t es c long can made =
       let same = step n m t es c long (can .0) (made .0) in
-      let rest = follows n h (m .left) (apply keyOrder (entryKey ipv4) cost n (askedOf relaxed routes m) es .table) (same .encodes) (same .long) (can .1) (made .1) in
+      let rest = follows n h (m .left) (apply keyOrder (entryKey ipv4) cost n (askedOf setting routes m) es .table) (same .encodes) (same .long) (can .1) (made .1) in
       record { encodes = rest .encodes; long = rest .long; ran = (same .answers, rest .ran) }
 
 -- the empty table is the encoding of no entries
@@ -198,17 +198,17 @@ empty-encodes n h =
     let long = long-empty n in
     record { short = omega arith; room = omega arith; each = refl; rising = tt; is = rw (long, sub-zero n) }
 
-module _ (relaxed : Bool) (routes : List ℕ) (n : ℕ) (fits : n ≤ mostOctets) where
+module _ (setting : Bool) (routes : List ℕ) (n : ℕ) (fits : n ≤ mostOctets) where
   -- the table after a history that began at an empty table
   abbrev pub after : List Made → List ℕ
   after h = endOf (emptyTable n) h
 
-  module _ (h : List Made) (can : EachCanBe h) (made : Happened relaxed routes (emptyTable n) h) where
+  module _ (h : List Made) (can : EachCanBe h) (made : Happened setting routes (emptyTable n) h) where
     abbrev left : List Entry
-    left = run keyOrder (entryKey ipv4) cost n (askedOf relaxed routes) h []
+    left = run keyOrder (entryKey ipv4) cost n (askedOf setting routes) h []
 
-    followed : Follows relaxed routes n h (emptyTable n) []
-    followed = follows relaxed routes n h (emptyTable n) [] (empty-encodes n fits) (long-empty n) can made
+    followed : Follows setting routes n h (emptyTable n) []
+    followed = follows setting routes n h (emptyTable n) [] (empty-encodes n fits) (long-empty n) can made
 
     entries-left : entries (after h) ≡ left
     entries-left = encodes-entries ipv4 (after h) left (followed .encodes)
@@ -218,15 +218,15 @@ module _ (relaxed : Bool) (routes : List ℕ) (n : ℕ) (fits : n ≤ mostOctets
     history-sound = rw entries-left (followed .encodes)
 
     -- **the table holds exactly what is in force**: an entry stands in it where it is what its rule's last counted call left in force
-    pub history-holds : (e : Entry) → List·Memᴰ e (entries (after h)) ↔ (inForceAfter relaxed routes h (entryKey ipv4 e) ≡ some e)
+    pub history-holds : (e : Entry) → List·Memᴰ e (entries (after h)) ↔ (inForceAfter setting routes h (entryKey ipv4 e) ≡ some e)
     history-holds e =
-        rw entries-left (run-holds keyOrder (entryKey ipv4) cost n (askedOf relaxed routes) numberOf key-order h (followed .ran) e)
+        rw entries-left (run-holds keyOrder (entryKey ipv4) cost n (askedOf setting routes) numberOf key-order h (followed .ran) e)
 
   -- **two histories** that leave the same in force for every rule end in equal octets
-  pub histories-agree : (h g : List Made) → EachCanBe h → EachCanBe g → Happened relaxed routes (emptyTable n) h → Happened relaxed routes (emptyTable n) g
-      → ((k : List (List ℕ)) → inForceAfter relaxed routes h k ≡ inForceAfter relaxed routes g k) → after h ≡ after g
+  pub histories-agree : (h g : List Made) → EachCanBe h → EachCanBe g → Happened setting routes (emptyTable n) h → Happened setting routes (emptyTable n) g
+      → ((k : List (List ℕ)) → inForceAfter setting routes h k ≡ inForceAfter setting routes g k) → after h ≡ after g
   histories-agree h g can also made too agree =
       let first = followed h can made in
       let second = followed g also too in
-      let same = run-agree keyOrder (entryKey ipv4) cost n (askedOf relaxed routes) numberOf key-order h g (first .ran) (second .ran) agree in
+      let same = run-agree keyOrder (entryKey ipv4) cost n (askedOf setting routes) numberOf key-order h g (first .ran) (second .ran) agree in
       first .encodes .is ∙ ap₂ tableOf (first .long ∙ sym (second .long)) same ∙ sym (second .encodes .is)

@@ -84,24 +84,24 @@ module _ (t : List ℕ) (c : Encodes ipv4 t (entries t)) where
     inserted-either x fine space differ has long =
         rw (entries-with, with-entry e ok room .1, has, long) (ap (tableOf (length t)) (sym (insert-swap keyOrder (entryKey ipv4) key-order e x (entries t) (c .rising) differ)))
 
-module _ (relaxed : Bool) (routes rule : List ℕ) (originator : ℕ) (communities : List ℕ) where
+module _ (setting : Bool) (routes rule : List ℕ) (originator : ℕ) (communities : List ℕ) where
   -- what a done announcement asked, what it found, and what it left
   record Stored (t left : List ℕ) : Type 0 where
     pub start : ℕ
     pub size : ℕ
     pub actions : Actions
-    pub asks : asked relaxed routes rule originator communities ≡ Announce start size actions true
+    pub asks : asked setting routes rule originator communities ≡ Announce start size actions true
     pub sound : soundTable ipv4 t ≡ true
     pub room : hasRoom ipv4 t (announcedEntry rule originator start size actions) ≡ true
     pub is : left ≡ inserted ipv4 t (announcedEntry rule originator start size actions)
 
-  done-stored : (t left : List ℕ) (kept : List (List ℕ)) → Announces relaxed routes rule originator communities t Done left kept → Stored t left
+  done-stored : (t left : List ℕ) (kept : List (List ℕ)) → Announces setting routes rule originator communities t Done left kept → Stored t left
   unfolding announcing changeOf
   done-stored t left kept p =
-      by-test (soundTable ipv4 t) (λ s. go s (asked relaxed routes rule originator communities) refl (rw s at (p .is)) (rw s at (p .leaves)))
+      by-test (soundTable ipv4 t) (λ s. go s (asked setting routes rule originator communities) refl (rw s at (p .is)) (rw s at (p .leaves)))
       (λ s. let z : Done ≡ Refused 10 0 = rw s at (p .is) in apart (cc))
     where
-      go : soundTable ipv4 t ≡ true → (r : Request) → asked relaxed routes rule originator communities ≡ r → Done ≡ announcedBy t rule originator r .answer
+      go : soundTable ipv4 t ≡ true → (r : Request) → asked setting routes rule originator communities ≡ r → Done ≡ announcedBy t rule originator r .answer
           → left ≡ announcedBy t rule originator r .table → Stored t left
       go s (NotAsked number place) e a l = apart (cc)
       go s (Announce start size actions false) e a l = let z : Done ≡ Refused 8 0 = a in apart (cc)
@@ -110,9 +110,9 @@ module _ (relaxed : Bool) (routes rule : List ℕ) (originator : ℕ) (communiti
           (λ h. record { start = start; size = size; actions = actions; asks = e; sound = s; room = h; is = rw h at l })
           (λ h. let z : Done ≡ Refused 11 0 = rw h at a in apart (cc))
 
-  stores : (t : List ℕ) (start size : ℕ) (actions : Actions) → asked relaxed routes rule originator communities ≡ Announce start size actions true
+  stores : (t : List ℕ) (start size : ℕ) (actions : Actions) → asked setting routes rule originator communities ≡ Announce start size actions true
       → soundTable ipv4 t ≡ true → hasRoom ipv4 t (announcedEntry rule originator start size actions) ≡ true
-      → announcing relaxed routes rule originator communities t ≡ record { answer = Done; table = inserted ipv4 t (announcedEntry rule originator start size actions) }
+      → announcing setting routes rule originator communities t ≡ record { answer = Done; table = inserted ipv4 t (announcedEntry rule originator start size actions) }
   unfolding announcing changeOf
   stores t start size actions e s h = rw (s, e, h)
 
@@ -127,7 +127,7 @@ module _ (relaxed : Bool) (routes rule : List ℕ) (originator : ℕ) (communiti
       rw (starts, sizes, acts)
 
   module _ (o : Octets rule) (small : originator < 2 ^ 32) (t : List ℕ) (octets : Octets t) (left : List ℕ) (kept : List (List ℕ))
-      (done : Announces relaxed routes rule originator communities t Done left kept) where
+      (done : Announces setting routes rule originator communities t Done left kept) where
     stored : Stored t left
     stored = done-stored t left kept done
 
@@ -138,20 +138,20 @@ module _ (relaxed : Bool) (routes rule : List ℕ) (originator : ℕ) (communiti
     before = sound-encodes ipv4 t octets (stored .sound)
 
     could : possible ipv4 entered ≡ true
-    could = rw (stored .asks) at (asked-could relaxed routes rule originator communities o small)
+    could = rw (stored .asks) at (asked-could setting routes rule originator communities o small)
 
     -- **the same announcement twice**: the second is done too, and changes nothing
-    pub announced-twice : (answer : Change) (exit : List ℕ) (held : List (List ℕ)) → Announces relaxed routes rule originator communities left answer exit held
+    pub announced-twice : (answer : Change) (exit : List ℕ) (held : List (List ℕ)) → Announces setting routes rule originator communities left answer exit held
         → (answer ≡ Done) × (exit ≡ left)
     announced-twice answer exit held q =
         let again = stores (inserted ipv4 t entered) (stored .start) (stored .size) (stored .actions) (stored .asks) (sound-with t before entered could (stored .room)) (room-again t before entered could (stored .room)) in
-        let asks = ap (announcing relaxed routes rule originator communities) (stored .is) ∙ again in (
+        let asks = ap (announcing setting routes rule originator communities) (stored .is) ∙ again in (
           q .is ∙ ap (λ (x : Outcome). x .answer) asks,
           q .leaves ∙ ap (λ (x : Outcome). x .table) asks ∙ inserted-again t before entered could (stored .room) ∙ sym (stored .is),
         )
 
     read : oneRule ipv4 rule ≡ Rule (stored .start) (stored .size)
-    read = asked-from relaxed routes rule originator communities (stored .start) (stored .size) (stored .actions) true (stored .asks) .read
+    read = asked-from setting routes rule originator communities (stored .start) (stored .size) (stored .actions) true (stored .asks) .read
 
     -- withdrawing from a table that holds the rule, and from any sound one
     withdraws : soundTable ipv4 (inserted ipv4 t entered) ≡ true → holds ipv4 (inserted ipv4 t entered) (entryKey ipv4 entered) ≡ true
@@ -189,27 +189,27 @@ same-rule rule other start size begin extent o p found also same =
     let tie : precedence ipv4 v w ≡ Ordering·eq = one-order ipv4 4 refl v w first second ∙ rw keys (key-order .same (keysOf ipv4 w)) in
     rw (found, also, tie)
 
-module _ (relaxed : Bool) (routes rule : List ℕ) (originator : ℕ) (communities other : List ℕ) (founder : ℕ) (others : List ℕ)
+module _ (setting : Bool) (routes rule : List ℕ) (originator : ℕ) (communities other : List ℕ) (founder : ℕ) (others : List ℕ)
     (o : Octets rule) (small : originator < 2 ^ 32) (p : Octets other) (little : founder < 2 ^ 32) (t : List ℕ) (octets : Octets t) where
   -- **two announcements of different rules**, done in either order, leave equal octets
   pub announced-either-way : (compareRules rule other ≡ Same → ⊥) → (first both second all : List ℕ) (k l m n : List (List ℕ))
-      → Announces relaxed routes rule originator communities t Done first k → Announces relaxed routes other founder others first Done both l
-      → Announces relaxed routes other founder others t Done second m → Announces relaxed routes rule originator communities second Done all n
+      → Announces setting routes rule originator communities t Done first k → Announces setting routes other founder others first Done both l
+      → Announces setting routes other founder others t Done second m → Announces setting routes rule originator communities second Done all n
       → both ≡ all
   announced-either-way differ first both second all k l m n a b c d =
-      let x = stored relaxed routes rule originator communities o small t octets first k a in
-      let y = stored relaxed routes other founder others p little t octets second m c in
-      let z = done-stored relaxed routes other founder others first both l b in
-      let w = done-stored relaxed routes rule originator communities second all n d in
-      let e = entered relaxed routes rule originator communities o small t octets first k a in
-      let f = entered relaxed routes other founder others p little t octets second m c in
-      let can = could relaxed routes rule originator communities o small t octets first k a in
-      let also = could relaxed routes other founder others p little t octets second m c in
-      let whole = before relaxed routes rule originator communities o small t octets first k a in
+      let x = stored setting routes rule originator communities o small t octets first k a in
+      let y = stored setting routes other founder others p little t octets second m c in
+      let z = done-stored setting routes other founder others first both l b in
+      let w = done-stored setting routes rule originator communities second all n d in
+      let e = entered setting routes rule originator communities o small t octets first k a in
+      let f = entered setting routes other founder others p little t octets second m c in
+      let can = could setting routes rule originator communities o small t octets first k a in
+      let also = could setting routes other founder others p little t octets second m c in
+      let whole = before setting routes rule originator communities o small t octets first k a in
       let apart-keys : entryKey ipv4 e ≡ entryKey ipv4 f → ⊥ = λ same.
-      differ (same-rule rule other (x .start) (x .size) (y .start) (y .size) o p (read relaxed routes rule originator communities o small t octets first k a)
-      (read relaxed routes other founder others p little t octets second m c) same) in
+      differ (same-rule rule other (x .start) (x .size) (y .start) (y .size) o p (read setting routes rule originator communities o small t octets first k a)
+      (read setting routes other founder others p little t octets second m c) same) in
       let either = inserted-either t whole e can (x .room) f also (y .room) apart-keys (entries-with t whole f also (y .room)) (with-entry t whole f also (y .room) .1) in
-      z .is ∙ ap₂ (inserted ipv4) (x .is) (one-entry relaxed routes other founder others first both t second z y)
+      z .is ∙ ap₂ (inserted ipv4) (x .is) (one-entry setting routes other founder others first both t second z y)
       ∙ either
-      ∙ sym (w .is ∙ ap₂ (inserted ipv4) (y .is) (one-entry relaxed routes rule originator communities second all t first w x))
+      ∙ sym (w .is ∙ ap₂ (inserted ipv4) (y .is) (one-entry setting routes rule originator communities second all t first w x))

@@ -72,13 +72,13 @@ AlikeTo Missing (At q) = ⊥
 AlikeTo (At p) Missing = ⊥
 AlikeTo (At p) (At q) = Alike p q
 
-feasible-alike : (relaxed : Bool) (d e : Destination) (originator : ℕ) (routes : List Route) → AlikeTo d e
-    → feasible 32 relaxed d originator routes ≡ feasible 32 relaxed e originator routes
+feasible-alike : (setting : Bool) (d e : Destination) (originator : ℕ) (routes : List Route) → AlikeTo d e
+    → feasible 32 setting d originator routes ≡ feasible 32 setting e originator routes
 unfolding feasible
-feasible-alike relaxed Missing Missing originator routes same = refl
-feasible-alike relaxed Missing (At q) originator routes same = absurd same
-feasible-alike relaxed (At p) Missing originator routes same = absurd same
-feasible-alike relaxed (At p) (At q) originator routes same =
+feasible-alike setting Missing Missing originator routes same = refl
+feasible-alike setting Missing (At q) originator routes same = absurd same
+feasible-alike setting (At p) Missing originator routes same = absurd same
+feasible-alike setting (At p) (At q) originator routes same =
     judged-alike 32 p q originator routes routes (best-alike p q same routes) (undisputed-alike p q same routes)
 
 -- the prefix of a body in the plain spelling differs past its length at most
@@ -98,15 +98,15 @@ destination-alike (p ∷ ps) o s =
     destination p o s e = body-alike (p .body) o (s .prefix (rw e refl) .within)
 
 -- **a rule is feasible where its plain spelling is**, whatever octets its value is
-pub feasible-plain : (relaxed : Bool) (words v : List ℕ) (originator : ℕ) → Octets v → isFeasible relaxed words (plain v) originator ≡ isFeasible relaxed words v originator
+pub feasible-plain : (setting : Bool) (words v : List ℕ) (originator : ℕ) → Octets v → isFeasible setting words (plain v) originator ≡ isFeasible setting words v originator
 unfolding isFeasible destinationOf
-feasible-plain relaxed words v originator o =
+feasible-plain setting words v originator o =
     rw (components-plain ipv4 v o)
-    (feasible-alike relaxed _ _ originator (routesOf words) (destination-alike (components ipv4 v) (each-octets ipv4 v o) (each-sound ipv4 v)))
+    (feasible-alike setting _ _ originator (routesOf words) (destination-alike (components ipv4 v) (each-octets ipv4 v o) (each-sound ipv4 v)))
 
 -- values of one plain spelling, which are one rule, are judged alike
-pub feasible-alone : (relaxed : Bool) (words v w : List ℕ) (originator : ℕ) → Octets v → Octets w → plain v ≡ plain w
-    → isFeasible relaxed words v originator ≡ isFeasible relaxed words w originator
-feasible-alone relaxed words v w originator o q e =
-    sym (feasible-plain relaxed words v originator o) ∙ ap (λ (x : List ℕ). isFeasible relaxed words x originator) e
-    ∙ feasible-plain relaxed words w originator q
+pub feasible-alone : (setting : Bool) (words v w : List ℕ) (originator : ℕ) → Octets v → Octets w → plain v ≡ plain w
+    → isFeasible setting words v originator ≡ isFeasible setting words w originator
+feasible-alone setting words v w originator o q e =
+    sym (feasible-plain setting words v originator o) ∙ ap (λ (x : List ℕ). isFeasible setting words x originator) e
+    ∙ feasible-plain setting words w originator q

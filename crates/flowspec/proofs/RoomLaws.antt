@@ -33,26 +33,26 @@ use Rattle.flowspec.proofs.HistoryLaws.{octets-value}
 abbrev Not11 : Change → Type 0
 Not11 answer = (place : ℕ) → answer ≡ Refused 11 place → ⊥
 
-module _ (relaxed : Bool) (routes rule : List ℕ) (originator : ℕ) (communities t : List ℕ) (o : Octets t) (octets : Octets rule)
+module _ (setting : Bool) (routes rule : List ℕ) (originator : ℕ) (communities t : List ℕ) (o : Octets t) (octets : Octets rule)
     (start size : ℕ) (read : oneRule ipv4 rule ≡ Rule start size) (held : holds ipv4 t (keysOf ipv4 (plain (valueOf rule start size))) ≡ true) where
-  pub held-not-11 : Not11 (announcing relaxed routes rule originator communities t .answer)
+  pub held-not-11 : Not11 (announcing setting routes rule originator communities t .answer)
   unfolding announcing asked readWithRoutes changeOf
   held-not-11 =
       by-test (soundTable ipv4 t)
       (λ sound. rw sound (by-test (soundRoutes 32 routes) (λ r. rw (readWithRoutes, r, read) (go sound (actionsOf communities))) (λ r. rw (readWithRoutes, r) (λ place e. apart (cc)))))
       (λ sound. rw sound (λ place e. apart (cc)))
     where
-      go : soundTable ipv4 t ≡ true → (a : ActionsReading) → Not11 (announcedBy t rule originator (askedBy relaxed routes rule originator (Rule start size) a) .answer)
+      go : soundTable ipv4 t ≡ true → (a : ActionsReading) → Not11 (announcedBy t rule originator (askedBy setting routes rule originator (Rule start size) a) .answer)
       go sound Unsound = λ place e. apart (cc)
       go sound (Read actions) =
           let v = octets-value rule start size octets in
           let done = held-is-done t o sound (announcedEntry rule originator start size actions)
           (octets-plain (valueOf rule start size) v) (plain-held (valueOf rule start size) v (one-read ipv4 rule start size read .accepted)) held in
-          by-test (isFeasible relaxed routes (valueOf rule start size) originator)
+          by-test (isFeasible setting routes (valueOf rule start size) originator)
           (λ f. rw (f, done) (λ place e. apart (cc)))
           (λ f. rw f (λ place e. apart (cc)))
 
   -- the same of the call, by its promise
-  pub held-announcement : (answer : Change) (exit : List ℕ) (kept : List (List ℕ)) → Announces relaxed routes rule originator communities t answer exit kept
+  pub held-announcement : (answer : Change) (exit : List ℕ) (kept : List (List ℕ)) → Announces setting routes rule originator communities t answer exit kept
       → Not11 answer
   held-announcement answer exit kept promise place e = held-not-11 place (sym (promise .is) ∙ e)

@@ -63,27 +63,27 @@ module _ (t : List ℕ) (s : Soundness) (is : s ≡ soundness ipv4 t) where
 
 -- ---- announcing ----
 
-module _ (relaxed : Bool) (words rule : List ℕ) (originator : ℕ) (communities t : List ℕ) where
+module _ (setting : Bool) (words rule : List ℕ) (originator : ℕ) (communities t : List ℕ) where
   -- a promise from the equation for the outcome
-  announce-kept : (o : Outcome) (answer : Change) (exit : List ℕ) → announcing relaxed words rule originator communities t ≡ o → answer ≡ o .answer → exit ≡ o .table
-      → Announces relaxed words rule originator communities t answer exit (words ∷ rule ∷ communities ∷ [])
+  announce-kept : (o : Outcome) (answer : Change) (exit : List ℕ) → announcing setting words rule originator communities t ≡ o → answer ≡ o .answer → exit ≡ o .table
+      → Announces setting words rule originator communities t answer exit (words ∷ rule ∷ communities ∷ [])
   announce-kept o answer exit e a x =
-      let q : answer ≡ announcing relaxed words rule originator communities t .answer = rw e a in
+      let q : answer ≡ announcing setting words rule originator communities t .answer = rw e a in
       record { is = q; says = ap changeTold q; leaves = rw e x; keeps = refl }
 
   module _ (s : Soundness) (is : s ≡ soundness ipv4 t) where
-    pub announce-unsound : s ≡ Unsound → Announces relaxed words rule originator communities t (NotChanged 10 0) t (words ∷ rule ∷ communities ∷ [])
+    pub announce-unsound : s ≡ Unsound → Announces setting words rule originator communities t (NotChanged 10 0) t (words ∷ rule ∷ communities ∷ [])
     unfolding announcing
     announce-unsound e = announce-kept (refusal 10 0 t) _ _ (rw (was-unsound t s is e)) refl refl
 
-    module _ (used : ℕ) (e : s ≡ Sound used) (request : Request) (asks : request ≡ asked relaxed words rule originator communities) where
-      pub announce-refused : (number place : ℕ) → request ≡ NotAsked number place → Announces relaxed words rule originator communities t (NotChanged number place) t (words ∷ rule ∷ communities ∷ [])
+    module _ (used : ℕ) (e : s ≡ Sound used) (request : Request) (asks : request ≡ asked setting words rule originator communities) where
+      pub announce-refused : (number place : ℕ) → request ≡ NotAsked number place → Announces setting words rule originator communities t (NotChanged number place) t (words ∷ rule ∷ communities ∷ [])
       unfolding announcing
       announce-refused number place f = announce-kept (refusal number place t) _ _ (rw (was-sound t s is used e .0, ← asks, f)) refl refl
 
       module _ (start size : ℕ) (actions : Actions) (feasible : Bool) (f : request ≡ Announce start size actions feasible) where
         pub announce-rule : ReadRule ipv4 rule start size
-        announce-rule = asked-rule relaxed words rule originator communities start size actions feasible (sym asks ∙ f)
+        announce-rule = asked-rule setting words rule originator communities start size actions feasible (sym asks ∙ f)
 
         pub announce-requires : (soundTable ipv4 t ≡ true) × ((checkValue ipv4 (take (start + size - start) (drop start rule)) ≡ Accepted) × (used ≡ costs cost (entries t)))
         announce-requires =
@@ -93,7 +93,7 @@ module _ (relaxed : Bool) (words rule : List ℕ) (originator : ℕ) (communitie
         pub announce-done : (number : ℕ) (answer : Change) (exit : List ℕ)
             → (number ≡ announced ipv4 t (record { originator = originator; actions = actions; value = plain (take (start + size - start) (drop start rule)) }) feasible .number)
             × (exit ≡ announced ipv4 t (record { originator = originator; actions = actions; value = plain (take (start + size - start) (drop start rule)) }) feasible .table)
-            → answer ≡ changeOf number → Announces relaxed words rule originator communities t answer exit (words ∷ rule ∷ communities ∷ [])
+            → answer ≡ changeOf number → Announces setting words rule originator communities t answer exit (words ∷ rule ∷ communities ∷ [])
         unfolding announcing
         announce-done number answer exit h a =
             let k = rw (add-sub-cancel-left start size) at h in

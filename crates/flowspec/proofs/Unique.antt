@@ -24,18 +24,18 @@ module _ (k l : List (List ℕ)) where
   pub one-comparison : (first second : List ℕ) (a b : Comparison) → ComparesTwo first second a k → ComparesTwo first second b l → (a ≡ b) × (k ≡ l)
   one-comparison first second a b p q = (p .is ∙ sym (q .is), p .keeps ∙ sym (q .keeps))
 
-  pub one-judgement : (relaxed : Bool) (routes rule : List ℕ) (originator : ℕ) (a b : Feasibility) → JudgesOne relaxed routes rule originator a k
-      → JudgesOne relaxed routes rule originator b l → (a ≡ b) × (k ≡ l)
-  one-judgement relaxed routes rule originator a b p q = (p .is ∙ sym (q .is), p .keeps ∙ sym (q .keeps))
+  pub one-judgement : (setting : Bool) (routes rule : List ℕ) (originator : ℕ) (a b : Feasibility) → JudgesOne setting routes rule originator a k
+      → JudgesOne setting routes rule originator b l → (a ≡ b) × (k ≡ l)
+  one-judgement setting routes rule originator a b p q = (p .is ∙ sym (q .is), p .keeps ∙ sym (q .keeps))
 
   pub one-reading-of-actions : (communities : List ℕ) (a b : ActionsReading) → ReadsActions communities a k → ReadsActions communities b l
       → (a ≡ b) × (k ≡ l)
   one-reading-of-actions communities a b p q = (p .is ∙ sym (q .is), p .keeps ∙ sym (q .keeps))
 
-  pub one-announcement : (relaxed : Bool) (routes rule : List ℕ) (originator : ℕ) (communities table : List ℕ) (a b : Change) (x y : List ℕ)
-      → Announces relaxed routes rule originator communities table a x k → Announces relaxed routes rule originator communities table b y l
+  pub one-announcement : (setting : Bool) (routes rule : List ℕ) (originator : ℕ) (communities table : List ℕ) (a b : Change) (x y : List ℕ)
+      → Announces setting routes rule originator communities table a x k → Announces setting routes rule originator communities table b y l
       → (a ≡ b) × ((x ≡ y) × (k ≡ l))
-  one-announcement relaxed routes rule originator communities table a b x y p q =
+  one-announcement setting routes rule originator communities table a b x y p q =
       (p .is ∙ sym (q .is), (p .leaves ∙ sym (q .leaves), p .keeps ∙ sym (q .keeps)))
 
   pub one-withdrawal : (rule table : List ℕ) (a b : Change) (x y : List ℕ) → Withdraws rule table a x k → Withdraws rule table b y l

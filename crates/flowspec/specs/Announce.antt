@@ -34,14 +34,14 @@ changeOf number = cond (eqb number 0) Done (NotChanged number 0)
 
 -- What an announcement asks: a rule that is refused is refused so, then unsound actions are 13, then the rule is judged.
 abbrev pub askedBy : Bool → List ℕ → List ℕ → ℕ → Reading → ActionsReading → Request
-askedBy relaxed words rule originator (NotRead number place) actions = NotAsked number place
-askedBy relaxed words rule originator (Rule start size) Unsound = NotAsked 13 0
-askedBy relaxed words rule originator (Rule start size) (Read actions) =
-    Announce start size actions (isFeasible relaxed words (valueOf rule start size) originator)
+askedBy setting routes rule originator (NotRead number place) actions = NotAsked number place
+askedBy setting routes rule originator (Rule start size) Unsound = NotAsked 13 0
+askedBy setting routes rule originator (Rule start size) (Read actions) =
+    Announce start size actions (isFeasible setting routes (valueOf rule start size) originator)
 
 -- The rule is read once the routes are found sound.
 unfoldable pub asked : Bool → List ℕ → List ℕ → ℕ → List ℕ → Request
-asked relaxed words rule originator communities = askedBy relaxed words rule originator (readWithRoutes words rule) (actionsOf communities)
+asked setting routes rule originator communities = askedBy setting routes rule originator (readWithRoutes routes rule) (actionsOf communities)
 
 -- What a change of the table leaves.
 abbrev pub outcome : Changed → Outcome
@@ -63,8 +63,8 @@ announcedBy t rule originator (Announce start size actions feasible) =
 
 -- 01: "Announce checks 10, 9, 1 to 7, 15, 13, 8, 11".
 unfoldable pub announcing : Bool → List ℕ → List ℕ → ℕ → List ℕ → List ℕ → Outcome
-announcing relaxed words rule originator communities t =
-    cond (soundTable ipv4 t) (announcedBy t rule originator (asked relaxed words rule originator communities)) (refusal 10 0 t)
+announcing setting routes rule originator communities t =
+    cond (soundTable ipv4 t) (announcedBy t rule originator (asked setting routes rule originator communities)) (refusal 10 0 t)
 
 -- What a withdrawal leaves in a sound table.
 abbrev pub withdrawnBy : List ℕ → List ℕ → Reading → Outcome

@@ -14,11 +14,11 @@ use Rattle.flowspec.specs.declared.Feasibility.the-variants.{Feasible, R
 
 -- 01: "9, 1 to 7, 15": unsound routes are refused before the rule is read.
 unfoldable pub readWithRoutes : List ℕ → List ℕ → Reading
-readWithRoutes words rule = cond (soundRoutes 32 words) (oneRule ipv4 rule) (NotRead 9 0)
+readWithRoutes routes rule = cond (soundRoutes 32 routes) (oneRule ipv4 rule) (NotRead 9 0)
 
 -- An accepted value is feasible where its destination is, for this originator and by these routes.
 unfoldable pub isFeasible : Bool → List ℕ → List ℕ → ℕ → Bool
-isFeasible relaxed words value originator = feasible 32 relaxed (destinationOf ipv4 value) originator (routesOf words)
+isFeasible setting routes value originator = feasible 32 setting (destinationOf ipv4 value) originator (routesOf routes)
 
 -- Infeasible is refusal 8.
 abbrev pub feasibilityOf : Bool → Feasibility
@@ -27,9 +27,9 @@ feasibilityOf false = Refused 8 0
 
 -- A rule that was refused is refused so; a rule that was read is judged.
 abbrev pub judgeRead : Bool → List ℕ → List ℕ → ℕ → Reading → Feasibility
-judgeRead relaxed words rule originator (NotRead number place) = Refused number place
-judgeRead relaxed words rule originator (Rule start size) = feasibilityOf (isFeasible relaxed words (valueOf rule start size) originator)
+judgeRead setting routes rule originator (NotRead number place) = Refused number place
+judgeRead setting routes rule originator (Rule start size) = feasibilityOf (isFeasible setting routes (valueOf rule start size) originator)
 
 -- 01: "feasibility alone 9, 1 to 7, 15, 8".
 unfoldable pub judgement : Bool → List ℕ → List ℕ → ℕ → Feasibility
-judgement relaxed words rule originator = judgeRead relaxed words rule originator (readWithRoutes words rule)
+judgement setting routes rule originator = judgeRead setting routes rule originator (readWithRoutes routes rule)

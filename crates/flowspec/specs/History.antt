@@ -82,15 +82,15 @@ abbrev pub deedOf : Option Made → Option Deed
 deedOf none = none
 deedOf (some m) = some (deed (m .call))
 
-module _ (relaxed : Bool) (routes : List ℕ) where
+module _ (setting : Bool) (routes : List ℕ) where
   -- What a call asks of a table, by its kind.
   abbrev pub asks : Call → Op (List (List ℕ)) Entry
-  asks (announcement rule originator communities) = asksToAnnounce rule originator (asked relaxed routes rule originator communities)
+  asks (announcement rule originator communities) = asksToAnnounce rule originator (asked setting routes rule originator communities)
   asks (withdrawal rule) = asksToWithdraw rule (oneRule ipv4 rule)
 
   -- A call's promise, with a table at entry.
   abbrev pub Promised : Call → List ℕ → Change → List ℕ → Type 0
-  Promised (announcement rule originator communities) table answer left = Announces relaxed routes rule originator communities table answer left (routes ∷ rule ∷ communities ∷ [])
+  Promised (announcement rule originator communities) table answer left = Announces setting routes rule originator communities table answer left (routes ∷ rule ∷ communities ∷ [])
   Promised (withdrawal rule) table answer left = Withdraws rule table answer left (rule ∷ [])
 
   -- A history from a table on, the oldest call first: each call keeps its promise on the table that the call before it left.

@@ -46,9 +46,9 @@ pub record ComparesTwo (first second : List ℕ) (answer : Comparison) (kept : L
   pub keeps : kept ≡ first ∷ second ∷ []
 
 -- Judging one rule: refusals 9, 1 to 7, 15, 8.
-pub record JudgesOne (relaxed : Bool) (routes rule : List ℕ) (originator : ℕ) (answer : Feasibility) (kept : List (List ℕ)) : Type 0 where
-  pub is : answer ≡ judgement relaxed routes rule originator
-  pub says : feasibilityTold answer ≡ feasibilityTold (judgement relaxed routes rule originator)
+pub record JudgesOne (setting : Bool) (routes rule : List ℕ) (originator : ℕ) (answer : Feasibility) (kept : List (List ℕ)) : Type 0 where
+  pub is : answer ≡ judgement setting routes rule originator
+  pub says : feasibilityTold answer ≡ feasibilityTold (judgement setting routes rule originator)
   pub keeps : kept ≡ routes ∷ rule ∷ []
 
 -- Reading actions: refusal 13.
@@ -59,10 +59,10 @@ pub record ReadsActions (communities : List ℕ) (answer : ActionsReading) (kept
 
 -- Announcing: refusals 10, 9, 1 to 7, 15, 13, 8, 11. The table at exit is the outcome's: changed where done and, at 8, where the rule was
 -- held; every other refusal changes no octet.
-pub record Announces (relaxed : Bool) (routes rule : List ℕ) (originator : ℕ) (communities table : List ℕ) (answer : Change) (exit : List ℕ) (kept : List (List ℕ)) : Type 0 where
-  pub is : answer ≡ announcing relaxed routes rule originator communities table .answer
-  pub says : changeTold answer ≡ changeTold (announcing relaxed routes rule originator communities table .answer)
-  pub leaves : exit ≡ announcing relaxed routes rule originator communities table .table
+pub record Announces (setting : Bool) (routes rule : List ℕ) (originator : ℕ) (communities table : List ℕ) (answer : Change) (exit : List ℕ) (kept : List (List ℕ)) : Type 0 where
+  pub is : answer ≡ announcing setting routes rule originator communities table .answer
+  pub says : changeTold answer ≡ changeTold (announcing setting routes rule originator communities table .answer)
+  pub leaves : exit ≡ announcing setting routes rule originator communities table .table
   pub keeps : kept ≡ routes ∷ rule ∷ communities ∷ []
 
 -- Withdrawing: refusals 10, 1 to 7, 15, 14, none of which changes an octet.

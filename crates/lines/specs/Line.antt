@@ -6,7 +6,7 @@ use mathlib.Core.Bool.{Bool, true, false, cond, _&&_}
 use mathlib.Core.List.{List, [], _∷_}
 use lib.Dec.{ltb, eqb}
 use lib.ListN.{length, getD}
-use Rattle.octets.specs.Test.{sameOctets}
+use Rattle.octets.specs.Test.{sameList}
 use Rattle.text.specs.Hex.{areOctets, octetsIn, wordIn}
 use Rattle.text.specs.Decimal.{isNumber, numberIn}
 use Rattle.text.specs.Field.{fields}
@@ -31,7 +31,7 @@ field n fs = getD fs n []
 
 -- The quoted word.
 abbrev pub isWord : String → List ℕ → Bool
-isWord word text = sameOctets text (quoted word)
+isWord word text = sameList text (quoted word)
 
 -- An address: exactly eight hex digits.
 abbrev pub isAddress : List ℕ → Bool

@@ -6,6 +6,7 @@ use mathlib.Core.List.{List, [], _∷_}
 use lib.Dec.{leb}
 use lib.ListN.{length, take}
 use Rattle.octets.specs.Store.{stored}
+use Rattle.route.specs.Route.{mostWords}
 use Rattle.flowspec.specs.Announce.{announcing, withdrawing, Outcome as Changed}
 use Rattle.flowspec.specs.Told.{changeTold}
 use Rattle.text.specs.Print.{laid}
@@ -19,10 +20,6 @@ pub record Outcome : Type 0 where
   pub used : ℕ
   pub routes : List ℕ
   pub table : List ℕ
-
--- "At most 4,096 routes", four words each.
-abbrev pub mostWords : ℕ
-mostWords = 16384
 
 -- There is room for a route behind the words in use: it is not past the 4,096, nor past the buffer's end.
 abbrev pub routeFits : ℕ → List ℕ → Bool

@@ -12,7 +12,7 @@ use lib.ListN.{length, getD, drop, replicate, drop-of-length-le}
 use lib.Seq.{drop-cons}
 use borrow.Author.Tests.{eqb-true, eq-eqb}
 use Rattle.octets.specs.Order.{lex, ordered}
-use Rattle.octets.specs.Test.{every, allZero, sameOctets}
+use Rattle.octets.specs.Test.{every, allZero, sameList}
 use Rattle.octets.specs.declared.Order.{Order}
 use Rattle.octets.specs.declared.Order.the-variants.{First, Second, Same}
 use Rattle.octets.proofs.Cases.{by-test, apart, both, same-test}
@@ -60,21 +60,21 @@ zeros-zero zero = refl
 zeros-zero (suc n) = zeros-zero n
 
 -- the same octets are one list, both ways
-pub same-octets : (a b : List ℕ) → sameOctets a b ≡ true → a ≡ b
-unfolding sameOctets
-same-octets [] [] e = refl
-same-octets [] (y ∷ b) e = apart (cc)
-same-octets (x ∷ a) [] e = apart (cc)
-same-octets (x ∷ a) (y ∷ b) e =
-    let t = both (eqb x y) (sameOctets a b) e in
+pub same-list : (a b : List ℕ) → sameList a b ≡ true → a ≡ b
+unfolding sameList
+same-list [] [] e = refl
+same-list [] (y ∷ b) e = apart (cc)
+same-list (x ∷ a) [] e = apart (cc)
+same-list (x ∷ a) (y ∷ b) e =
+    let t = both (eqb x y) (sameList a b) e in
     let h = eqb-true x y (t .0) in
-    let r = same-octets a b (t .1) in
+    let r = same-list a b (t .1) in
     λ i. h i ∷ r i
 
-pub octets-same : (a : List ℕ) → sameOctets a a ≡ true
-unfolding sameOctets
-octets-same [] = refl
-octets-same (x ∷ a) = rw (eq-eqb x x refl) (octets-same a)
+pub list-same : (a : List ℕ) → sameList a a ≡ true
+unfolding sameList
+list-same [] = refl
+list-same (x ∷ a) = rw (eq-eqb x x refl) (list-same a)
 
 -- what a comparison says of it
 abbrev pub isSame : Order → Bool
@@ -82,12 +82,12 @@ isSame First = false
 isSame Second = false
 isSame Same = true
 
-pub compared : (r found : Order) (a b : List ℕ) → r ≡ found → r ≡ ordered (lex compare a b) → isSame found ≡ sameOctets a b
+pub compared : (r found : Order) (a b : List ℕ) → r ≡ found → r ≡ ordered (lex compare a b) → isSame found ≡ sameList a b
 compared r found a b is e =
     let s : isSame found ≡ isSame (ordered (lex compare a b)) = ap isSame (sym is ∙ e) in
-    same-test (isSame found) (sameOctets a b)
-    (λ t. rw (lex-order compare nat-order .only a b (tie (lex compare a b) (sym s ∙ t))) (octets-same b))
-    (λ t. s ∙ rw (same-octets a b t, lex-order compare nat-order .same b))
+    same-test (isSame found) (sameList a b)
+    (λ t. rw (lex-order compare nat-order .only a b (tie (lex compare a b) (sym s ∙ t))) (list-same b))
+    (λ t. s ∙ rw (same-list a b t, lex-order compare nat-order .same b))
   where
     tie : (o : Ordering) → isSame (ordered o) ≡ true → o ≡ Ordering·eq
     tie Ordering·lt h = apart (cc)

@@ -23,9 +23,9 @@ Each holds (x ∷ xs) = holds x × Each holds xs
 unfoldable pub allZero : List ℕ → Bool
 allZero s = every (λ octet. eqb octet 0) s
 
--- The same octets: as many, and each equal to the other's at its place.
-unfoldable pub sameOctets : List ℕ → List ℕ → Bool
-sameOctets [] [] = true
-sameOctets [] (y ∷ ys) = false
-sameOctets (x ∷ xs) [] = false
-sameOctets (x ∷ xs) (y ∷ ys) = eqb x y && sameOctets xs ys
+-- The same list: as many numbers, and each equal to the other's at its place.
+unfoldable pub sameList : List ℕ → List ℕ → Bool
+sameList [] [] = true
+sameList [] (y ∷ ys) = false
+sameList (x ∷ xs) [] = false
+sameList (x ∷ xs) (y ∷ ys) = eqb x y && sameList xs ys

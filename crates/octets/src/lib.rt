@@ -8,7 +8,7 @@ ghost use Rattle.octets.specs.Bit.{bitIf};
 ghost use Rattle.octets.specs.Number.{numberAt, octetsOf};
 ghost use Rattle.octets.specs.Order.{lex, ordered};
 ghost use Rattle.octets.specs.Store.{stored, cleared, movedDown, cutOut, gapOpened};
-ghost use Rattle.octets.specs.Test.{allZero, sameOctets};
+ghost use Rattle.octets.specs.Test.{allZero, sameList};
 
 // Which of two comes first.
 pub enum Order {
@@ -108,7 +108,7 @@ pub fn compare_octets(a: &[u8], b: &[u8]) -> Order
 
 // Whether two slices hold the same octets.
 pub fn same_octets(a: &[u8], b: &[u8]) -> bool
-    ensures { λ r. ⌜ r ≡ sameOctets (now (a .entry)) (now (b .entry)) ⌝ }
+    ensures { λ r. ⌜ r ≡ sameList (now (a .entry)) (now (b .entry)) ⌝ }
 {
     match compare_octets(a, b) {
         Order::First => false,

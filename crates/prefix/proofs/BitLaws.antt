@@ -12,7 +12,7 @@ use lib.ListN.{length}
 use lib.Seq.{take-all}
 use lib.Pow.{pow-pos, high, low, mod-pow-add, shr-shr, shr-mod}
 use borrow.Author.Tests.{eq-eqb, eqb-true}
-use Rattle.octets.specs.Test.{sameOctets}
+use Rattle.octets.specs.Test.{sameList}
 use Rattle.octets.proofs.Cases.{both, same-test}
 use Rattle.prefix.specs.Prefix.{bits, firstBits}
 
@@ -45,8 +45,8 @@ pub top-bit : (n a : ℕ) → a % 2 ^ suc n ≡ a / 2 ^ n % 2 * 2 ^ n + a % 2 ^ 
 top-bit n a = rw (← add-one n, add-comm n 1) (mod-pow-add a 1 n)
 
 -- the same bits are equal numbers
-pub same-number : (n a b : ℕ) → sameOctets (bits n a) (bits n b) ≡ eqb (a % 2 ^ n) (b % 2 ^ n)
-unfolding bits sameOctets
+pub same-number : (n a b : ℕ) → sameList (bits n a) (bits n b) ≡ eqb (a % 2 ^ n) (b % 2 ^ n)
+unfolding bits sameList
 same-number zero a b = rw (mod-one a, mod-one b)
 same-number (suc n) a b =
     rw (same-number n a b, top-bit n a, top-bit n b)
@@ -62,7 +62,7 @@ module _ (w n a : ℕ) (h : n ≤ w) where
 
 -- the first n bits of two addresses are the same where the addresses so shifted are equal
 pub same-shifted : (w n a b : ℕ) → n ≤ w → a < 2 ^ w → b < 2 ^ w
-    → sameOctets (firstBits w n a) (firstBits w n b) ≡ eqb (a / 2 ^ (w - n)) (b / 2 ^ (w - n))
+    → sameList (firstBits w n a) (firstBits w n b) ≡ eqb (a / 2 ^ (w - n)) (b / 2 ^ (w - n))
 same-shifted w n a b h l m =
     rw (first-of w n a h, first-of w n b h, same-number, shifted-fits w n a h l, shifted-fits w n b h m)
 
@@ -78,13 +78,13 @@ reached w n a =
     ]
 
 -- no bits are the same bits
-pub no-bits : (w n a b : ℕ) → n ≡ 0 → true ≡ sameOctets (firstBits w n a) (firstBits w n b)
-unfolding sameOctets
+pub no-bits : (w n a b : ℕ) → n ≡ 0 → true ≡ sameList (firstBits w n a) (firstBits w n b)
+unfolding sameList
 no-bits w n a b e = rw e
 
 -- the first n bits of two addresses, or all of them, are the same where what is left when the others are shifted out is equal
 pub same-first : (w n lowest a b : ℕ) → lowest ≡ w - n → a < 2 ^ w → b < 2 ^ w
-    → eqb (a / 2 ^ lowest) (b / 2 ^ lowest) ≡ sameOctets (firstBits w n a) (firstBits w n b)
+    → eqb (a / 2 ^ lowest) (b / 2 ^ lowest) ≡ sameList (firstBits w n a) (firstBits w n b)
 same-first w n lowest a b is l m =
     let e : w - (w - (w - n)) ≡ lowest = omega arith in
     rw (← reached w n a, ← reached w n b) (sym (same-shifted w (w - (w - n)) a b (omega arith) l m ∙ rw e))

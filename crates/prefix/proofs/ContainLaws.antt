@@ -11,9 +11,9 @@ use lib.ListN.{length, take}
 use lib.Seq.{take-take, length-take-le}
 use lib.Pow.{pow-pos, split, high}
 use borrow.Author.Tests.{le-leb, lt-leb, lt-ltb, leb-true, ltb-true, eq-eqb, eqb-true}
-use Rattle.octets.specs.Test.{sameOctets}
+use Rattle.octets.specs.Test.{sameList}
 use Rattle.octets.proofs.Cases.{both, same-test}
-use Rattle.octets.proofs.TestLaws.{same-octets, octets-same}
+use Rattle.octets.proofs.TestLaws.{same-list, list-same}
 use Rattle.prefix.proofs.BitLaws.{length-bits, same-shifted}
 use Rattle.prefix.specs.Prefix.{bits, firstBits, contains, WellFormed}
 use Rattle.prefix.specs.declared.Prefix.{Prefix}
@@ -26,13 +26,13 @@ pub record Inside (w : ℕ) (p q : Prefix) : Type 0 where
 pub contains-says : (w : ℕ) (p q : Prefix) → contains w p q ≡ true → Inside w p q
 unfolding contains
 contains-says w p q e =
-    let h = both (leb (p .length) (q .length)) (sameOctets (firstBits w (p .length) (p .address)) (firstBits w (p .length) (q .address))) e in
-    record { longer = leb-true (p .length) (q .length) (h .0); begins = same-octets _ _ (h .1) }
+    let h = both (leb (p .length) (q .length)) (sameList (firstBits w (p .length) (p .address)) (firstBits w (p .length) (q .address))) e in
+    record { longer = leb-true (p .length) (q .length) (h .0); begins = same-list _ _ (h .1) }
 
 pub says-contains : (w : ℕ) (p q : Prefix) → Inside w p q → contains w p q ≡ true
 unfolding contains
 says-contains w p q i =
-    rw (le-leb (p .length) (q .length) (i .longer), i .begins) (octets-same (firstBits w (p .length) (q .address)))
+    rw (le-leb (p .length) (q .length) (i .longer), i .begins) (list-same (firstBits w (p .length) (q .address)))
 
 -- a prefix contains no shorter one, and of a longer one the bits decide
 pub no-shorter : (w : ℕ) (p q : Prefix) → q .length < p .length → false ≡ contains w p q
@@ -40,7 +40,7 @@ unfolding contains
 no-shorter w p q h = rw (lt-leb (p .length) (q .length) h)
 
 pub by-bits : (w : ℕ) (p q : Prefix) (r : Bool) → p .length ≤ q .length
-    → r ≡ sameOctets (firstBits w (p .length) (p .address)) (firstBits w (p .length) (q .address)) → r ≡ contains w p q
+    → r ≡ sameList (firstBits w (p .length) (p .address)) (firstBits w (p .length) (q .address)) → r ≡ contains w p q
 unfolding contains
 by-bits w p q r h e = rw (le-leb (p .length) (q .length) h) e
 

@@ -10,7 +10,7 @@ use native.Mathlib.Nat.{mod-lt, mod-eq-of-lt, mul-le-mul-right}
 use lib.Dec.{leb, eqb, leb·zero, leb·suc-zero, leb·suc-suc}
 use lib.Pow.{pow-pos}
 use borrow.Author.Tests.{eq-eqb, ne-eqb, eqb-true, eqb-false}
-use Rattle.octets.specs.Test.{sameOctets}
+use Rattle.octets.specs.Test.{sameList}
 use Rattle.octets.specs.Order.{lex, then, ordered}
 use Rattle.octets.specs.declared.Order.{Order}
 use Rattle.octets.proofs.Cases.{by-test}
@@ -51,7 +51,7 @@ then-decided Ordering·gt p q h = refl
 abbrev ordering : ℕ → ℕ → ℕ → ℕ → ℕ → Ordering
 ordering w l m a b =
     cond
-    (leb l m && sameOctets (firstBits w l a) (firstBits w l b) || leb m l && sameOctets (firstBits w m b) (firstBits w m a))
+    (leb l m && sameList (firstBits w l a) (firstBits w l b) || leb m l && sameList (firstBits w m b) (firstBits w m a))
     (compare m l)
     (compare (a % 2 ^ w) (b % 2 ^ w))
 
@@ -62,7 +62,7 @@ bitOf w a = a / 2 ^ w % 2
 -- where the first bits tie the rest decides, and where they do not they do
 more-bits : (w l m a b : ℕ) → ordering w l m a b ≡ lex compare (firstBits w l a) (firstBits w m b)
     → ordering (suc w) (suc l) (suc m) a b ≡ lex compare (firstBits (suc w) (suc l) a) (firstBits (suc w) (suc m) b)
-unfolding bits sameOctets
+unfolding bits sameList
 more-bits w l m a b ih =
     let x = bitOf w a in
     let y = bitOf w b in
@@ -79,7 +79,7 @@ more-bits w l m a b ih =
     (then-decided (compare x y) _ _ (λ g. e (nat-order .only x y g))))
 
 by-bits : (w l m a b : ℕ) → l ≤ w → m ≤ w → ordering w l m a b ≡ lex compare (firstBits w l a) (firstBits w m b)
-unfolding bits sameOctets
+unfolding bits sameList
 by-bits w zero zero a b h k = refl
 by-bits zero zero (suc m) a b h k = absurd (omega arith)
 by-bits zero (suc l) m a b h k = absurd (omega arith)

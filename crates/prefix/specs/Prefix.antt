@@ -7,7 +7,7 @@ use mathlib.Core.List.{List, [], _∷_}
 use lib.Dec.{leb}
 use lib.ListN.{take, getD}
 use Rattle.octets.specs.Number.{numberAt}
-use Rattle.octets.specs.Test.{sameOctets}
+use Rattle.octets.specs.Test.{sameList}
 use Rattle.prefix.specs.declared.Prefix.{Prefix}
 
 -- The n lowest bits of a number, the highest of them first.
@@ -22,7 +22,7 @@ firstBits w n a = take n (bits w a)
 -- A prefix contains another that is no shorter and begins with the same bits; every prefix contains itself.
 unfoldable pub contains : ℕ → Prefix → Prefix → Bool
 contains w p q =
-    leb (p .length) (q .length) && sameOctets (firstBits w (p .length) (p .address)) (firstBits w (p .length) (q .address))
+    leb (p .length) (q .length) && sameList (firstBits w (p .length) (p .address)) (firstBits w (p .length) (q .address))
 
 -- RFC 8955 section 5.1: the more specific comes first if one contains the other, else the lower address.
 unfoldable pub prefixOrder : ℕ → Prefix → Prefix → Ordering

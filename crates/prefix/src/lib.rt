@@ -2,7 +2,7 @@
 ghost use mathlib.Core.Path.{_≡_};
 ghost use Prim.Native.Nat.{_-_};
 ghost use Rattle.octets.specs.Order.{ordered};
-ghost use Rattle.octets.specs.Test.{sameOctets};
+ghost use Rattle.octets.specs.Test.{sameList};
 ghost use Rattle.prefix.specs.Prefix.{firstBits, contains, prefixOrder, prefixOf};
 use octets::Order;
 
@@ -21,7 +21,7 @@ fn lowest_place(n: u32) -> u32
 
 // Whether the first n bits of two addresses, or all 32, are the same: no bits are, and else what is left when the others are shifted out.
 pub fn same_bits(n: u32, a: u32, b: u32) -> bool
-    ensures { λ r. ⌜ r ≡ sameOctets (firstBits 32 n a) (firstBits 32 n b) ⌝ }
+    ensures { λ r. ⌜ r ≡ sameList (firstBits 32 n a) (firstBits 32 n b) ⌝ }
 {
     if n == 0 {
         return true;

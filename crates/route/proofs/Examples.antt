@@ -3,7 +3,7 @@ use mathlib.Core.Path.{_≡_, refl}
 use mathlib.Core.Bool.{true, false}
 use mathlib.Core.List.{List, [], _∷_, _++_}
 use Prim.Native.Nat.{ℕ}
-use Rattle.octets.specs.Test.{every, sameOctets}
+use Rattle.octets.specs.Test.{every, sameList}
 use Rattle.prefix.specs.Prefix.{bits, contains}
 use Rattle.route.specs.declared.Destination.{Destination}
 use Rattle.route.specs.declared.Destination.the-variants.{Missing, At}
@@ -36,5 +36,5 @@ pub examples : (soundRoutes 32 one ∷ soundRoutes 32 two ∷ soundRoutes 32 (0x
     ∷ feasible 32 true Missing 7 (routesOf two)
     ∷ [])
     ≡ true ∷ true ∷ false ∷ true ∷ false ∷ true ∷ false ∷ true ∷ false ∷ false ∷ false ∷ true ∷ []
-unfolding every bits sameOctets contains routeAt routesOf plainPrefix rises rising soundRoutes covers moreSpecific longer matched bestMatch undisputed judged feasible
+unfolding every bits sameList contains routeAt routesOf plainPrefix rises rising soundRoutes covers moreSpecific longer matched bestMatch undisputed judged feasible
 examples = refl

@@ -164,10 +164,10 @@ pub judged-only : (w : ℕ) (d : Prefix) (originator : ℕ) (rs : List Route) �
 judged-only w d originator rs = judged-alike w d d originator (only (matters w d) rs) rs (best-only w d rs) (undisputed-only w d rs)
 
 -- lists with the same routes that matter judge a rule alike
-pub feasible-alike : (w : ℕ) (relaxed : Bool) (d : Prefix) (originator : ℕ) (rs ss : List Route) → only (matters w d) rs ≡ only (matters w d) ss
-    → feasible w relaxed (At d) originator rs ≡ feasible w relaxed (At d) originator ss
+pub feasible-alike : (w : ℕ) (setting : Bool) (d : Prefix) (originator : ℕ) (rs ss : List Route) → only (matters w d) rs ≡ only (matters w d) ss
+    → feasible w setting (At d) originator rs ≡ feasible w setting (At d) originator ss
 unfolding feasible
-feasible-alike w relaxed d originator rs ss e =
+feasible-alike w setting d originator rs ss e =
     sym (judged-only w d originator rs) ∙ ap (judged w d originator) e ∙ judged-only w d originator ss
 
 -- a rule with a destination is judged the same whatever the setting, and one with none is feasible exactly where the setting allows it

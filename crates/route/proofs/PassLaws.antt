@@ -158,11 +158,11 @@ module _ (best : BestMatch) (originator : ℕ) (seen : Neighbours) where
   by-neighbour r v e h g = rw (e, eq-eqb (r .originator) originator h) g
 
 -- with no destination the setting decides, and with one the routes do
-module _ (w : ℕ) (relaxed : Bool) (destination : Destination) (originator : ℕ) (routes : List Route) where
-  pub no-destination : destination ≡ Missing → relaxed ≡ feasible w relaxed destination originator routes
+module _ (w : ℕ) (setting : Bool) (destination : Destination) (originator : ℕ) (routes : List Route) where
+  pub no-destination : destination ≡ Missing → setting ≡ feasible w setting destination originator routes
   unfolding feasible
   no-destination e = rw e
 
-  pub by-routes : (d : Prefix) (v : Bool) → destination ≡ At d → v ≡ judged w d originator routes → v ≡ feasible w relaxed destination originator routes
+  pub by-routes : (d : Prefix) (v : Bool) → destination ≡ At d → v ≡ judged w d originator routes → v ≡ feasible w setting destination originator routes
   unfolding feasible
   by-routes d v e f = rw e f

@@ -52,5 +52,5 @@ judged w destination originator routes =
 -- Section 6 a): a rule with a destination, 0.0.0.0/0 like any other, is feasible as that is judged, whatever the setting; one with no
 -- destination is feasible exactly where the setting relaxes this rule.
 unfoldable pub feasible : ℕ → Bool → Destination → ℕ → List Route → Bool
-feasible w relaxed Missing originator routes = relaxed
-feasible w relaxed (At destination) originator routes = judged w destination originator routes
+feasible w setting Missing originator routes = setting
+feasible w setting (At destination) originator routes = judged w destination originator routes

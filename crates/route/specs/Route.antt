@@ -39,9 +39,13 @@ rising [] = true
 rising (r ∷ []) = true
 rising (r ∷ s ∷ routes) = rises (r .prefix) (s .prefix) && rising (s ∷ routes)
 
+-- 01: "at most 4,096 routes", four words each.
+abbrev pub mostWords : ℕ
+mostWords = 4 * 4096
+
 -- 01: "Sound: a multiple of four words, at most 4,096 routes, length at most 32, no bit past the length, strictly rising by address then
 -- length."
 unfoldable pub soundRoutes : ℕ → List ℕ → Bool
 soundRoutes w words =
     eqb (length words % 4) 0
-    && (leb (length words) (4 * 4096) && (every (λ r. plainPrefix w (r .prefix)) (routesOf words) && rising (routesOf words)))
+    && (leb (length words) mostWords && (every (λ r. plainPrefix w (r .prefix)) (routesOf words) && rising (routesOf words)))

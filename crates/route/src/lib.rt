@@ -202,11 +202,11 @@ fn judge(destination: Prefix, originator: u32, words: &[u32]) -> bool
 }
 
 // Whether a rule is feasible by the routes; one with no destination is exactly where the setting relaxes that.
-pub fn is_feasible(relaxed: bool, destination: Destination, originator: u32, words: &[u32]) -> bool
-    ensures { λ r. ⌜ r ≡ feasible 32 relaxed destination originator (routesOf (now (words .entry))) ⌝ }
+pub fn is_feasible(setting: bool, destination: Destination, originator: u32, words: &[u32]) -> bool
+    ensures { λ r. ⌜ r ≡ feasible 32 setting destination originator (routesOf (now (words .entry))) ⌝ }
 {
     let Destination::At(prefix) = destination else {
-        return relaxed;
+        return setting;
     };
     judge(prefix, originator, words)
 }

@@ -125,13 +125,13 @@ fn answer_actions(line: &[u8], octets: &mut [u8]) {
 
 // ---- Feasibility ----
 
-// feasible RELAXED ROUTES RULE ORIGINATOR: the setting is 00 or 01, and a route is four words.
+// feasible SETTING ROUTES RULE ORIGINATOR: the setting is 00 or 01, and a route is four words.
 fn answer_feasible(line: &[u8], octets: &mut [u8], words: &mut [u32]) {
-    let relaxed = fields::number_of(line, 1) != 0;
+    let setting = fields::number_of(line, 1) != 0;
     let count = fields::put_words(line, 2, octets, words);
     let end = put_octets(line, 3, octets);
     let originator = fields::number_of(line, 4);
-    match flowspec::judge_rule(relaxed, &words[..count], &octets[..end], originator) {
+    match flowspec::judge_rule(setting, &words[..count], &octets[..end], originator) {
         Feasibility::Feasible => print_refusal(0, 0),
         Feasibility::Refused { number, place } => print_refusal(number, place),
     }
@@ -190,7 +190,7 @@ fn print_change(change: Change, table: &[u8]) {
     print_end();
 }
 
-// announce RELAXED ROUTES RULE ORIGINATOR COMMUNITIES: the setting is 00 or 01, and a route is four words.
+// announce SETTING ROUTES RULE ORIGINATOR COMMUNITIES: the setting is 00 or 01, and a route is four words.
 fn answer_announce(line: &[u8], octets: &mut [u8], words: &mut [u32], table: &mut [u8]) {
     let count = fields::put_words(line, 2, octets, words);
     let both = fields::put_two(line, 3, 5, octets);
@@ -201,11 +201,11 @@ fn answer_announce(line: &[u8], octets: &mut [u8], words: &mut [u32], table: &mu
 fn announce(line: &[u8], routes: &[u32], octets: &[u8], middle: usize, end: usize, table: &mut [u8])
     requires { ⌜ (middle ≤ end) × (end ≤ length (now octets)) ⌝ }
 {
-    let relaxed = fields::number_of(line, 1) != 0;
+    let setting = fields::number_of(line, 1) != 0;
     let originator = fields::number_of(line, 4);
     let change = flowspec::announce(
         table,
-        relaxed,
+        setting,
         routes,
         &octets[0..middle],
         originator,

@@ -5,13 +5,13 @@ use mathlib.Core.Path.{_≡_}
 use native.Mathlib.Omega.{arith}
 use lib.ListN.{length, drop}
 use Rattle.rule.specs.Plain.{plain}
-use Rattle.octets.specs.Test.{sameOctets}
+use Rattle.octets.specs.Test.{sameList}
 use Rattle.entry.proofs.ValueLaws.{plainFromHere, plain-starts, plain-not, plain-past, plain-behind, plain-all}
 use Rattle.entry.proofs.is_plain.Statement.{statement}
 use Rattle.entry.proofs.is_plain.Tie as tie
 
 abbrev Inv-loop : tie.InvT-loop
-Inv-loop value expected₀ i₀ expected i = sameOctets (plain value) value ≡ plainFromHere expected (drop i value)
+Inv-loop value expected₀ i₀ expected i = sameList (plain value) value ≡ plainFromHere expected (drop i value)
 
 abbrev μ-loop : tie.MeasureT-loop
 μ-loop value expected₀ i₀ expected i = length value - i

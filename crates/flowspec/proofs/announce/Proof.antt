@@ -9,7 +9,7 @@ use Rattle.flowspec.proofs.announce.Tie as tie
 
 rule-read : (c : tie.After-known-told3) → ReadRule ipv4 (c .before .before .before .before .before .before .before .before .before .before .before .before .before .args .rule .now) (c .before .start .given .0 .0) (c .before .start .given .0 .1 .0)
 rule-read c =
-    announce-rule (c .before .before .before .before .before .before .before .before .before .before .before .before .before .args .relaxed) (c .before .before .before .before .before .before .before .before .before .before .before .before .before .args .routes .now) _ (c .before .before .before .before .before .before .before .before .before .before .before .before .before .args .originator) (c .before .before .before .before .before .before .before .before .before .before .before .before .before .args .communities .now) (c .before .before .before .before .before .before .before .before .before .before .before .before .before .args .table .now) _ (c .before .before .before .before .before .before .before .sound-table .ensures)
+    announce-rule (c .before .before .before .before .before .before .before .before .before .before .before .before .before .args .setting) (c .before .before .before .before .before .before .before .before .before .before .before .before .before .args .routes .now) _ (c .before .before .before .before .before .before .before .before .before .before .before .before .before .args .originator) (c .before .before .before .before .before .before .before .before .before .before .before .before .before .args .communities .now) (c .before .before .before .before .before .before .before .before .before .before .before .before .before .args .table .now) _ (c .before .before .before .before .before .before .before .sound-table .ensures)
     _ (c .before .before .before .before .before .used .given .1) _ (c .before .before .before .ask .ensures) _ _ _ _ (c .before .start .given .1)
 
 sound-table-requires : tie.Need-sound-table-requires
@@ -44,7 +44,7 @@ part-announce-value-end c = omega (arith, rule-read (c .before))
 
 announce-value-requires : tie.Need-announce-value-requires
 announce-value-requires c κs = let k = c .before .before in
-    announce-requires (k .before .before .before .before .before .before .before .before .before .before .before .before .before .args .relaxed) (k .before .before .before .before .before .before .before .before .before .before .before .before .before .args .routes .now) _ (k .before .before .before .before .before .before .before .before .before .before .before .before .before .args .originator) (k .before .before .before .before .before .before .before .before .before .before .before .before .before .args .communities .now) _ _ (k .before .before .before .before .before .before .before .sound-table .ensures) _ (k .before .before .before .before .before .used .given .1) _ (k .before .before .before .ask .ensures) _ _ _ _ (k .before .start .given .1)
+    announce-requires (k .before .before .before .before .before .before .before .before .before .before .before .before .before .args .setting) (k .before .before .before .before .before .before .before .before .before .before .before .before .before .args .routes .now) _ (k .before .before .before .before .before .before .before .before .before .before .before .before .before .args .originator) (k .before .before .before .before .before .before .before .before .before .before .before .before .before .args .communities .now) _ _ (k .before .before .before .before .before .before .before .sound-table .ensures) _ (k .before .before .before .before .before .used .given .1) _ (k .before .before .before .ask .ensures) _ _ _ _ (k .before .start .given .1)
 
 change-of-requires : tie.Need-change-of-requires
 change-of-requires c κs = search needs
