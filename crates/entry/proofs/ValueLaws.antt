@@ -19,7 +19,7 @@ use Rattle.rule.specs.declared.Checked.the-variants.{Accepted, Refused}
 use Rattle.rule.specs.declared.Expected.{Expected}
 use Rattle.rule.specs.declared.Expected.the-variants.{Kind, Address, Operand}
 use Rattle.rule.specs.Value.{checkValue}
-use Rattle.rule.specs.Plain.{operandAfter, after, plainOperand, cleared, plainFrom, plain}
+use Rattle.rule.specs.Plain.{operandAfter, after, plainOperand, clearedOctet, plainFrom, plain}
 use Rattle.rule.proofs.PlainLaws.{whole-octet}
 use Rattle.rule.proofs.ValueLaws.{accepted-small, accepted-some}
 use Rattle.action.specs.Possible.{couldBe}
@@ -36,7 +36,7 @@ pub plain-starts : (v : List ℕ) → sameList (plain v) v ≡ plainFromHere Kin
 unfolding plain
 plain-starts v = refl
 
-module _ (v : List ℕ) (i : ℕ) (e : Expected) (x : ℕ) (t : Bool) (inside : i < length v) (is : x ≡ cleared e (getD v i 0))
+module _ (v : List ℕ) (i : ℕ) (e : Expected) (x : ℕ) (t : Bool) (inside : i < length v) (is : x ≡ clearedOctet e (getD v i 0))
     (so-far : t ≡ plainFromHere e (drop i v)) where
   pub plain-on : (next : Expected) → x ≡ getD v i 0 → next ≡ after e (getD v i 0) → t ≡ plainFromHere next (drop (i + 1) v)
   unfolding plainFrom sameList
@@ -61,7 +61,7 @@ module _ (v : List ℕ) (i : ℕ) (e : Expected) (x : ℕ) (t : Bool) (inside : 
 
 -- octets of a prefix before its last one
 pub address-passes : (n left : ℕ) → 8 * n < left → (s : List ℕ) → plainFromHere (Address left) s ≡ plainFromHere (Address (left - 8 * n)) (drop n s)
-unfolding plainFrom sameList after cleared
+unfolding plainFrom sameList after clearedOctet
 address-passes zero left h s = let e : left - 8 * 0 ≡ left = omega arith in rw e
 address-passes (suc n) left h [] = refl
 address-passes (suc n) left h (x ∷ s) =
@@ -71,7 +71,7 @@ address-passes (suc n) left h (x ∷ s) =
 -- octets of a value
 pub operand-passes : (kind n : ℕ) (last : Bool) → eqb kind 11 ≡ false → eqb kind 12 ≡ false → (s : List ℕ)
     → plainFromHere (Operand kind (suc n) last) s ≡ plainFromHere (operandAfter kind 1 last) (drop (suc n) s)
-unfolding plainFrom sameList after cleared plainOperand operandAfter
+unfolding plainFrom sameList after clearedOctet plainOperand operandAfter
 operand-passes kind n last h k [] = refl
 operand-passes kind zero last h k (x ∷ s) = rw (plainFrom, sameList, h, k, eq-eqb x x refl)
 operand-passes kind (suc n) last h k (x ∷ s) =

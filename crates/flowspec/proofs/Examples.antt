@@ -8,7 +8,7 @@ use Rattle.prefix.specs.Prefix.{bits, contains, prefixOrder, prefixOf}
 use Rattle.rule.specs.Operator.{endsList, sizeOf, isPrefix, isBitmask, sizeAllowed}
 use Rattle.rule.specs.Component.{pairAt, pairsFrom, prefixEnd, bodyEnd, componentAt}
 use Rattle.rule.specs.Value.{componentsFrom, components, checkValue}
-use Rattle.rule.specs.Plain.{bodyOf, operandAfter, after, plainOperator, plainOperand, plainAddress, cleared, plainFrom, plain}
+use Rattle.rule.specs.Plain.{bodyOf, operandAfter, after, plainOperator, plainOperand, plainAddress, clearedOctet, plainFrom, plain}
 use Rattle.rule.specs.declared.Reading.the-variants.{Rule}
 use Rattle.rule.specs.Family.{ipv4}
 use Rattle.rule.specs.Reading.{fieldSize, fieldLength, firstRule, oneRule}
@@ -26,7 +26,7 @@ use Rattle.flowspec.specs.Examples.{Example, answerTo, examples}
 pub marked : map (λ (e : Example). answerTo (e .asks)) examples ≡ map (λ (e : Example). e .expects) examples
 unfolding
     answerTo numberAt walk bits sameList contains prefixOrder prefixOf endsList sizeOf isPrefix isBitmask sizeAllowed pairAt pairsFrom prefixEnd bodyEnd componentAt
-    componentsFrom components checkValue bodyOf operandAfter after plainOperator plainOperand plainAddress cleared plainFrom plain fieldSize fieldLength lengthField
+    componentsFrom components checkValue bodyOf operandAfter after plainOperator plainOperand plainAddress clearedOctet plainFrom plain fieldSize fieldLength lengthField
     bodyOrder partOrder partsOrder precedence scaled wholePart wholeOf rateOfParts rateOf isUnusable fragmentData transportOctets transportFields fieldsOf packetOf
     numericHolds every oneHolds groupsFrom groups listHolds dataFor holdsFor bodyHolds fieldMatches fieldFor eitherPort componentMatches matches
 marked = refl

@@ -14,7 +14,7 @@ use Rattle.text.specs.Decimal.{decimalOf}
 use Rattle.text.specs.Spelling.{quoted}
 use Rattle.text.specs.Print.{laid}
 
--- "3 to 7 print their place as a further field."
+-- 01: "3 to 7 print their place as a further field."
 unfoldable pub placeText : ℕ → ℕ → List ℕ
 placeText number place = cond (leb 3 number && leb number 7) (quoted "\t" ++ decimalOf place) []
 

@@ -37,7 +37,7 @@ isWord word text = sameList text (quoted word)
 abbrev pub isAddress : List ℕ → Bool
 isAddress text = eqb (length text) 8 && areOctets text
 
--- A rule: octets in hex. "Only an actions field may be empty."
+-- A rule: octets in hex. 01: "only an actions field may be empty."
 abbrev pub isRule : List ℕ → Bool
 isRule text = ltb 0 (length text) && areOctets text
 
@@ -56,7 +56,7 @@ isRouteLine fs = areOf (isWord "route" ∷ isAddress ∷ isNumber ∷ isNumber �
 abbrev pub isAnnounceLine : List (List ℕ) → Bool
 isAnnounceLine fs = areOf (isWord "announce" ∷ isRule ∷ isNumber ∷ areOctets ∷ []) fs
 
--- "A withdraw line has the rule alone."
+-- 01: "A withdraw line has the rule alone."
 abbrev pub isWithdrawLine : List (List ℕ) → Bool
 isWithdrawLine fs = areOf (isWord "withdraw" ∷ isRule ∷ []) fs
 

@@ -34,7 +34,7 @@ abbrev pub changing : Changed → ℕ → List ℕ → Outcome
 changing changed used routes =
     record { text = changeText (changeTold (changed .answer)); used = used; routes = routes; table = changed .table }
 
--- "A route line adds to the list and prints nothing"; "a route past 4,096 prints `answer\t?`". Whether the routes are sound is judged by
+-- 01: "A route line adds to the list and prints nothing"; "a route past 4,096 prints `answer\t?`". Whether the routes are sound is judged by
 -- the announcements that follow.
 abbrev pub adding : List ℕ → ℕ → List ℕ → List ℕ → Outcome
 adding words used routes table =
@@ -42,7 +42,7 @@ adding words used routes table =
     (record { text = []; used = used + 4; routes = stored routes used words; table = table })
     (printing unknownText used routes table)
 
--- What a line says is done. "The setting is off": a rule with no destination is infeasible. The routes in use are all words where `used`
+-- What a line says is done. 01: "the setting is off": a rule with no destination is infeasible. The routes in use are all words where `used`
 -- passes the buffer's end.
 abbrev pub servedAs : Line → ℕ → List ℕ → List ℕ → Outcome
 servedAs (route address size originator neighbour) used routes table = adding (address ∷ size ∷ originator ∷ neighbour ∷ []) used routes table

@@ -23,7 +23,7 @@ use Rattle.rule.specs.declared.Expected.{Expected}
 use Rattle.rule.specs.declared.Expected.the-variants.{Kind, Length, Address}
 use Rattle.rule.specs.Operator.{isPrefix}
 use Rattle.rule.specs.Value.{Part, components}
-use Rattle.rule.specs.Plain.{bodyOf, after, cleared, plainAddress, plainFrom, plain}
+use Rattle.rule.specs.Plain.{bodyOf, after, clearedOctet, plainAddress, plainFrom, plain}
 use Rattle.rule.proofs.PlainLaws.{above, length-plain-from, length-kept}
 use Rattle.rule.proofs.ClearedLaws.{octets-plain-from}
 use Rattle.rule.proofs.SpellingLaws.{plainPart, components-plain}
@@ -53,7 +53,7 @@ earlier-clear n left x rest h l c =
 -- an address in the plain spelling has no bit past the length
 address-clear : (n left : ℕ) (r : List ℕ) → 1 ≤ left → left ≤ 8 * n → length r ≡ (left + 7) / 8
     → numberAt n (plainFrom (Address left) r) 0 % 2 ^ (8 * n - left) ≡ 0
-unfolding plainFrom after cleared
+unfolding plainFrom after clearedOctet
 address-clear zero left r some h l = absurd (omega arith)
 address-clear (suc n) left [] some h l = absurd (omega arith)
 address-clear (suc n) left (x ∷ r) some h l =
@@ -69,7 +69,7 @@ address-clear (suc n) left (x ∷ r) some h l =
 
 prefix-clear : (n : ℕ) (body : List ℕ) → getD body 0 0 ≤ 8 * n → length body ≡ 1 + (getD body 0 0 + 7) / 8
     → numberAt n (plainFrom Length body) 1 % 2 ^ (8 * n - getD body 0 0) ≡ 0
-unfolding plainFrom after cleared
+unfolding plainFrom after clearedOctet
 prefix-clear n [] h l = absurd (omega arith)
 prefix-clear n (x ∷ r) h l =
     by-test (eqb x 0)

@@ -21,7 +21,7 @@ use Rattle.packet.specs.declared.Field.{Field}
 use Rattle.packet.specs.declared.Field.the-variants.{Shown, Hidden}
 use Rattle.packet.specs.declared.Transport.{Transport}
 use Rattle.packet.specs.declared.Packet.{Packet}
-use Rattle.packet.specs.Match.{bodyHolds, fieldMatches, fieldFor, covers, eitherPort, componentMatches, matches}
+use Rattle.packet.specs.Match.{bodyHolds, fieldMatches, fieldFor, coversAddress, eitherPort, componentMatches, matches}
 
 -- how `field_matches` comes to each of its answers
 module _ (kind : ℕ) (body : List ℕ) (field : Field) where
@@ -52,8 +52,8 @@ no-field kind packet a b c d e f g h i =
 
 -- the prefix of a body, and an address as a prefix of all its bits
 pub covered : (body : List ℕ) (address : ℕ) (outer : Prefix) (r : Bool) → outer ≡ prefixOf 32 body
-    → r ≡ contains 32 outer (record { length = 32; address = address }) → r ≡ covers 32 body address
-unfolding covers
+    → r ≡ contains 32 outer (record { length = 32; address = address }) → r ≡ coversAddress 32 body address
+unfolding coversAddress
 covered body address outer r e f = rw (← e) f
 
 pub port-matches : (body : List ℕ) (transport : Transport) (a b : Bool) → a ≡ fieldMatches 4 body (transport .«source_port»)

@@ -23,7 +23,7 @@ use Rattle.rule.specs.declared.Expected.the-variants.{Kind, Length, Address, Op
 use Rattle.rule.specs.Operator.{isPrefix, isBitmask}
 use Rattle.rule.specs.Component.{Pair, pairsFrom}
 use Rattle.rule.specs.Value.{Part, components}
-use Rattle.rule.specs.Plain.{bodyOf, after, plainOperator, plainOperand, plainAddress, cleared, plainFrom, plain}
+use Rattle.rule.specs.Plain.{bodyOf, after, plainOperator, plainOperand, plainAddress, clearedOctet, plainFrom, plain}
 use Rattle.rule.proofs.ComponentLaws.{pairs-ind}
 use Rattle.rule.proofs.PlainLaws.{whole-octet, above, length-kept}
 use Rattle.rule.proofs.ClearedLaws.{size-kept, operand-again, cleared-small, octets-plain-from}
@@ -33,7 +33,7 @@ use Rattle.packet.specs.declared.Field.{Field}
 use Rattle.packet.specs.declared.Field.the-variants.{Shown, Hidden}
 use Rattle.packet.specs.declared.Packet.{Packet}
 use Rattle.packet.specs.PairList.{listHolds}
-use Rattle.packet.specs.Match.{dataFor, holdsFor, pairHolds, bodyHolds, fieldMatches, fieldFor, covers, eitherPort, componentMatches, matches}
+use Rattle.packet.specs.Match.{dataFor, holdsFor, pairHolds, bodyHolds, fieldMatches, fieldFor, coversAddress, eitherPort, componentMatches, matches}
 use Rattle.packet.proofs.OperatorLaws.{Keeps, kept, numeric-alike, mask-alike}
 use Rattle.packet.proofs.PairListLaws.{goesOn, from-first}
 
@@ -44,16 +44,16 @@ module _ (kind operator : ℕ) (small : operator < 256) where
   masks-kept true mask bits k l = kept 0xbf bits l (bitAnd operator mask) (omega (arith, and-le-l operator mask)) ∙ kept mask bits k operator small
   masks-kept false mask bits k l = kept mask bits k operator small
 
-  numeric-kept : (first : Bool) → isBitmask kind ≡ false → bitAnd (cleared (Operator kind first) operator) 7 ≡ bitAnd operator 7
-  unfolding cleared plainOperator
+  numeric-kept : (first : Bool) → isBitmask kind ≡ false → bitAnd (clearedOctet (Operator kind first) operator) 7 ≡ bitAnd operator 7
+  unfolding clearedOctet plainOperator
   numeric-kept first t = rw t (masks-kept first 0xf7 7 refl refl)
 
-  mask-kept : (first : Bool) → isBitmask kind ≡ true → bitAnd (cleared (Operator kind first) operator) 3 ≡ bitAnd operator 3
-  unfolding cleared plainOperator
+  mask-kept : (first : Bool) → isBitmask kind ≡ true → bitAnd (clearedOctet (Operator kind first) operator) 3 ≡ bitAnd operator 3
+  unfolding clearedOctet plainOperator
   mask-kept first t = rw t (masks-kept first 0xf3 3 refl refl)
 
-  and-kept : bitAnd (cleared (Operator kind false) operator) 0x40 ≡ bitAnd operator 0x40
-  unfolding cleared plainOperator
+  and-kept : bitAnd (clearedOctet (Operator kind false) operator) 0x40 ≡ bitAnd operator 0x40
+  unfolding clearedOctet plainOperator
   and-kept = by-test (isBitmask kind) (λ t. rw t (kept 0xf3 0x40 refl operator small)) (λ t. rw t (kept 0xf7 0x40 refl operator small))
 
 -- a pair in the plain spelling holds where the pair does
@@ -62,7 +62,7 @@ module _ (kind «data» : ℕ) where
   unfolding holdsFor dataFor
   pair-plain first p small =
       let operator = p .operator in
-      let spelled = cleared (Operator kind first) operator in
+      let spelled = clearedOctet (Operator kind first) operator in
       let judged = dataFor kind operator «data» in
       let wanted = plainOperand kind (p .value) in
       let fits = cleared-small (Operator kind first) operator small in
@@ -127,7 +127,7 @@ earlier n left x rest h l =
 -- an address shifted until only the bits of the length are left is the same in the plain spelling
 address-same : (n left : ℕ) (r : List ℕ) → Octets r → 1 ≤ left → left ≤ 8 * n
     → numberAt n (plainFrom (Address left) r) 0 / 2 ^ (8 * n - left) ≡ numberAt n r 0 / 2 ^ (8 * n - left)
-unfolding plainFrom after cleared
+unfolding plainFrom after clearedOctet
 address-same zero left r o some h = absurd (omega arith)
 address-same (suc n) left [] o some h = refl
 address-same (suc n) left (x ∷ r) o some h =
@@ -152,7 +152,7 @@ address-same (suc n) left (x ∷ r) o some h =
 -- the first bits are kept
 pub first-kept : (n : ℕ) (body : List ℕ) → Octets body → getD body 0 0 ≤ 8 * n
     → firstBits (8 * n) (getD body 0 0) (numberAt n (plainFrom Length body) 1) ≡ firstBits (8 * n) (getD body 0 0) (numberAt n body 1)
-unfolding plainFrom after cleared
+unfolding plainFrom after clearedOctet
 first-kept n [] o h = refl
 first-kept n (x ∷ r) o h =
     by-test (eqb x 0) (λ t. rw (eqb-true x 0 t))
@@ -168,8 +168,8 @@ first-kept n (x ∷ r) o h =
     ))
 
 -- a prefix in the plain spelling covers what the prefix does
-prefix-plain : (body : List ℕ) (address : ℕ) → Octets body → covers 32 (plainFrom Length body) address ≡ covers 32 body address
-unfolding covers contains prefixOf
+prefix-plain : (body : List ℕ) (address : ℕ) → Octets body → coversAddress 32 (plainFrom Length body) address ≡ coversAddress 32 body address
+unfolding coversAddress contains prefixOf
 prefix-plain body address o =
     by-test (leb (getD body 0 0) 32)
     (λ t. rw (length-kept body, t, first-kept 4 body o (leb-true (getD body 0 0) 32 t)))

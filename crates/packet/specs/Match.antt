@@ -19,7 +19,8 @@ use Rattle.packet.specs.declared.Transport.{Transport}
 use Rattle.packet.specs.Operator.{numericHolds, bitmaskHolds}
 use Rattle.packet.specs.PairList.{listHolds}
 
--- Section 4.2.2.9: TCP flags are in their two-octet form, of which a value of one octet is judged on the low octet.
+-- Section 4.2.2.9: a value of two octets "matches octets 13 and 14 of the TCP header", as which a packet shows its flags, and one of a
+-- single octet "matches octet 14", the low one.
 unfoldable pub dataFor : ℕ → ℕ → ℕ → ℕ
 dataFor kind operator «data» = cond (eqb kind 9) (cond (eqb (sizeOf operator) 1) (bitAnd «data» 0xff) «data») «data»
 
@@ -58,8 +59,8 @@ fieldFor kind packet =
     (cond (eqb kind 12) (Shown (packet .fragment)) Hidden))))))))
 
 -- Whether the prefix that a body spells contains an address of w bits.
-unfoldable pub covers : ℕ → List ℕ → ℕ → Bool
-covers w body address = contains w (prefixOf w body) (record { length = w; address = address })
+unfoldable pub coversAddress : ℕ → List ℕ → ℕ → Bool
+coversAddress w body address = contains w (prefixOf w body) (record { length = w; address = address })
 
 -- 01: "For type 4 the whole list is judged on one port, then on the other."
 unfoldable pub eitherPort : List ℕ → Transport → Bool
@@ -68,8 +69,8 @@ eitherPort body transport = fieldMatches 4 body (transport .«source_port») || 
 -- Whether a packet matches a component.
 unfoldable pub componentMatches : Packet → Part → Bool
 componentMatches packet component =
-    cond (eqb (component .kind) 1) (covers 32 (component .body) (packet .destination))
-    (cond (eqb (component .kind) 2) (covers 32 (component .body) (packet .source))
+    cond (eqb (component .kind) 1) (coversAddress 32 (component .body) (packet .destination))
+    (cond (eqb (component .kind) 2) (coversAddress 32 (component .body) (packet .source))
     (cond (eqb (component .kind) 4) (eitherPort (component .body) (packet .transport))
     (fieldMatches (component .kind) (component .body) (fieldFor (component .kind) packet))))
 

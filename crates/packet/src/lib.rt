@@ -10,7 +10,7 @@ ghost use Rattle.packet.specs.Transport.{transportFound, transportOctets
 ghost use Rattle.packet.specs.Packet.{packetOf};
 ghost use Rattle.packet.specs.Operator.{numericHolds, bitmaskHolds};
 ghost use Rattle.packet.specs.Judging.{withPair, judgePair};
-ghost use Rattle.packet.specs.Match.{dataFor, holdsFor, bodyHolds, fieldMatches, fieldFor, covers, eitherPort, componentMatches, matches};
+ghost use Rattle.packet.specs.Match.{dataFor, holdsFor, bodyHolds, fieldMatches, fieldFor, coversAddress, eitherPort, componentMatches, matches};
 use octets::bit_if;
 use octets::least;
 use octets::number_at;
@@ -336,7 +336,7 @@ fn field_for(kind: u8, packet: Packet) -> Field
 
 // Whether the prefix that a body spells contains an address.
 fn covers_address(body: &[u8], address: u32) -> bool
-    ensures { λ r. ⌜ r ≡ covers 32 (now (body .entry)) address ⌝ }
+    ensures { λ r. ⌜ r ≡ coversAddress 32 (now (body .entry)) address ⌝ }
 {
     let outer = prefix::prefix_of(body);
     let inner = Prefix {

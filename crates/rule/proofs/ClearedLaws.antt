@@ -14,13 +14,13 @@ use Rattle.octets.proofs.Facts.{Octets, allBelow, below, octet, octet-test}
 use Rattle.rule.specs.declared.Expected.{Expected}
 use Rattle.rule.specs.declared.Expected.the-variants.{Kind, Length, Address, Operator, Operand}
 use Rattle.rule.specs.Operator.{endsList, sizeOf, isBitmask}
-use Rattle.rule.specs.Plain.{after, plainOperator, plainOperand, plainAddress, cleared, plainFrom, plain}
+use Rattle.rule.specs.Plain.{after, plainOperator, plainOperand, plainAddress, clearedOctet, plainFrom, plain}
 use Rattle.rule.proofs.PlainLaws.{operand-small}
 
 -- an operator is cleared by one of four masks: what holds of each holds of the clearing
 masked : (P : (ℕ → ℕ) → Type 0) → P (λ y. bitAnd (bitAnd y 0xf3) 0xbf) → P (λ y. bitAnd y 0xf3) → P (λ y. bitAnd (bitAnd y 0xf7) 0xbf) → P (λ y. bitAnd y 0xf7)
-    → (kind : ℕ) (first : Bool) → P (λ y. cleared (Operator kind first) y)
-unfolding cleared plainOperator
+    → (kind : ℕ) (first : Bool) → P (λ y. clearedOctet (Operator kind first) y)
+unfolding clearedOctet plainOperator
 masked P p q r s kind first = go (isBitmask kind) first
   where
     go : (b f : Bool) → P (λ y. cond f (bitAnd (cond b (bitAnd y 0xf3) (bitAnd y 0xf7)) 0xbf) (cond b (bitAnd y 0xf3) (bitAnd y 0xf7)))
@@ -30,21 +30,21 @@ masked P p q r s kind first = go (isBitmask kind) first
     go false false = s
 
 module _ (kind : ℕ) (first : Bool) (x : ℕ) (small : x < 256) where
-  pub size-kept : sizeOf (cleared (Operator kind first) x) ≡ sizeOf x
+  pub size-kept : sizeOf (clearedOctet (Operator kind first) x) ≡ sizeOf x
   unfolding sizeOf
   size-kept =
-      octet (λ y. sizeOf (cleared (Operator kind first) y)) sizeOf
+      octet (λ y. sizeOf (clearedOctet (Operator kind first) y)) sizeOf
       (masked (λ f. allBelow 256 (λ y. eqb (sizeOf (f y)) (sizeOf y)) ≡ true) refl refl refl refl kind first) x small
 
-  pub end-kept : endsList (cleared (Operator kind first) x) ≡ endsList x
+  pub end-kept : endsList (clearedOctet (Operator kind first) x) ≡ endsList x
   unfolding endsList
   end-kept =
-      octet-test (λ y. endsList (cleared (Operator kind first) y)) endsList
+      octet-test (λ y. endsList (clearedOctet (Operator kind first) y)) endsList
       (masked (λ f. allBelow 256 (λ y. Bool·beq (endsList (f y)) (endsList y)) ≡ true) refl refl refl refl kind first) x small
 
-  operator-again : cleared (Operator kind first) (cleared (Operator kind first) x) ≡ cleared (Operator kind first) x
+  operator-again : clearedOctet (Operator kind first) (clearedOctet (Operator kind first) x) ≡ clearedOctet (Operator kind first) x
   operator-again =
-      octet (λ y. cleared (Operator kind first) (cleared (Operator kind first) y)) (cleared (Operator kind first))
+      octet (λ y. clearedOctet (Operator kind first) (clearedOctet (Operator kind first) y)) (clearedOctet (Operator kind first))
       (masked (λ f. allBelow 256 (λ y. eqb (f (f y)) (f y)) ≡ true) refl refl refl refl kind first) x small
 
 pub operand-again : (kind x : ℕ) → plainOperand kind (plainOperand kind x) ≡ plainOperand kind x
@@ -58,8 +58,8 @@ unfolding plainAddress
 address-again left x = rw (shl-shr (x / 2 ^ (8 - left)) (8 - left))
 
 -- an octet that is cleared stays as it is
-pub cleared-again : (e : Expected) (x : ℕ) → x < 256 → cleared e (cleared e x) ≡ cleared e x
-unfolding cleared
+pub cleared-again : (e : Expected) (x : ℕ) → x < 256 → clearedOctet e (clearedOctet e x) ≡ clearedOctet e x
+unfolding clearedOctet
 cleared-again Kind x h = refl
 cleared-again Length x h = refl
 cleared-again (Address left) x h = address-again left x
@@ -67,8 +67,8 @@ cleared-again (Operator kind first) x h = operator-again kind first x h
 cleared-again (Operand kind left last) x h = operand-again kind x
 
 -- what is expected next does not hang on ignored bits
-pub after-cleared : (e : Expected) (x : ℕ) → x < 256 → after e (cleared e x) ≡ after e x
-unfolding after cleared
+pub after-cleared : (e : Expected) (x : ℕ) → x < 256 → after e (clearedOctet e x) ≡ after e x
+unfolding after clearedOctet
 after-cleared Kind x h = refl
 after-cleared Length x h = refl
 after-cleared (Address left) x h = refl
@@ -80,21 +80,21 @@ pub plain-from-again : (e : Expected) (v : List ℕ) → Octets v → plainFrom 
 unfolding plainFrom
 plain-from-again e [] o = refl
 plain-from-again e (x ∷ xs) o =
-    rw (cleared-again e x (o 0), after-cleared e x (o 0)) (ap (λ (l : List ℕ). cleared e x ∷ l) (plain-from-again (after e x) xs (λ i. o (suc i))))
+    rw (cleared-again e x (o 0), after-cleared e x (o 0)) (ap (λ (l : List ℕ). clearedOctet e x ∷ l) (plain-from-again (after e x) xs (λ i. o (suc i))))
 
 pub plain-again : (v : List ℕ) → Octets v → plain (plain v) ≡ plain v
 unfolding plain
 plain-again v o = plain-from-again Kind v o
 
-operator-small : (kind : ℕ) (first : Bool) (x : ℕ) → x < 256 → cleared (Operator kind first) x < 256
+operator-small : (kind : ℕ) (first : Bool) (x : ℕ) → x < 256 → clearedOctet (Operator kind first) x < 256
 operator-small kind first x h =
     ltb-true _ _
-    (below 256 (λ y. ltb (cleared (Operator kind first) y) 256)
+    (below 256 (λ y. ltb (clearedOctet (Operator kind first) y) 256)
     (masked (λ f. allBelow 256 (λ y. ltb (f y) 256) ≡ true) refl refl refl refl kind first) x h)
 
 -- an octet that is cleared is an octet
-pub cleared-small : (e : Expected) (x : ℕ) → x < 256 → cleared e x < 256
-unfolding cleared plainAddress
+pub cleared-small : (e : Expected) (x : ℕ) → x < 256 → clearedOctet e x < 256
+unfolding clearedOctet plainAddress
 cleared-small Kind x h = h
 cleared-small Length x h = h
 cleared-small (Address left) x h = omega (arith, split x (8 - left))

@@ -8,7 +8,7 @@ use lib.ListN.{length, getD, take, drop, set, length-set, take-append-drop, drop
 use lib.Seq.{drop-cons, drop-drop, take-suc-set, drop-set-lt, append-snoc}
 use Rattle.rule.specs.declared.Expected.{Expected}
 use Rattle.rule.specs.declared.Expected.the-variants.{Kind}
-use Rattle.rule.specs.Plain.{after, cleared, plainFrom, plain}
+use Rattle.rule.specs.Plain.{after, clearedOctet, plainFrom, plain}
 
 -- the first i octets are written, and what is left to write follows from what is expected
 pub record Filling (v start work : List ℕ) (e : Expected) (i : ℕ) : Type 0 where
@@ -22,7 +22,7 @@ unfolding plain
 filling-starts v start = record { within = omega arith; long = refl; front = refl; rest = refl }
 
 module _ (v start work : List ℕ) (e : Expected) (i : ℕ) (f : Filling v start work e i) where
-  pub filling-on : (x : ℕ) (next : Expected) → i < length v → length v ≤ length start → x ≡ cleared e (getD v i 0) → next ≡ after e (getD v i 0)
+  pub filling-on : (x : ℕ) (next : Expected) → i < length v → length v ≤ length start → x ≡ clearedOctet e (getD v i 0) → next ≡ after e (getD v i 0)
       → Filling v start (set work i x) next (i + 1)
   unfolding plainFrom
   filling-on x next h room is then =

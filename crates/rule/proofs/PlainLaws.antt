@@ -14,7 +14,7 @@ use Rattle.octets.proofs.Cases.{by-test}
 use Rattle.rule.specs.declared.Expected.{Expected}
 use Rattle.rule.specs.declared.Expected.the-variants.{Kind, Length, Address, Operator, Operand}
 use Rattle.rule.specs.Operator.{endsList, sizeOf}
-use Rattle.rule.specs.Plain.{bodyOf, operandAfter, after, plainOperator, plainOperand, plainAddress, cleared, plainFrom, plain}
+use Rattle.rule.specs.Plain.{bodyOf, operandAfter, after, plainOperator, plainOperand, plainAddress, clearedOctet, plainFrom, plain}
 
 -- what the shifts of `plain_address` leave
 pub shifted : (x k : ℕ) → x < 256 → x / 2 ^ k * 2 ^ k % 2 ^ 32 ≡ x / 2 ^ k * 2 ^ k
@@ -53,7 +53,7 @@ length-plain v = length-plain-from Kind v
 
 -- a prefix's length octet is kept
 pub length-kept : (body : List ℕ) → getD (plainFrom Length body) 0 0 ≡ getD body 0 0
-unfolding plainFrom cleared
+unfolding plainFrom clearedOctet
 length-kept [] = refl
 length-kept (x ∷ r) = refl
 
@@ -89,26 +89,26 @@ module _ (e : Expected) (x : ℕ) where
   after-operand kind left last r h k = rw h k
 
   -- how `cleared_octet` comes to each of its answers
-  pub cleared-kind : e ≡ Kind → x ≡ cleared e x
-  unfolding cleared
+  pub cleared-kind : e ≡ Kind → x ≡ clearedOctet e x
+  unfolding clearedOctet
   cleared-kind h = rw h
 
-  pub cleared-length : e ≡ Length → x ≡ cleared e x
-  unfolding cleared
+  pub cleared-length : e ≡ Length → x ≡ clearedOctet e x
+  unfolding clearedOctet
   cleared-length h = rw h
 
-  pub cleared-address : (left r : ℕ) → e ≡ Address left → r ≡ plainAddress left x → r ≡ cleared e x
-  unfolding cleared
+  pub cleared-address : (left r : ℕ) → e ≡ Address left → r ≡ plainAddress left x → r ≡ clearedOctet e x
+  unfolding clearedOctet
   cleared-address left r h k = rw h k
 
-  pub cleared-first : (kind r : ℕ) (first : Bool) → e ≡ Operator kind first → first ≡ true → r ≡ plainOperator kind x → bitAnd r 0xbf ≡ cleared e x
-  unfolding cleared
+  pub cleared-first : (kind r : ℕ) (first : Bool) → e ≡ Operator kind first → first ≡ true → r ≡ plainOperator kind x → bitAnd r 0xbf ≡ clearedOctet e x
+  unfolding clearedOctet
   cleared-first kind r first h f k = rw (h, f, k)
 
-  pub cleared-later : (kind r : ℕ) (first : Bool) → e ≡ Operator kind first → first ≡ false → r ≡ plainOperator kind x → r ≡ cleared e x
-  unfolding cleared
+  pub cleared-later : (kind r : ℕ) (first : Bool) → e ≡ Operator kind first → first ≡ false → r ≡ plainOperator kind x → r ≡ clearedOctet e x
+  unfolding clearedOctet
   cleared-later kind r first h f k = rw (h, f) k
 
-  pub cleared-operand : (kind left r : ℕ) (last : Bool) → e ≡ Operand kind left last → r ≡ plainOperand kind x → r ≡ cleared e x
-  unfolding cleared
+  pub cleared-operand : (kind left r : ℕ) (last : Bool) → e ≡ Operand kind left last → r ≡ plainOperand kind x → r ≡ clearedOctet e x
+  unfolding clearedOctet
   cleared-operand kind left r last h k = rw h k

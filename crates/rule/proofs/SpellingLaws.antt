@@ -29,7 +29,7 @@ use Rattle.rule.specs.declared.Checked.{Checked}
 use Rattle.rule.specs.Operator.{endsList, sizeOf, isPrefix, sizeAllowed}
 use Rattle.rule.specs.Component.{pairAt, Pair, pairOf, pairsFrom, prefixEnd, bodyEnd, found, componentAt}
 use Rattle.rule.specs.Value.{Part, between, componentsFrom, components, checkValue}
-use Rattle.rule.specs.Plain.{bodyOf, operandAfter, after, plainOperand, cleared, plainFrom, plain}
+use Rattle.rule.specs.Plain.{bodyOf, operandAfter, after, plainOperand, clearedOctet, plainFrom, plain}
 use Rattle.rule.proofs.OperatorLaws.{size-positive}
 use Rattle.rule.proofs.ComponentLaws.{pair-cases, prefix-cases, component-cases, pairs-more, pairs-last, pairs-refused, pairs-ind}
 use Rattle.rule.proofs.ValueLaws.{was-found, components-more, components-none, components-refused, components-ind}
@@ -46,10 +46,10 @@ module _ (start : Expected) (v : List ℕ) where
   starts = refl
 
   -- the octet there, cleared, and what is expected behind it
-  octet-there : (i : ℕ) (e : Expected) → Expects start v i e → i < length v → getD (plainFrom start v) i 0 ≡ cleared e (getD v i 0)
+  octet-there : (i : ℕ) (e : Expected) → Expects start v i e → i < length v → getD (plainFrom start v) i 0 ≡ clearedOctet e (getD v i 0)
   unfolding Expects plainFrom
   octet-there i e x h =
-      let p : getD (drop i (plainFrom start v)) 0 0 ≡ cleared e (getD v i 0) = rw (x, drop-cons v i 0 h) in
+      let p : getD (drop i (plainFrom start v)) 0 0 ≡ clearedOctet e (getD v i 0) = rw (x, drop-cons v i 0 h) in
       sym (getD-drop i (plainFrom start v) 0 0 ∙ ap (λ n. getD (plainFrom start v) n 0) (add-zero i)) ∙ p
 
   goes-on : (i : ℕ) (e : Expected) → Expects start v i e → i < length v → Expects start v (i + 1) (after e (getD v i 0))
@@ -80,7 +80,7 @@ module _ (start : Expected) (v : List ℕ) where
   -- the octets of a value, cleared one by one
   value-octets : (j n i kind : ℕ) (last : Bool) → Expects start v i (Operand kind n last) → i + n ≤ length v → j < n
       → getD (plainFrom start v) (i + j) 0 ≡ plainOperand kind (getD v (i + j) 0)
-  unfolding after operandAfter cleared
+  unfolding after operandAfter clearedOctet
   value-octets zero n i kind last x h k = rw (add-zero i) (octet-there i (Operand kind n last) x (omega arith))
   value-octets (suc j) n i kind last x h k =
       let e : i + 1 + j ≡ i + suc j = omega arith in
@@ -104,7 +104,7 @@ module _ (start : Expected) (v : List ℕ) where
 
 -- a pair in the plain spelling, and a list of them: only the first operator loses its AND
 abbrev pub plainPair : ℕ → Bool → Pair → Pair
-plainPair kind first p = record { operator = cleared (Operator kind first) (p .operator); value = plainOperand kind (p .value) }
+plainPair kind first p = record { operator = clearedOctet (Operator kind first) (p .operator); value = plainOperand kind (p .value) }
 
 abbrev pub plainPairs : ℕ → Bool → List Pair → List Pair
 plainPairs kind first [] = []
@@ -200,7 +200,7 @@ module _ (start : Expected) (v : List ℕ) where
 
   module _ (family : Family) (at : ℕ) (x : Expects start v at Length) where
     prefix-same : prefixEnd family (plainFrom start v) at ≡ prefixEnd family v at
-    unfolding prefixEnd cleared
+    unfolding prefixEnd clearedOctet
     prefix-same =
         by-test (leb (length v) at) (λ t. rw (length-plain-from start v, t))
         (λ t. let h = leb-false (length v) at t in rw (length-plain-from start v, octet-there start v at Length x h))
@@ -235,7 +235,7 @@ module _ (start : Expected) (v : List ℕ) (o : Octets v) (family : Family) wher
 
   component-same : (at previous : ℕ) → Expects start v at Kind
       → (componentAt family (plainFrom start v) at previous ≡ componentAt family v at previous) × NextExpects start v (componentAt family v at previous)
-  unfolding componentAt cleared after NextExpects EndExpects
+  unfolding componentAt clearedOctet after NextExpects EndExpects
   component-same at previous x =
       (same, component-cases family v at previous (NextExpects start v) (λ h. tt) (λ h. tt) (λ h. tt) (λ h z k r. then (bodyEnd family (getD v at 0) v (at + 1)) (body h .1)))
     where
@@ -262,7 +262,7 @@ take-plain : (e : Expected) (n : ℕ) (v : List ℕ) → take n (plainFrom e v) 
 unfolding plainFrom
 take-plain e zero v = refl
 take-plain e (suc n) [] = refl
-take-plain e (suc n) (x ∷ xs) = ap (λ (l : List ℕ). cleared e x ∷ l) (take-plain (after e x) n xs)
+take-plain e (suc n) (x ∷ xs) = ap (λ (l : List ℕ). clearedOctet e x ∷ l) (take-plain (after e x) n xs)
 
 -- a component in the plain spelling
 abbrev pub plainPart : Part → Part

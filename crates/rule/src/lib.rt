@@ -12,7 +12,7 @@ ghost use Rattle.rule.specs.Operator.{endsList, sizeOf, isPrefix, isBitm
 ghost use Rattle.rule.specs.Component.{pairAt, pairsFrom, prefixEnd, bodyEnd, componentAt};
 ghost use Rattle.rule.specs.Reader.{readerAt, nextOf};
 ghost use Rattle.rule.specs.Value.{checkValue};
-ghost use Rattle.rule.specs.Plain.{bodyOf, after, operandAfter, plainOperator, plainOperand, plainAddress, cleared, plain};
+ghost use Rattle.rule.specs.Plain.{bodyOf, after, operandAfter, plainOperator, plainOperand, plainAddress, clearedOctet, plain};
 ghost use Rattle.rule.specs.Reading.{fieldSize, fieldLength, firstRule, oneRule};
 ghost use Rattle.rule.specs.Writing.{lengthField, intoRoom, filled, writing, afterWriting};
 ghost use Rattle.octets.specs.Store.{stored};
@@ -421,7 +421,7 @@ pub fn plain_address(left: u8, x: u8) -> u8
 
 // The octet x with the bits that are to be ignored cleared.
 pub fn cleared_octet(expected: Expected, x: u8) -> u8
-    ensures { λ r. ⌜ r ≡ cleared expected x ⌝ }
+    ensures { λ r. ⌜ r ≡ clearedOctet expected x ⌝ }
 {
     match expected {
         Expected::Kind => x,

@@ -31,7 +31,7 @@ abbrev pub isHeld : {R : Type 0} → Option R → Bool
 isHeld none = false
 isHeld (some x) = true
 
--- "A counted call is an announcement answered 0 or 8, or a withdrawal answered 0 or 14": no announcement is answered 14, and no
+-- 01: "A counted call is an announcement answered 0 or 8, or a withdrawal answered 0 or 14": no announcement is answered 14, and no
 -- withdrawal 8.
 abbrev pub counts : ℕ → Bool
 counts answer = eqb answer 0 || (eqb answer 8 || eqb answer 14)
@@ -74,7 +74,7 @@ module _ {K R : Type 0} (cmp : K → K → Ordering) (key : R → K) where
     inForceAfter h k = leavesInForce view (lastCounted k h)
 
   module _ (cost : R → ℕ) (room : ℕ) where
-    -- What a call does to a table. "Refusals change nothing, except that 8 removes a held equal rule"; "no room means exactly that the
+    -- What a call does to a table. 01: "Refusals change nothing, except that 8 removes a held equal rule"; "no room means exactly that the
     -- costs after the call would pass" the room.
     abbrev pub apply : Op K R → List R → Outcome R
     apply (refuse number) t = record { table = t; answer = number }

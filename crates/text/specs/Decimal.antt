@@ -21,7 +21,7 @@ numberFrom n (digit ∷ text) = numberFrom (n * 10 + (digit - 0x30)) text
 unfoldable pub numberIn : List ℕ → ℕ
 numberIn text = numberFrom 0 text
 
--- "no leading zero": a first digit 0 stands alone, since the number 0 is written 0.
+-- 01: "no leading zero": a first digit 0 stands alone, since the number 0 is written 0.
 unfoldable pub startsWell : List ℕ → Bool
 startsWell [] = false
 startsWell (digit ∷ []) = true
