@@ -3,11 +3,9 @@
 ghost use mathlib.Core.Path.{_≡_};
 ghost use mathlib.Core.List.{[], _∷_};
 ghost use Prim.Native.Nat.{_≤_};
-ghost use Rattle.action.specs.Actions.{valuesOf};
 ghost use Rattle.flowspec.specs.Told.{changeTold, verdictTold};
 ghost use Rattle.c_api.specs.Word.{word, wordOf, isOn};
 ghost use Rattle.c_api.specs.Promise.{ReadCall, WriteCall, CompareCall, FeasibleCall, ActionsCall, AnnounceCall, WithdrawCall, LookupCall, FirstMatchCall};
-use action::Actions;
 use flowspec::Change;
 use flowspec::Comparison;
 use flowspec::Feasibility;
@@ -42,20 +40,6 @@ fn is_on(setting: u32) -> bool
     setting != 0
 }
 
-// The values of actions, as in a record: flags, DSCP, byte rate, packet rate, redirect.
-fn values_of(actions: Actions) -> [u64; 5]
-    ensures { λ r. ⌜ r ≡ valuesOf actions ⌝ }
-{
-    let flags = entry::flags_of(actions);
-    [
-        flags as u64,
-        actions.marking.number,
-        actions.bytes.number,
-        actions.packets.number,
-        actions.redirect.number,
-    ]
-}
-
 // The words of a verdict: the count and the merged actions' values, all 0 where no rule matches.
 fn words_of(verdict: Verdict) -> [u64; 6]
     ensures { λ r. ⌜ r ≡ verdictTold verdict .values ⌝ }
@@ -63,7 +47,7 @@ fn words_of(verdict: Verdict) -> [u64; 6]
     match verdict {
         Verdict::Unmatched => [0; 6],
         Verdict::Matched { actions, count } => {
-            let values = values_of(actions);
+            let values = entry::values_of(actions);
             [
                 count as u64,
                 values[0],
@@ -151,7 +135,7 @@ pub extern "C" fn flowspec4_actions(communities: &[u8], out: &mut [u64; 5]) -> u
     match flowspec::read_actions(communities) {
         action::Reading::Unsound => word_of(13, 0),
         action::Reading::Read(actions) => {
-            *out = values_of(actions);
+            *out = entry::values_of(actions);
             0
         }
     }

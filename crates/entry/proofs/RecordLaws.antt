@@ -12,7 +12,7 @@ use Rattle.octets.specs.Store.{stored}
 use Rattle.octets.proofs.Facts.{Octets}
 use Rattle.octets.proofs.NumberLaws.{length-octetsOf, number-octets, octets-number}
 use Rattle.octets.proofs.StoreLaws.{stored-none, stored-then, length-stored}
-use Rattle.action.specs.Actions.{flagsOf}
+use Rattle.action.specs.Actions.{valuesOf}
 use Rattle.entry.specs.Entry.{Entry}
 use Rattle.entry.specs.Record.{headWidths, headCost, writtenFields, readFields, fieldsOf, recordOf}
 
@@ -109,16 +109,14 @@ pub head-room : (at size room : ℕ) (numbers : List ℕ) → length numbers ≡
     → at + length (writtenFields headWidths numbers) ≤ room
 head-room at size room numbers n h = omega (arith, length-written headWidths numbers n)
 
-pub record-stored : (t head all : List ℕ) (at flags : ℕ) (e : Entry) → flags ≡ flagsOf (e .actions) → at + (headCost + length (e .value)) ≤ length t
+pub record-stored : (t head all values : List ℕ) (at : ℕ) (e : Entry) → values ≡ valuesOf (e .actions) → at + (headCost + length (e .value)) ≤ length t
     → head
     ≡ stored t at
     (writtenFields headWidths
-    (length (e .value) ∷ e .originator ∷ flags ∷ e .actions .marking .number ∷ e .actions .bytes .number ∷ e .actions .packets .number
-    ∷ e .actions .redirect .number
-    ∷ []))
+    (length (e .value) ∷ e .originator ∷ getD values 0 0 ∷ getD values 1 0 ∷ getD values 2 0 ∷ getD values 3 0 ∷ getD values 4 0 ∷ []))
     → all ≡ stored head (at + headCost) (e .value) → all ≡ stored t at (recordOf e)
 unfolding recordOf fieldsOf
-record-stored t head all at flags e is room h k =
+record-stored t head all values at e is room h k =
     let w : List ℕ = writtenFields headWidths (fieldsOf e) in
     let l : length w ≡ headCost = length-written headWidths (fieldsOf e) refl in
     k ∙ rw (h, is) (ap (λ n. stored (stored t at w) (at + n) (e .value)) (sym l) ∙ stored-then t at w (e .value) (omega arith))

@@ -6,7 +6,7 @@ ghost use Rattle.octets.specs.Store.{stored};
 ghost use Rattle.octets.specs.Test.{sameList};
 ghost use Rattle.rule.specs.Family.{ipv4};
 ghost use Rattle.rule.specs.Plain.{plain};
-ghost use Rattle.action.specs.Actions.{flagsOf};
+ghost use Rattle.action.specs.Actions.{flagsOf, valuesOf};
 ghost use Rattle.entry.specs.Entry.{plainValue};
 ghost use Rattle.entry.specs.Passing.{Passes};
 ghost use Rattle.entry.specs.Record.{headCost, writtenFields, recordOf, fieldIf, actionsIn, entryOf, goodRecord};
@@ -57,21 +57,35 @@ pub fn flags_of(actions: Actions) -> u8
     bytes + packets + sample + onward + marking + redirect
 }
 
-// Writes the record of a rule at a place of a table: the head, and then the value.
-pub fn write_record(table: &mut [u8], at: usize, originator: u32, actions: Actions, value: &[u8])
-    requires { ⌜ at + (headCost + length (now value)) ≤ length (now table) ⌝ }
-    ensures { λ _. ⌜ now (table .exit) ≡ stored (now (table .entry)) at (recordOf (record { originator = originator; actions = actions; value = now (value .entry) })) ⌝ }
+// The values of actions in the order of a record: flags, DSCP, byte rate, packet rate, redirect community.
+pub fn values_of(actions: Actions) -> [u64; 5]
+    ensures { λ r. ⌜ r ≡ valuesOf actions ⌝ }
 {
     let flags = flags_of(actions);
-    let widths = [2, 4, 1, 1, 8, 8, 8];
-    let numbers = [
-        value.len() as u64,
-        originator as u64,
+    [
         flags as u64,
         actions.marking.number,
         actions.bytes.number,
         actions.packets.number,
         actions.redirect.number,
+    ]
+}
+
+// Writes the record of a rule at a place of a table: the head, and then the value.
+pub fn write_record(table: &mut [u8], at: usize, originator: u32, actions: Actions, value: &[u8])
+    requires { ⌜ at + (headCost + length (now value)) ≤ length (now table) ⌝ }
+    ensures { λ _. ⌜ now (table .exit) ≡ stored (now (table .entry)) at (recordOf (record { originator = originator; actions = actions; value = now (value .entry) })) ⌝ }
+{
+    let values = values_of(actions);
+    let widths = [2, 4, 1, 1, 8, 8, 8];
+    let numbers = [
+        value.len() as u64,
+        originator as u64,
+        values[0],
+        values[1],
+        values[2],
+        values[3],
+        values[4],
     ];
     write_fields(&widths, &numbers, table, at);
     let start = at + HEAD_COST;

@@ -214,13 +214,14 @@ pub fn print_octets(s: &[u8]) {
     }
 }
 
-// Prints actions as a record has them: flags, DSCP, byte rate, packet rate and redirect.
+// Prints the values of actions.
 pub fn print_actions(actions: Actions) {
-    print_number(entry::flags_of(actions) as u64);
-    print_number(actions.marking.number);
-    print_number(actions.bytes.number);
-    print_number(actions.packets.number);
-    print_number(actions.redirect.number);
+    let values = entry::values_of(actions);
+    print_number(values[0]);
+    print_number(values[1]);
+    print_number(values[2]);
+    print_number(values[3]);
+    print_number(values[4]);
 }
 
 // Ends an answer.

@@ -71,6 +71,7 @@ pub record Example : Type 0 where
   pub asks : Question
   pub expects : List ℕ
 
+-- What is expected of a question.
 abbrev pub is : Question → List ℕ → Example
 is q a = record { asks = q; expects = a }
 

@@ -133,6 +133,7 @@ fn run(block: &mut [u8], line: &mut [u8], routes: &mut [u32], table: &mut [u8], 
     }
 }
 
+// The buffers that the program works in.
 fn main() {
     let mut block = [0u8; BLOCK];
     let mut line = [0u8; LINE];

@@ -3,7 +3,6 @@ use mathlib.Core.Path.{_≡_, refl, sym, ap, subst, _∙_}
 use mathlib.Core.List.{List, [], _∷_, _++_}
 use Prim.Native.Nat.{ℕ, _+_, _-_, _/_, _%_, _<_, _≤_}
 use native.Mathlib.Omega.{arith}
-use native.Mathlib.Decide.{decLt}
 use native.Mathlib.Nat.{zero-add}
 use lib.Dec.{ltb}
 use lib.ListN.{length, take, drop, set, length-append}
@@ -56,13 +55,6 @@ module _ (b : List ℕ) (size : ℕ) (room : length (lengthField size) ≤ lengt
 
   pub write-long : 240 ≤ size → set (set b 0 (240 + size / 256)) 1 (size % 256) ≡ stored b 0 (lengthField size)
   write-long h = store-two b (240 + size / 256) (size % 256) (room-long h) ∙ ap (stored b 0) (sym (two-octet-field size h))
-
-pub field-length : (size : ℕ) → length (lengthField size) ≤ 2
-field-length size =
-    elim (decLt size 240) [
-      | yes h ↦ let e = ap length (one-octet-field size h) in omega arith
-      | no h ↦ let e = ap length (two-octet-field size (omega arith)) in omega arith
-    ]
 
 pub length-rule : (v : List ℕ) → length (ruleFor v) ≡ length (lengthField (length v)) + length v
 unfolding ruleFor

@@ -105,10 +105,6 @@ length-octetsIn [] = refl
 length-octetsIn (x ∷ []) = refl
 length-octetsIn (x ∷ y ∷ t) = omega (arith, length-octetsIn t)
 
-pub length-are : (t : List ℕ) → areOctets t ≡ true → length t ≡ 2 * length (octetsIn t)
-unfolding areOctets
-length-are t e = omega (arith, length-octetsIn t, eqb-true (length t % 2) 0 (and-eq-true-iff (eqb (length t % 2) 0) (every isHexDigit t) .0 e .0))
-
 -- octets that are written are read again
 pub octets-hex : (s : List ℕ) → Octets s → octetsIn (hexOf s) ≡ s
 unfolding octetsIn hexOf

@@ -311,6 +311,7 @@ fn run(input: &mut [u8], octets: &mut [u8], words: &mut [u32], buffer: &mut [u8]
     answer_all(&input[..end], octets, words, buffer);
 }
 
+// The buffers that the program works in.
 fn main() {
     let mut input = [0u8; INPUT];
     let mut octets = [0u8; FIELDS];

@@ -1,15 +1,27 @@
 -- The head is written field by field, and the value is stored right behind it.
 use mathlib.Core.Path.{refl}
-use Rattle.entry.proofs.RecordLaws.{head-room, record-stored}
 use borrow.Author.Needs.{needs}
+use Rattle.entry.proofs.RecordLaws.{head-room, record-stored}
 use Rattle.entry.proofs.write_record.Statement.{statement}
 use Rattle.entry.proofs.write_record.Tie as tie
 
-flags-of-requires : tie.Need-flags-of-requires
-flags-of-requires c κs = search needs
+values-of-requires : tie.Need-values-of-requires
+values-of-requires c κs = search needs
 
-cast-t13 : tie.Need-cast-t13
-cast-t13 c = search needs
+array-read-t16 : tie.Need-array-read-t16
+array-read-t16 c = search needs
+
+array-read-t19 : tie.Need-array-read-t19
+array-read-t19 c = search needs
+
+array-read-t22 : tie.Need-array-read-t22
+array-read-t22 c = search needs
+
+array-read-t25 : tie.Need-array-read-t25
+array-read-t25 c = search needs
+
+array-read-t28 : tie.Need-array-read-t28
+array-read-t28 c = search needs
 
 slice-aggregate-write-fields : tie.Need-slice-aggregate-write-fields
 slice-aggregate-write-fields c = search needs
@@ -36,8 +48,12 @@ pub write-record-spec : {M : Type 1} → statement M
 write-record-spec =
     tie.close
     (tie.spec
-    flags-of-requires
-    cast-t13
+    values-of-requires
+    array-read-t16
+    array-read-t19
+    array-read-t22
+    array-read-t25
+    array-read-t28
     slice-aggregate-write-fields
     slice-aggregate-write-fields-2
     write-fields-requires

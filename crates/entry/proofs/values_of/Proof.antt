@@ -1,7 +1,7 @@
 -- The flags are those of a record; the other values are the actions' own.
 use borrow.Author.Needs.{needs}
-use Rattle.c_api.proofs.values_of.Statement.{statement}
-use Rattle.c_api.proofs.values_of.Tie as tie
+use Rattle.entry.proofs.values_of.Statement.{statement}
+use Rattle.entry.proofs.values_of.Tie as tie
 
 flags-of-requires : tie.Need-flags-of-requires
 flags-of-requires c κs = search needs
