@@ -1,4 +1,4 @@
--- When actions are unsound (`unsound-exactly`): at a wrong length, or where oneHolds community, wherever it stands, is a rate that is not a number.
+-- When actions are unsound (`unsound-exactly`): at a wrong length, or where some community, wherever it stands, is a rate that is not a number.
 use Prim.Native.Nat.{ℕ, _/_, _^_}
 use mathlib.Core.Path.{_≡_, refl}
 use mathlib.Core.Bool.{Bool, true, false, _&&_, _||_}

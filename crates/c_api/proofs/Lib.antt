@@ -1,3 +1,4 @@
+-- The laws of this crate.
 pub mod Places
 pub mod Halves
 pub mod CallLaws

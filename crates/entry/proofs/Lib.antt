@@ -1,3 +1,4 @@
+-- The laws of this crate.
 pub mod ValueLaws
 pub mod RecordLaws
 pub mod CodecLaws

@@ -1,5 +1,5 @@
--- A record: its head, a list of fields of fixed widths, and then the value. 01: "Record: value length (2), originator (4), flags (1),
--- DSCP (1), byte rate (8), packet rate (8), redirect community (8), then the value; big-endian, absent fields zero."
+-- A record: its head, a list of fields of fixed widths, and then the value. 01: "Record: value length (2), originator (4), flags (1:
+-- ...), DSCP (1), byte rate (8), packet rate (8), redirect community (8), then the value; big-endian, absent fields zero."
 use Prim.Native.Nat.{ℕ, _+_}
 use mathlib.Core.Bool.{Bool, _&&_}
 use mathlib.Core.List.{List, [], _∷_, _++_}

@@ -1,6 +1,6 @@
 -- **Two histories** from equal empty tables that agree on each rule's last counted call, by its kind, originator and actions as read,
--- end in equal octets, and every packet has one verdict and one first match in both. Of what the calls were
--- given only what its types say is assumed (`EachCanBe`), and a buffer of at most 65,536 octets.
+-- end in equal octets, and every packet has one verdict and one first match in both. Of what the calls were given only what their types
+-- say is assumed (`EachCanBe`), and a buffer of at most 65,536 octets.
 use mathlib.Core.Path.{_≡_, refl, sym, _∙_}
 use mathlib.Core.Bool.{Bool, true, cond}
 use mathlib.Core.List.{List, [], _∷_}

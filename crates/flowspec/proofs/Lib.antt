@@ -1,3 +1,4 @@
+-- The laws of this crate.
 pub mod CompareLaws
 pub mod WriteLaws
 pub mod FeasibilityLaws

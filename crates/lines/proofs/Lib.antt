@@ -1,3 +1,4 @@
+-- The laws of this crate.
 pub mod GatherLaws
 pub mod CutLaws
 pub mod FormLaws

@@ -26,8 +26,8 @@ use Rattle.lines.specs.declared.Form.{Form}
 use Rattle.lines.specs.declared.Form.the-variants.{Route, Announce, Withdraw, Listing, Unknown}
 use Rattle.lines.specs.Line.{Line, other, lineOf, mostSigns}
 use Rattle.lines.specs.Form.{formSays, FormIn, Says}
-use Rattle.lines.specs.Serve.{Outcome, routeFits, printing, changing, adding, servedAs, served, Changes, Adds}
-use Rattle.lines.specs.Promise.{servedTold, Serves}
+use Rattle.lines.specs.Serve.{Outcome, routeFits, printing, changing, adding, servedAs, served, Changes, Adds, servedTold}
+use Rattle.lines.specs.Promise.{Serves}
 use Rattle.lines.proofs.CutLaws.{too-long}
 
 -- how `route_fits` comes to its answers, and what room it finds

@@ -1,3 +1,4 @@
+-- The definitions of this crate, in the order in which to read them.
 pub mod Line
 pub mod Form
 pub mod Answer

@@ -4,17 +4,12 @@
 use Prim.Native.Nat.{ℕ, _≤_}
 use mathlib.Core.Path.{_≡_}
 use mathlib.Core.List.{List, [], _∷_}
-use lib.ListN.{length}
 use Rattle.text.specs.Print.{laid}
 use Rattle.lines.specs.declared.Served.{Served}
 use Rattle.lines.specs.declared.Gathered.{Gathered}
 use Rattle.lines.specs.Answer.{mostText}
-use Rattle.lines.specs.Serve.{Outcome, served}
+use Rattle.lines.specs.Serve.{served, servedTold}
 use Rattle.lines.specs.Gather.{Gathering, gathered}
-
--- The answer for an outcome: how long its text is, which may be longer than the buffer that it is printed into, and the words in use.
-abbrev pub servedTold : Outcome → Served
-servedTold outcome = record { printed = length (outcome .text); used = outcome .used }
 
 -- Serving a line: the text stands at the front of the output's buffer, as far as that reaches, and the rest of it is kept. A buffer of
 -- `mostText` octets takes every text whole.

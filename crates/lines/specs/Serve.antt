@@ -56,15 +56,19 @@ servedAs other used routes table = printing unknownText used routes table
 unfoldable pub served : List ℕ → ℕ → List ℕ → List ℕ → Outcome
 served line used routes table = servedAs (lineOf line) used routes table
 
--- How the code holds what a line that changes the table leaves: the table, and the printed text.
+-- The answer for an outcome: how long its text is, which may be longer than the buffer that it is printed into, and the words in use.
+abbrev pub servedTold : Outcome → Served
+servedTold outcome = record { printed = length (outcome .text); used = outcome .used }
+
+-- How the code holds what a line that changes the table leaves, which no promise names: the table, and the printed text.
 pub record Changes (changed : Changed) (out : List ℕ) (printed : ℕ) (tableExit outExit : List ℕ) : Type 0 where
   pub leaves : tableExit ≡ changed .table
   pub prints : Answered out (changeText (changeTold (changed .answer))) outExit printed
 
--- How the code holds what a route line leaves: the routes, the printed text, and the answer. The table, which it leaves alone, is not lent
+-- How the code holds what a route line leaves, which no promise names: the routes, the printed text, and the answer. The table, which it leaves alone, is not lent
 -- to it.
 pub record Adds (added : Outcome) (out : List ℕ) (answer : Served) (routesExit outExit : List ℕ) : Type 0 where
-  pub is : answer ≡ record { printed = length (added .text); used = added .used }
+  pub is : answer ≡ servedTold added
   pub leaves : routesExit ≡ added .routes
   pub prints : outExit ≡ laid out 0 (added .text)
   pub short : answer .printed ≤ mostText

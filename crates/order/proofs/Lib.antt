@@ -1,3 +1,4 @@
+-- The laws of this crate.
 pub mod TurnLaws
 pub mod BodyLaws
 pub mod KeyLaws

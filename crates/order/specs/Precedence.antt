@@ -19,7 +19,7 @@ bodyOrder family kind a b =
 unfoldable pub partOrder : Family → Part → Part → Ordering
 partOrder family a b = then (compare (a .kind) (b .kind)) (bodyOrder family (a .kind) (a .body) (b .body))
 
--- Two lists of components: "component by component; a rule that runs out first comes later".
+-- Two lists of components: "component by component"; "a rule that runs out first comes later".
 unfoldable pub partsOrder : Family → List Part → List Part → Ordering
 partsOrder family = lex (partOrder family)
 

@@ -5,7 +5,7 @@ ghost use Prim.Native.Nat.{_≤_};
 ghost use lib.ListN.{length};
 ghost use Rattle.octets.specs.Order.{ordered};
 ghost use Rattle.rule.specs.Family.{ipv4};
-ghost use Rattle.rule.specs.Value.{components};
+ghost use Rattle.rule.specs.Value.{components, part};
 ghost use Rattle.order.specs.Precedence.{bodyOrder, partOrder, partsOrder, precedence};
 ghost use Rattle.order.specs.Turn.{runsOut, turnFor, Turned};
 use octets::Order;
@@ -23,7 +23,7 @@ pub fn compare_bodies(kind: u8, first: &[u8], second: &[u8]) -> Order
 
 // Two components: the lower type first, then their bodies.
 pub fn compare_components(kind: u8, first: &[u8], other: u8, second: &[u8]) -> Order
-    ensures { λ r. ⌜ r ≡ ordered (partOrder ipv4 (record { kind = kind; body = now (first .entry) }) (record { kind = other; body = now (second .entry) })) ⌝ }
+    ensures { λ r. ⌜ r ≡ ordered (partOrder ipv4 (part kind (now (first .entry))) (part other (now (second .entry)))) ⌝ }
 {
     if kind < other {
         return Order::First;

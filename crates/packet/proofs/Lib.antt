@@ -1,3 +1,4 @@
+-- The laws of this crate.
 pub mod OperatorTable
 pub mod Theorems
 pub mod HeaderLaws

@@ -1,3 +1,4 @@
+-- The definitions of this crate, in the order in which to read them.
 pub mod Header
 pub mod Transport
 pub mod Packet

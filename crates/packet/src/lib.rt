@@ -303,7 +303,7 @@ fn list_holds(kind: u8, body: &[u8], data: u64) -> bool
     }
 }
 
-// ---- Components and rules (sections 4.2.2 and 5) ----
+// ---- Components and rules (section 4.2) ----
 
 // Whether the list that a body of the given type is holds of a field; of a hidden one it never does.
 fn field_matches(kind: u8, body: &[u8], field: Field) -> bool

@@ -1,3 +1,4 @@
+-- The laws of this crate.
 pub mod BitLaws
 pub mod BodyLaws
 pub mod ContainLaws

@@ -1,1 +1,2 @@
+-- The definitions of this crate, in the order in which to read them.
 pub mod Prefix

@@ -1,3 +1,4 @@
+-- The laws of this crate.
 pub mod Examples
 pub mod FeasibleLaws
 pub mod PassLaws

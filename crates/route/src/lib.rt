@@ -2,6 +2,7 @@
 ghost use mathlib.Core.Path.{_≡_};
 ghost use Prim.Native.Nat.{_+_, _≤_};
 ghost use lib.ListN.{length, drop};
+ghost use Rattle.rule.specs.Value.{part};
 ghost use Rattle.route.specs.Route.{routeAt, routesOf, plainPrefix, rises, soundRoutes};
 ghost use Rattle.route.specs.Feasible.{matched, longer, judged, feasible};
 ghost use Rattle.route.specs.Pass.{risesToNext, added, noted, agrees, validated};
@@ -213,7 +214,7 @@ pub fn is_feasible(setting: bool, destination: Destination, originator: u32, wor
 
 // The destination that a rule's first component spells, if it is of type 1.
 fn destination_for(kind: u8, body: &[u8]) -> Destination
-    ensures { λ r. ⌜ r ≡ destinationFor ipv4 (record { kind = kind; body = now (body .entry) }) Destination.Missing ⌝ }
+    ensures { λ r. ⌜ r ≡ destinationFor ipv4 (part kind (now (body .entry))) Destination.Missing ⌝ }
 {
     if kind == 1 {
         return Destination::At(prefix::prefix_of(body));

@@ -1,3 +1,4 @@
+-- The laws of this crate.
 pub mod OperatorLaws
 pub mod Refusal
 pub mod ComponentLaws

@@ -530,7 +530,7 @@ pub fn one_rule(family: Family, s: &[u8]) -> Reading
 // ---- Writing (section 4.1) ----
 
 // How many octets the length field of a value of this size has.
-pub fn field_for(size: usize) -> usize
+pub fn field_size_for(size: usize) -> usize
     ensures { λ r. ⌜ (r ≡ length (lengthField size)) × (r ≤ 2) ⌝ }
 {
     if size < 240 {
@@ -559,7 +559,7 @@ pub fn write_accepted(value: &[u8], buffer: &mut [u8]) -> Writing
     ensures { λ r. ⌜ (r ≡ intoRoom (now (value .entry)) (length (now (buffer .entry))) Checked.Accepted) × (now (buffer .exit) ≡ filled (now (value .entry)) (now (buffer .entry)) r) ⌝ }
 {
     let size = value.len();
-    let field = field_for(size);
+    let field = field_size_for(size);
     let total = field + size;
     if buffer.len() < total {
         return Writing::Refused {

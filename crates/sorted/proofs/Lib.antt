@@ -1,3 +1,4 @@
+-- The laws of this crate.
 pub mod Cases
 pub mod HistoryLaws
 pub mod MemberLaws

@@ -1,2 +1,3 @@
-pub mod History
+-- The definitions of this crate, in the order in which to read them.
 pub mod Table
+pub mod History

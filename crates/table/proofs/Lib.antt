@@ -1,3 +1,4 @@
+-- The laws of this crate.
 pub mod WalkLaws
 pub mod SpliceLaws
 pub mod EntryLaws

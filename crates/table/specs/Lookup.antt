@@ -43,7 +43,7 @@ verdictFor family packet es =
     let rules = collected (hit family packet) es in
     verdictOf (mergedOnto noActions rules) (length rules)
 
--- What one record says of a packet: that it misses, or its entry's actions with whether the walk goes on.
+-- What one record says of a packet, as the code has it: that it misses, or its entry's actions with whether the walk goes on.
 abbrev pub hitOf : Bool → Actions → Hit
 hitOf false actions = Missed
 hitOf true actions = cond (actions .onward) (GoesOn actions) (Stops actions)

@@ -16,7 +16,8 @@ use Rattle.octets.specs.Test.{every}
 use Rattle.octets.proofs.Cases.{by-test, apart}
 use Rattle.text.specs.declared.Numeral.{Numeral}
 use Rattle.text.specs.declared.Numeral.the-variants.{Number, NotANumber}
-use Rattle.text.specs.Decimal.{isDigit, numberFrom, numberIn, startsWell, isNumber, readNumber, digitsOf, decimalOf}
+use Rattle.text.specs.Decimal.{numberFrom, numberIn, startsWell, isNumber, readNumber, digitsOf, decimalOf}
+use Rattle.text.specs.Spelling.{isDigit}
 use Rattle.text.specs.Print.{laid}
 use Rattle.text.proofs.HexLaws.{from-range, sign-more, sign-not, sign-all}
 use Rattle.text.proofs.PrintLaws.{laid-behind}

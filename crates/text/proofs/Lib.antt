@@ -1,3 +1,4 @@
+-- The laws of this crate.
 pub mod HexLaws
 pub mod PrintLaws
 pub mod DecimalLaws

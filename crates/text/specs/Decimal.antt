@@ -6,11 +6,7 @@ use lib.Dec.{ltb, eqb}
 use Rattle.octets.specs.Test.{every}
 use Rattle.text.specs.declared.Numeral.{Numeral}
 use Rattle.text.specs.declared.Numeral.the-variants.{Number, NotANumber}
-use Rattle.text.specs.Spelling.{isFrom}
-
--- A digit: 0 to 9.
-abbrev pub isDigit : ℕ → Bool
-isDigit sign = isFrom 0x30 0x39 sign
+use Rattle.text.specs.Spelling.{isDigit}
 
 -- The number that digits go on to spell behind those that spell n.
 unfoldable pub numberFrom : ℕ → List ℕ → ℕ

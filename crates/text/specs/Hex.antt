@@ -6,15 +6,15 @@ use lib.Dec.{eqb}
 use lib.ListN.{length, getD}
 use Rattle.octets.specs.Test.{every}
 use Rattle.octets.specs.Number.{numberAt}
-use Rattle.text.specs.Spelling.{quoted, isFrom}
+use Rattle.text.specs.Spelling.{quoted, isFrom, isDigit}
 
 -- A digit: 0 to 9, or a to f.
 unfoldable pub isHexDigit : ℕ → Bool
-isHexDigit sign = isFrom 0x30 0x39 sign || isFrom 0x61 0x66 sign
+isHexDigit sign = isDigit sign || isFrom 0x61 0x66 sign
 
 -- What a digit stands for; any other sign counts as 0.
 unfoldable pub hexValue : ℕ → ℕ
-hexValue sign = cond (isFrom 0x30 0x39 sign) (sign - 0x30) (cond (isFrom 0x61 0x66 sign) (sign - 0x61 + 10) 0)
+hexValue sign = cond (isDigit sign) (sign - 0x30) (cond (isFrom 0x61 0x66 sign) (sign - 0x61 + 10) 0)
 
 -- The digit for a number below 16.
 unfoldable pub hexDigit : ℕ → ℕ

@@ -14,3 +14,7 @@ quoted (sign before text) = code sign ∷ quoted text
 -- A sign from one to another.
 abbrev pub isFrom : ℕ → ℕ → ℕ → Bool
 isFrom low high sign = leb low sign && leb sign high
+
+-- A digit: 0 to 9.
+abbrev pub isDigit : ℕ → Bool
+isDigit sign = isFrom 0x30 0x39 sign

@@ -6,14 +6,14 @@ use borrow.Author.Needs.{needs}
 use Rattle.rule.proofs.write_accepted.Statement.{statement}
 use Rattle.rule.proofs.write_accepted.Tie as tie
 
-field-for-requires : tie.Need-field-for-requires
-field-for-requires c κs = search needs
+field-size-for-requires : tie.Need-field-size-for-requires
+field-size-for-requires c κs = search needs
 
 add-total : tie.Need-add-total
 add-total c = search needs
 
 returns : tie.Need-returns
-returns c = (no-room (c .before .before .before .before .args .value .now) (c .before .before .before .before .args .buffer .now) _ (c .before .field-for .ensures .0) (c .if1 .taken), refl)
+returns c = (no-room (c .before .before .before .before .args .value .now) (c .before .before .before .before .args .buffer .now) _ (c .before .field-size-for .ensures .0) (c .if1 .taken), refl)
 
 slice-aggregate-fill-plain : tie.Need-slice-aggregate-fill-plain
 slice-aggregate-fill-plain c = search needs
@@ -42,7 +42,7 @@ returns-2 : tie.Need-returns-2
 returns-2 c = let stores = c .before .before .store in
     let fills = c .before .before .before .before .before .before .before .before .before .before .fill-plain in
     let writes = c .before .before .before .before .before .before .before .write-length in
-    let field = c .before .before .before .before .before .before .before .before .before .before .before .before .before .field-for in
+    let field = c .before .before .before .before .before .before .before .before .before .before .before .before .before .field-size-for in
     let room = c .before .before .before .before .before .before .before .before .before .before .before .before .if1 .left in
     let a = c .before .before .before .before .before .before .before .before .before .before .before .before .before .before .before .before .args in (
       room-left (a .value .now) (a .buffer .now) _ (field .ensures .0) room,
@@ -53,7 +53,7 @@ pub write-accepted-spec : {M : Type 1} → statement M
 write-accepted-spec =
     tie.close
     (tie.spec
-    field-for-requires
+    field-size-for-requires
     add-total
     returns
     slice-aggregate-fill-plain
