@@ -106,8 +106,8 @@ fn answer_rest(
     answer(line, routes, used, table, out);
 }
 
-// Reads the input block by block and serves its lines. A proved loop has to end, and nothing says that the input does: so the loop counts
-// its turns down, from a number that no run uses up.
+// Reads the input block by block and serves its lines; since a proved loop has to end and nothing says that the input does, it counts its
+// turns down from a number that no run uses up.
 fn run(block: &mut [u8], line: &mut [u8], routes: &mut [u32], table: &mut [u8], out: &mut [u8])
     requires { ⌜ length (now out) ≡ mostText ⌝ }
 {

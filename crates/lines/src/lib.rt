@@ -47,7 +47,7 @@ pub struct Gathered {
     pub ended: bool,
 }
 
-// What a field of a line is to be. A number is read from any field.
+// What a field of a line is to be; a number is read from any field.
 pub enum Kind {
     Address,
     Rule,
@@ -67,7 +67,7 @@ pub enum Number {
     Read(u32, usize),
 }
 
-// What a line says, by numbers and by places in it. The communities of an announcement and the rule of a withdrawal end with the line.
+// What a line says, by numbers and by places in it; the communities of an announcement and the rule of a withdrawal end with the line.
 pub enum Form {
     Route {
         address: u32,
@@ -271,7 +271,7 @@ fn read_line(line: &[u8]) -> Form
 
 // ---- Printing an answer ----
 
-// Prints the place of a refusal from 3 to 7: where to go on. It stands behind the answer's number, which ends within 100 octets.
+// Prints the place of a refusal from 3 to 7 behind the answer's number, which ends within 100 octets: where to go on.
 fn put_place(out: &mut [u8], at: usize, number: u8, place: usize) -> usize
     requires { ⌜ at ≤ 100 ⌝ }
     ensures { λ r. ⌜ Printed (now (out .entry)) at (placeText number place) (now (out .exit)) r ⌝ }
@@ -339,7 +339,7 @@ fn put_count(out: &mut [u8], count: usize) -> usize
     text::put_octets(out, end, b"\n")
 }
 
-// Prints a record from a place on: where to go on. No list has a million octets, and no record is longer than a table.
+// Prints a record, which is no longer than a table, from a place on in a list, which has less than a million octets: where to go on.
 fn put_record(out: &mut [u8], at: usize, held: &[u8]) -> usize
     requires { ⌜ (at ≤ 1000000) × (length (now held) ≤ mostOctets) ⌝ }
     ensures { λ r. ⌜ Printed (now (out .entry)) at (ruleText (now (held .entry))) (now (out .exit)) r ⌝ }
@@ -349,7 +349,7 @@ fn put_record(out: &mut [u8], at: usize, held: &[u8]) -> usize
     text::put_octets(out, end, b"\n")
 }
 
-// Prints the records of a table from a place on: where to go on. They stand behind their count, whose line ends within 100 octets.
+// Prints the records of a table behind their count, whose line ends within 100 octets: where to go on.
 fn put_records(table: &[u8], out: &mut [u8], at: usize) -> usize
     requires { ⌜ (length (now table) ≤ mostOctets) × (at ≤ 100) ⌝ }
     ensures { λ r. ⌜ Printed (now (out .entry)) at (rulesText (records (now (table .entry)))) (now (out .exit)) r ⌝ }

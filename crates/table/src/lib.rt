@@ -262,7 +262,7 @@ pub fn remove_rule(table: &mut [u8], used: usize, value: &[u8]) -> bool
 }
 
 // Puts a rule, by its plain value, with its originator and actions into a sound table whose records take `used` octets; where there is
-// no room it tells so and changes nothing. Equal rules have records of equal length, so that a held one is written over where it stands.
+// no room it tells so and changes nothing, and a held one, whose record has the same length, is written over where it stands.
 pub fn insert_rule(
     table: &mut [u8],
     used: usize,

@@ -277,7 +277,7 @@ fn answer_call(line: &[u8], octets: &mut [u8], words: &mut [u32], table: &mut [u
     }
 }
 
-// Answers a line on the table in the first octets of a buffer: how many they are then. The line `table OCTETS` sets them.
+// Answers a line on the table in the first octets of a buffer, which the line `table OCTETS` sets: how many they are then.
 fn answer(
     line: &[u8],
     octets: &mut [u8],
