@@ -13,7 +13,7 @@ use Rattle.rule.specs.declared.Reading.the-variants.{Rule}
 use Rattle.rule.specs.Family.{ipv4}
 use Rattle.rule.specs.Reading.{fieldSize, fieldLength, firstRule, oneRule}
 use Rattle.rule.specs.Writing.{lengthField}
-use Rattle.order.specs.Precedence.{bodyOrder, partOrder, partsOrder, precedence}
+use Rattle.order.specs.Precedence.{bodyOrder, componentOrder, componentsOrder, precedence}
 use Rattle.action.specs.Rate.{scaled, wholePart, wholeOf, rateOfParts, rateOf}
 use Rattle.packet.specs.Header.{isUnusable, fragmentData}
 use Rattle.packet.specs.Transport.{transportOctets, transportFields}
@@ -27,7 +27,7 @@ pub marked : map (λ (e : Example). answerTo (e .asks)) examples ≡ map (λ (e 
 unfolding
     answerTo numberAt walk bits sameList contains prefixOrder prefixOf endsList sizeOf isPrefix isBitmask sizeAllowed pairAt pairsFrom prefixEnd bodyEnd componentAt
     componentsFrom components checkValue bodyOf operandAfter after plainOperator plainOperand plainAddress clearedOctet plainFrom plain fieldSize fieldLength lengthField
-    bodyOrder partOrder partsOrder precedence scaled wholePart wholeOf rateOfParts rateOf isUnusable fragmentData transportOctets transportFields fieldsOf packetOf
+    bodyOrder componentOrder componentsOrder precedence scaled wholePart wholeOf rateOfParts rateOf isUnusable fragmentData transportOctets transportFields fieldsOf packetOf
     numericHolds every oneHolds groupsFrom groups listHolds dataFor holdsFor bodyHolds fieldMatches fieldFor eitherPort componentMatches matches
 marked = refl
 

@@ -15,12 +15,12 @@ use Rattle.prefix.specs.declared.Prefix.{Prefix}
 use Rattle.prefix.specs.Prefix.{bits, firstBits, contains, prefixOf}
 use Rattle.rule.specs.Family.{ipv4}
 use Rattle.rule.specs.Operator.{isPrefix}
-use Rattle.rule.specs.Value.{Part, components}
+use Rattle.rule.specs.Value.{Component, components}
 use Rattle.rule.specs.declared.Expected.the-variants.{Length}
 use Rattle.rule.specs.Plain.{bodyOf, plainFrom, plain}
 use Rattle.rule.proofs.PlainLaws.{length-kept}
-use Rattle.rule.proofs.SpellingLaws.{plainPart, components-plain}
-use Rattle.rule.proofs.PartLaws.{SoundPart, each-octets, each-sound}
+use Rattle.rule.proofs.SpellingLaws.{plainComponent, components-plain}
+use Rattle.rule.proofs.ComponentsLaws.{SoundComponent, each-octets, each-sound}
 use Rattle.route.specs.declared.Route.{Route}
 use Rattle.route.specs.declared.Destination.{Destination}
 use Rattle.route.specs.declared.Destination.the-variants.{Missing, At}
@@ -86,15 +86,15 @@ body-alike : (body : List ℕ) → Octets body → getD body 0 0 ≤ 32 → Alik
 unfolding prefixOf
 body-alike body o within = record { long = length-kept body; begin = first-kept 4 body o within }
 
-destination-alike : (ps : List Part) → Each (λ p. Octets (p .body)) ps → Each (SoundPart ipv4) ps
-    → AlikeTo (destinationAmong ipv4 (map plainPart ps)) (destinationAmong ipv4 ps)
+destination-alike : (ps : List Component) → Each (λ p. Octets (p .body)) ps → Each (SoundComponent ipv4) ps
+    → AlikeTo (destinationAmong ipv4 (map plainComponent ps)) (destinationAmong ipv4 ps)
 unfolding destinationAmong destinationFor bodyOf isPrefix
 destination-alike [] o s = tt
 destination-alike (p ∷ ps) o s =
     by-test (eqb (p .kind) 1) (λ t. rw (eqb-true (p .kind) 1 t) (destination p (o .0) (s .0) (eqb-true (p .kind) 1 t)))
     (λ t. rw t (destination-alike ps (o .1) (s .1)))
   where
-    destination : (p : Part) → Octets (p .body) → SoundPart ipv4 p → p .kind ≡ 1 → Alike (prefixOf 32 (plainFrom (bodyOf 1) (p .body))) (prefixOf 32 (p .body))
+    destination : (p : Component) → Octets (p .body) → SoundComponent ipv4 p → p .kind ≡ 1 → Alike (prefixOf 32 (plainFrom (bodyOf 1) (p .body))) (prefixOf 32 (p .body))
     destination p o s e = body-alike (p .body) o (s .prefix (rw e refl) .within)
 
 -- **a rule is feasible where its plain spelling is**, whatever octets its value is

@@ -22,12 +22,12 @@ use Rattle.rule.specs.declared.Family.{Family}
 use Rattle.rule.specs.declared.Expected.{Expected}
 use Rattle.rule.specs.declared.Expected.the-variants.{Kind, Length, Address}
 use Rattle.rule.specs.Operator.{isPrefix}
-use Rattle.rule.specs.Value.{Part, components}
+use Rattle.rule.specs.Value.{Component, components}
 use Rattle.rule.specs.Plain.{bodyOf, after, clearedOctet, plainAddress, plainFrom, plain}
 use Rattle.rule.proofs.PlainLaws.{above, length-plain-from, length-kept}
 use Rattle.rule.proofs.ClearedLaws.{octets-plain-from}
-use Rattle.rule.proofs.SpellingLaws.{plainPart, components-plain}
-use Rattle.rule.proofs.PartLaws.{PrefixBody, SoundPart, each-sound, each-octets}
+use Rattle.rule.proofs.SpellingLaws.{plainComponent, components-plain}
+use Rattle.rule.proofs.ComponentsLaws.{PrefixBody, SoundComponent, each-sound, each-octets}
 
 -- no octets spell 0
 none-spelled : (n : ℕ) (e : Expected) (r : List ℕ) → length r ≡ 0 → numberAt n (plainFrom e r) 0 ≡ 0
@@ -81,7 +81,7 @@ prefix-clear n (x ∷ r) h l =
     rw (t, number-behind n (x ∷ []) (plainFrom (Address x) r) 0) (address-clear n x r (omega arith) h (omega arith)))
 
 -- a component in the plain spelling: octets, and a prefix's body is whole and spells a plain prefix
-pub record PlainBody (family : Family) (p : Part) : Type 0 where
+pub record PlainBody (family : Family) (p : Component) : Type 0 where
   pub octets : Octets (p .body)
   pub whole : isPrefix (p .kind) ≡ true → PrefixBody family (p .body)
   pub formed : isPrefix (p .kind) ≡ true → WellFormed (family .width) (prefixOf (family .width) (p .body))
@@ -104,7 +104,7 @@ module _ (family : Family) (n : ℕ) (wide : family .width ≡ 8 * n) where
         clear = rw (eighth, length-kept body, wide) (prefix-clear n body (omega arith) (b .whole));
       }
 
-  plain-body : (p : Part) → SoundPart family p → Octets (p .body) → PlainBody family (plainPart p)
+  plain-body : (p : Component) → SoundComponent family p → Octets (p .body) → PlainBody family (plainComponent p)
   unfolding bodyOf
   plain-body p s o =
       record {
@@ -113,7 +113,7 @@ module _ (family : Family) (n : ℕ) (wide : family .width ≡ 8 * n) where
         formed = λ t. rw t (plain-formed (p .body) o (s .prefix t));
       }
 
-  each-plain : (ps : List Part) → Each (SoundPart family) ps → Each (λ p. Octets (p .body)) ps → Each (PlainBody family) (map plainPart ps)
+  each-plain : (ps : List Component) → Each (SoundComponent family) ps → Each (λ p. Octets (p .body)) ps → Each (PlainBody family) (map plainComponent ps)
   each-plain [] s o = tt
   each-plain (p ∷ ps) s o = (plain-body p (s .0) (o .0), each-plain ps (s .1) (o .1))
 

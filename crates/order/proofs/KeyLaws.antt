@@ -16,12 +16,12 @@ use Rattle.prefix.proofs.PrefixLaws.{one-order as prefix-order}
 use Rattle.rule.specs.declared.Family.{Family}
 use Rattle.rule.specs.declared.Checked.the-variants.{Accepted}
 use Rattle.rule.specs.Operator.{isPrefix}
-use Rattle.rule.specs.Value.{Part, spelled, components, checkValue}
+use Rattle.rule.specs.Value.{Component, spelled, components, checkValue}
 use Rattle.rule.specs.Plain.{plain}
 use Rattle.rule.proofs.ClearedLaws.{plain-again}
 use Rattle.rule.proofs.SpellingLaws.{check-plain}
-use Rattle.rule.proofs.PartLaws.{spelled-whole}
-use Rattle.order.specs.Precedence.{bodyOrder, partOrder, partsOrder, precedence}
+use Rattle.rule.proofs.ComponentsLaws.{spelled-whole}
+use Rattle.order.specs.Precedence.{bodyOrder, componentOrder, componentsOrder, precedence}
 use Rattle.order.specs.Key.{bodyKey, keyOf, keysOf, keyOrder}
 use Rattle.order.proofs.BodyLaws.{PlainBody, plain-bodies, prefix-only}
 
@@ -31,9 +31,9 @@ key-order = lex-order (lex compare) (lex-order compare nat-order)
 
 module _ (family : Family) where
   -- two components in the plain spelling are ordered as their keys are
-  part-order : (p q : Part) → PlainBody family p → PlainBody family q → partOrder family p q ≡ lex compare (keyOf family p) (keyOf family q)
-  unfolding partOrder bodyOrder keyOf bodyKey
-  part-order p q P Q = go (compare (p .kind) (q .kind)) refl
+  component-order : (p q : Component) → PlainBody family p → PlainBody family q → componentOrder family p q ≡ lex compare (keyOf family p) (keyOf family q)
+  unfolding componentOrder bodyOrder keyOf bodyKey
+  component-order p q P Q = go (compare (p .kind) (q .kind)) refl
     where
       bodies : p .kind ≡ q .kind → bodyOrder family (p .kind) (p .body) (q .body) ≡ lex compare (bodyKey family (p .kind) (p .body)) (bodyKey family (q .kind) (q .body))
       bodies e =
@@ -43,23 +43,23 @@ module _ (family : Family) where
           rw (t, u) (prefix-order (family .width) (prefixOf (family .width) (p .body)) (prefixOf (family .width) (q .body)) (P .formed t) (Q .formed u)))
           (λ t. let u : isPrefix (q .kind) ≡ false = sym (ap isPrefix e) ∙ t in rw (t, u))
 
-      go : (o : Ordering) → compare (p .kind) (q .kind) ≡ o → partOrder family p q ≡ lex compare (keyOf family p) (keyOf family q)
+      go : (o : Ordering) → compare (p .kind) (q .kind) ≡ o → componentOrder family p q ≡ lex compare (keyOf family p) (keyOf family q)
       go Ordering·lt e = rw e
       go Ordering·eq e = ap (then (compare (p .kind) (q .kind))) (bodies (nat-order .only (p .kind) (q .kind) e))
       go Ordering·gt e = rw e
 
-  parts-order : (ps qs : List Part) → Each (PlainBody family) ps → Each (PlainBody family) qs
-      → lex (partOrder family) ps qs ≡ keyOrder (map (keyOf family) ps) (map (keyOf family) qs)
-  parts-order [] [] P Q = refl
-  parts-order [] (q ∷ qs) P Q = refl
-  parts-order (p ∷ ps) [] P Q = refl
-  parts-order (p ∷ ps) (q ∷ qs) P Q = λ i. then (part-order p q (P .0) (Q .0) i) (parts-order ps qs (P .1) (Q .1) i)
+  components-order : (ps qs : List Component) → Each (PlainBody family) ps → Each (PlainBody family) qs
+      → lex (componentOrder family) ps qs ≡ keyOrder (map (keyOf family) ps) (map (keyOf family) qs)
+  components-order [] [] P Q = refl
+  components-order [] (q ∷ qs) P Q = refl
+  components-order (p ∷ ps) [] P Q = refl
+  components-order (p ∷ ps) (q ∷ qs) P Q = λ i. then (component-order p q (P .0) (Q .0) i) (components-order ps qs (P .1) (Q .1) i)
 
 module _ (family : Family) (n : ℕ) (wide : family .width ≡ 8 * n) where
   -- components in the plain spelling with one key are equal
-  part-only : (p q : Part) → PlainBody family p → PlainBody family q → keyOf family p ≡ keyOf family q → p ≡ q
+  component-only : (p q : Component) → PlainBody family p → PlainBody family q → keyOf family p ≡ keyOf family q → p ≡ q
   unfolding keyOf bodyKey
-  part-only p q P Q e =
+  component-only p q P Q e =
       let kinds : p .kind ≡ q .kind = head-eq-of-cons-eq e in
       let bodies = same kinds (tail-eq-of-cons-eq e) in
       λ i. record { kind = kinds i; body = bodies i }
@@ -73,19 +73,19 @@ module _ (family : Family) (n : ℕ) (wide : family .width ≡ 8 * n) where
           (tie (family .width) _ _ (P .formed t) (Q .formed u) (rw (t, u) at f)))
           (λ t. let u : isPrefix (q .kind) ≡ false = sym (ap isPrefix k) ∙ t in rw (t, u) at f)
 
-  parts-only : (ps qs : List Part) → Each (PlainBody family) ps → Each (PlainBody family) qs
+  components-only : (ps qs : List Component) → Each (PlainBody family) ps → Each (PlainBody family) qs
       → map (keyOf family) ps ≡ map (keyOf family) qs → ps ≡ qs
-  parts-only [] [] P Q e = refl
-  parts-only [] (q ∷ qs) P Q e = cc
-  parts-only (p ∷ ps) [] P Q e = cc
-  parts-only (p ∷ ps) (q ∷ qs) P Q e =
-      λ i. part-only p q (P .0) (Q .0) (head-eq-of-cons-eq e) i ∷ parts-only ps qs (P .1) (Q .1) (tail-eq-of-cons-eq e) i
+  components-only [] [] P Q e = refl
+  components-only [] (q ∷ qs) P Q e = cc
+  components-only (p ∷ ps) [] P Q e = cc
+  components-only (p ∷ ps) (q ∷ qs) P Q e =
+      λ i. component-only p q (P .0) (Q .0) (head-eq-of-cons-eq e) i ∷ components-only ps qs (P .1) (Q .1) (tail-eq-of-cons-eq e) i
 
   -- **One order**: the precedence of two values is the order of their keys.
   pub one-order : (v w : List ℕ) → Octets v → Octets w → precedence family v w ≡ keyOrder (keysOf family v) (keysOf family w)
-  unfolding precedence partsOrder keysOf
+  unfolding precedence componentsOrder keysOf
   one-order v w o p =
-      parts-order family (components family (plain v)) (components family (plain w)) (plain-bodies family n wide v o) (plain-bodies family n wide w p)
+      components-order family (components family (plain v)) (components family (plain w)) (plain-bodies family n wide v o) (plain-bodies family n wide w p)
 
   -- A value ties with itself, so that it does not come before itself.
   pub precedence-same : (v : List ℕ) → Octets v → precedence family v v ≡ Ordering·eq
@@ -113,7 +113,7 @@ module _ (family : Family) (n : ℕ) (wide : family .width ≡ 8 * n) where
       pub keys-only : keysOf family v ≡ keysOf family w → plain v ≡ plain w
       unfolding keysOf
       keys-only e =
-          let parts = parts-only (components family (plain v)) (components family (plain w)) (plain-bodies family n wide v o) (plain-bodies family n wide w p) e in
+          let parts = components-only (components family (plain v)) (components family (plain w)) (plain-bodies family n wide v o) (plain-bodies family n wide w p) e in
           sym (spelled-whole family (plain v) (check-plain family v o ∙ ok)) ∙ ap spelled parts
           ∙ spelled-whole family (plain w) (check-plain family w p ∙ also)
 

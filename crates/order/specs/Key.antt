@@ -8,7 +8,7 @@ use Rattle.prefix.specs.Prefix.{firstBits, prefixOf}
 use Rattle.prefix.specs.declared.Prefix.{Prefix}
 use Rattle.rule.specs.declared.Family.{Family}
 use Rattle.rule.specs.Operator.{isPrefix}
-use Rattle.rule.specs.Value.{Part, components}
+use Rattle.rule.specs.Value.{Component, components}
 use Rattle.rule.specs.Plain.{plain}
 
 -- The bits of a prefix, as many as its length says, of an address of w bits: a more specific prefix goes on where the other runs out.
@@ -20,7 +20,7 @@ unfoldable pub bodyKey : Family → ℕ → List ℕ → List ℕ
 bodyKey family kind body = cond (isPrefix kind) (prefixBits (family .width) (prefixOf (family .width) body)) body
 
 -- The key of a component: its type, as "of two types the lower comes first", then the key of its body.
-unfoldable pub keyOf : Family → Part → List ℕ
+unfoldable pub keyOf : Family → Component → List ℕ
 keyOf family p = p .kind ∷ bodyKey family (p .kind) (p .body)
 
 -- The key of a value: the keys of the components of its plain spelling.

@@ -7,7 +7,7 @@ use Rattle.octets.specs.Order.{then, lex}
 use Rattle.prefix.specs.Prefix.{prefixOrder, prefixOf}
 use Rattle.rule.specs.declared.Family.{Family}
 use Rattle.rule.specs.Operator.{isPrefix}
-use Rattle.rule.specs.Value.{Part, components}
+use Rattle.rule.specs.Value.{Component, components}
 use Rattle.rule.specs.Plain.{plain}
 
 -- Two bodies of one type: prefixes as prefixes, "other bodies: octet order, the lower first".
@@ -16,13 +16,13 @@ bodyOrder family kind a b =
     cond (isPrefix kind) (prefixOrder (family .width) (prefixOf (family .width) a) (prefixOf (family .width) b)) (lex compare a b)
 
 -- Two components: "of two types the lower comes first", and within a type the bodies decide.
-unfoldable pub partOrder : Family → Part → Part → Ordering
-partOrder family a b = then (compare (a .kind) (b .kind)) (bodyOrder family (a .kind) (a .body) (b .body))
+unfoldable pub componentOrder : Family → Component → Component → Ordering
+componentOrder family a b = then (compare (a .kind) (b .kind)) (bodyOrder family (a .kind) (a .body) (b .body))
 
 -- Two lists of components: "component by component"; "a rule that runs out first comes later".
-unfoldable pub partsOrder : Family → List Part → List Part → Ordering
-partsOrder family = lex (partOrder family)
+unfoldable pub componentsOrder : Family → List Component → List Component → Ordering
+componentsOrder family = lex (componentOrder family)
 
 -- Two values.
 unfoldable pub precedence : Family → List ℕ → List ℕ → Ordering
-precedence family v w = partsOrder family (components family (plain v)) (components family (plain w))
+precedence family v w = componentsOrder family (components family (plain v)) (components family (plain w))

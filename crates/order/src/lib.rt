@@ -5,8 +5,8 @@ ghost use Prim.Native.Nat.{_≤_};
 ghost use lib.ListN.{length};
 ghost use Rattle.octets.specs.Order.{ordered};
 ghost use Rattle.rule.specs.Family.{ipv4};
-ghost use Rattle.rule.specs.Value.{components, part};
-ghost use Rattle.order.specs.Precedence.{bodyOrder, partOrder, partsOrder, precedence};
+ghost use Rattle.rule.specs.Value.{components, component};
+ghost use Rattle.order.specs.Precedence.{bodyOrder, componentOrder, componentsOrder, precedence};
 ghost use Rattle.order.specs.Turn.{runsOut, turnFor, Turned};
 use octets::Order;
 use rule::Next;
@@ -23,7 +23,7 @@ pub fn compare_bodies(kind: u8, first: &[u8], second: &[u8]) -> Order
 
 // Two components: the lower type first, then their bodies.
 pub fn compare_components(kind: u8, first: &[u8], other: u8, second: &[u8]) -> Order
-    ensures { λ r. ⌜ r ≡ ordered (partOrder ipv4 (part kind (now (first .entry))) (part other (now (second .entry)))) ⌝ }
+    ensures { λ r. ⌜ r ≡ ordered (componentOrder ipv4 (component kind (now (first .entry))) (component other (now (second .entry)))) ⌝ }
 {
     if kind < other {
         return Order::First;
@@ -45,7 +45,7 @@ pub fn runs_out(second: Next) -> Order
     ensures { λ r. ⌜ r ≡ runsOut second ⌝ }
 {
     match second {
-        Next::Component { kind: _, next: _ } => Order::Second,
+        Next::Another { kind: _, next: _ } => Order::Second,
         Next::Nothing => Order::Same,
         Next::Refused {
             number: _,
@@ -78,13 +78,13 @@ pub fn compare_next(first: &[u8], here: usize, second: &[u8], there: usize, prev
             number: _,
             place: _,
         } => Turn::Decided(runs_out(right)),
-        Next::Component { kind, next } => match right {
+        Next::Another { kind, next } => match right {
             Next::Nothing => Turn::Decided(Order::First),
             Next::Refused {
                 number: _,
                 place: _,
             } => Turn::Decided(Order::First),
-            Next::Component {
+            Next::Another {
                 kind: other,
                 next: behind,
             } => {
@@ -104,7 +104,7 @@ pub fn compare_next(first: &[u8], here: usize, second: &[u8], there: usize, prev
 
 // Two values that are plain already: component by component, and what runs out first comes later.
 pub fn compare_plain(first: &[u8], second: &[u8]) -> Order
-    ensures { λ r. ⌜ r ≡ ordered (partsOrder ipv4 (components ipv4 (now (first .entry))) (components ipv4 (now (second .entry)))) ⌝ }
+    ensures { λ r. ⌜ r ≡ ordered (componentsOrder ipv4 (components ipv4 (now (first .entry))) (components ipv4 (now (second .entry)))) ⌝ }
 {
     let mut at: usize = 0;
     let mut place: usize = 0;

@@ -12,10 +12,10 @@ use Rattle.prefix.specs.Prefix.{contains, prefixOf}
 use Rattle.prefix.specs.declared.Prefix.{Prefix}
 use Rattle.rule.specs.declared.Family.{Family}
 use Rattle.rule.specs.declared.Next.{Next}
-use Rattle.rule.specs.declared.Next.the-variants.{Nothing, Component, Refused}
+use Rattle.rule.specs.declared.Next.the-variants.{Nothing, Another, Refused}
 use Rattle.rule.specs.declared.Checked.{Checked}
 use Rattle.rule.specs.Component.{componentAt}
-use Rattle.rule.specs.Value.{Part, componentsFrom, components, part}
+use Rattle.rule.specs.Value.{Component, componentsFrom, components, component}
 use Rattle.rule.proofs.ValueLaws.{was-found, components-more, components-none, components-refused}
 use Rattle.packet.specs.declared.Field.{Field}
 use Rattle.packet.specs.declared.Field.the-variants.{Shown, Hidden}
@@ -63,7 +63,7 @@ port-matches body transport a b e f = rw (e, f)
 
 -- a type that is no prefix and not the port's is judged on its one field
 pub on-field : (kind : ℕ) (body : List ℕ) (packet : Packet) (r : Bool) (field : Field) → (kind ≡ 1 → ⊥) → (kind ≡ 2 → ⊥) → (kind ≡ 4 → ⊥)
-    → field ≡ fieldFor kind packet → r ≡ fieldMatches kind body field → r ≡ componentMatches packet (part kind body)
+    → field ≡ fieldFor kind packet → r ≡ fieldMatches kind body field → r ≡ componentMatches packet (component kind body)
 unfolding componentMatches
 on-field kind body packet r field a b c e f = rw (ne-eqb kind 1 a, ne-eqb kind 2 b, ne-eqb kind 4 c, ← e) f
 
@@ -78,11 +78,11 @@ from-start family v packet = refl
 
 module _ (family : Family) (v : List ℕ) (packet : Packet) (at previous : ℕ) (next : Next) (is : next ≡ componentAt family v at previous)
     (so-far : matches family v packet ≡ matchesFrom family v packet at previous) where
-  abbrev rest : Walk Part Checked → Bool
+  abbrev rest : Walk Component Checked → Bool
   rest w = every (componentMatches packet) (w .items)
 
-  module _ (kind behind : ℕ) (r : Bool) (found : next ≡ Component kind behind)
-      (says : r ≡ componentMatches packet (part kind (take (behind - (at + 1)) (drop (at + 1) v)))) where
+  module _ (kind behind : ℕ) (r : Bool) (found : next ≡ Another kind behind)
+      (says : r ≡ componentMatches packet (component kind (take (behind - (at + 1)) (drop (at + 1) v)))) where
     one-more : matches family v packet ≡ r && matchesFrom family v packet behind kind
     unfolding every
     one-more = so-far ∙ ap rest (components-more family v at previous kind behind (sym is ∙ found)) ∙ rw says

@@ -22,13 +22,13 @@ use Rattle.rule.specs.declared.Family.{Family}
 use Rattle.rule.specs.declared.Expected.the-variants.{Kind, Length, Address, Operator}
 use Rattle.rule.specs.Operator.{isPrefix, isBitmask}
 use Rattle.rule.specs.Component.{Pair, pairsFrom}
-use Rattle.rule.specs.Value.{Part, components}
+use Rattle.rule.specs.Value.{Component, components}
 use Rattle.rule.specs.Plain.{bodyOf, after, plainOperator, plainOperand, plainAddress, clearedOctet, plainFrom, plain}
 use Rattle.rule.proofs.ComponentLaws.{pairs-ind}
 use Rattle.rule.proofs.PlainLaws.{whole-octet, above, length-kept}
 use Rattle.rule.proofs.ClearedLaws.{size-kept, operand-again, cleared-small, octets-plain-from}
-use Rattle.rule.proofs.SpellingLaws.{plainPair, plainPairs, pairs-plain, plainPart, components-plain}
-use Rattle.rule.proofs.PartLaws.{each-octets}
+use Rattle.rule.proofs.SpellingLaws.{plainPair, plainPairs, pairs-plain, plainComponent, components-plain}
+use Rattle.rule.proofs.ComponentsLaws.{each-octets}
 use Rattle.packet.specs.declared.Field.{Field}
 use Rattle.packet.specs.declared.Field.the-variants.{Shown, Hidden}
 use Rattle.packet.specs.declared.Packet.{Packet}
@@ -177,7 +177,7 @@ prefix-plain body address o =
 
 module _ (packet : Packet) where
   -- a component in the plain spelling matches where the component does
-  component-plain : (p : Part) → Octets (p .body) → componentMatches packet (plainPart p) ≡ componentMatches packet p
+  component-plain : (p : Component) → Octets (p .body) → componentMatches packet (plainComponent p) ≡ componentMatches packet p
   unfolding componentMatches bodyOf isPrefix eitherPort
   component-plain p o =
       let kind = p .kind in
@@ -193,7 +193,7 @@ module _ (packet : Packet) where
       ))
       (λ w. rw (t, u, w) (field-plain kind body o (fieldFor kind packet)))))
 
-  all-plain : (ps : List Part) → Each (λ p. Octets (p .body)) ps → every (componentMatches packet) (map plainPart ps) ≡ every (componentMatches packet) ps
+  all-plain : (ps : List Component) → Each (λ p. Octets (p .body)) ps → every (componentMatches packet) (map plainComponent ps) ≡ every (componentMatches packet) ps
   unfolding every
   all-plain [] o = refl
   all-plain (p ∷ ps) o = rw (component-plain p (o .0), all-plain ps (o .1))

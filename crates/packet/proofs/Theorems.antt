@@ -18,7 +18,7 @@ use Rattle.octets.proofs.Facts.{Octets}
 use Rattle.rule.specs.declared.Family.{Family}
 use Rattle.rule.specs.Operator.{sizeOf, isBitmask}
 use Rattle.rule.specs.Component.{Pair}
-use Rattle.rule.specs.Value.{Part, components}
+use Rattle.rule.specs.Value.{Component, components}
 use Rattle.rule.specs.Plain.{plainOperand}
 use Rattle.packet.specs.declared.Field.the-variants.{Hidden}
 use Rattle.packet.specs.declared.Transport.{Transport}
@@ -38,7 +38,7 @@ abbrev pub hidden : Transport
 hidden = record { «source_port» = Hidden; «destination_port» = Hidden; «icmp_type» = Hidden; «icmp_code» = Hidden; flags = Hidden }
 
 -- whether a component asks for the transport header: port, destination port, source port, ICMP type and code, TCP flags
-abbrev pub asksTransport : Part → Bool
+abbrev pub asksTransport : Component → Bool
 asksTransport component = leb 4 (component .kind) && leb (component .kind) 9
 
 -- no octets show nothing, whatever the protocol
@@ -48,7 +48,7 @@ no-octets protocol = simp and-false
 
 -- a component that asks for a hidden transport header never matches
 module _ (packet : Packet) (shows : packet .transport ≡ hidden) where
-  pub never-matches : (component : Part) → asksTransport component ≡ true → componentMatches packet component ≡ false
+  pub never-matches : (component : Component) → asksTransport component ≡ true → componentMatches packet component ≡ false
   unfolding componentMatches fieldFor fieldMatches eitherPort
   never-matches component asks =
       let kind = component .kind in
@@ -69,7 +69,7 @@ module _ (packet : Packet) (shows : packet .transport ≡ hidden) where
       let nine : kind ≡ 9 = omega arith in
       rw (nine, shows))))))
 
-  one-fails : (components : List Part) → oneHolds asksTransport components ≡ true → every (componentMatches packet) components ≡ false
+  one-fails : (components : List Component) → oneHolds asksTransport components ≡ true → every (componentMatches packet) components ≡ false
   unfolding every oneHolds
   one-fails [] h = apart (cc)
   one-fails (c ∷ cs) h =

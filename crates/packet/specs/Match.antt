@@ -10,7 +10,7 @@ use Rattle.prefix.specs.Prefix.{contains, prefixOf}
 use Rattle.rule.specs.declared.Family.{Family}
 use Rattle.rule.specs.Operator.{sizeOf, isBitmask}
 use Rattle.rule.specs.Component.{Pair, pairsFrom}
-use Rattle.rule.specs.Value.{Part, components}
+use Rattle.rule.specs.Value.{Component, components}
 use Rattle.rule.specs.Plain.{plainOperand}
 use Rattle.packet.specs.declared.Field.{Field}
 use Rattle.packet.specs.declared.Field.the-variants.{Shown, Hidden}
@@ -67,7 +67,7 @@ unfoldable pub eitherPort : List ℕ → Transport → Bool
 eitherPort body transport = fieldMatches 4 body (transport .«source_port») || fieldMatches 4 body (transport .«destination_port»)
 
 -- Whether a packet matches a component.
-unfoldable pub componentMatches : Packet → Part → Bool
+unfoldable pub componentMatches : Packet → Component → Bool
 componentMatches packet component =
     cond (eqb (component .kind) 1) (coversAddress 32 (component .body) (packet .destination))
     (cond (eqb (component .kind) 2) (coversAddress 32 (component .body) (packet .source))

@@ -4,7 +4,7 @@
 ghost use mathlib.Core.Path.{_≡_};
 ghost use Prim.Native.Nat.{_<_};
 ghost use lib.ListN.{length};
-ghost use Rattle.rule.specs.Value.{part};
+ghost use Rattle.rule.specs.Value.{component};
 ghost use Rattle.packet.specs.Header.{isUnusable, fragmentData};
 ghost use Rattle.packet.specs.Transport.{transportFound, transportOctets, shownIf, hasPorts, hasIcmp, hasFlags, transportFields};
 ghost use Rattle.packet.specs.Packet.{packetOf};
@@ -359,7 +359,7 @@ fn either_port(body: &[u8], transport: Transport) -> bool
 
 // Whether a packet matches a component, given by its type and body.
 fn matches_component(kind: u8, body: &[u8], packet: Packet) -> bool
-    ensures { λ r. ⌜ r ≡ componentMatches packet (part kind (now (body .entry))) ⌝ }
+    ensures { λ r. ⌜ r ≡ componentMatches packet (component kind (now (body .entry))) ⌝ }
 {
     match kind {
         1 => covers_address(body, packet.destination),
@@ -378,7 +378,7 @@ pub fn matches_rule(family: Family, value: &[u8], packet: Packet) -> bool
     loop {
         let next = rule::next_component(family, value, at, previous);
         match next {
-            Next::Component { kind, next } => {
+            Next::Another { kind, next } => {
                 let start = at + 1;
                 if !matches_component(kind, &value[start..next], packet) {
                     return false;

@@ -9,11 +9,11 @@ use Rattle.prefix.specs.declared.Prefix.{Prefix}
 use Rattle.prefix.specs.Prefix.{prefixOf}
 use Rattle.rule.specs.declared.Family.{Family}
 use Rattle.rule.specs.declared.Next.{Next}
-use Rattle.rule.specs.declared.Next.the-variants.{Nothing, Component, Refused}
+use Rattle.rule.specs.declared.Next.the-variants.{Nothing, Another, Refused}
 use Rattle.rule.specs.declared.Checked.{Checked}
 use Rattle.rule.specs.Family.{ipv4}
 use Rattle.rule.specs.Component.{componentAt}
-use Rattle.rule.specs.Value.{Part, between, componentsFrom, components}
+use Rattle.rule.specs.Value.{Component, between, componentsFrom, components}
 use Rattle.rule.proofs.ValueLaws.{Found, was-found, components-more, components-none, components-refused, components-ind}
 use Rattle.route.specs.declared.Destination.{Destination}
 use Rattle.route.specs.declared.Destination.the-variants.{Missing, At}
@@ -31,7 +31,7 @@ module _ (kind : ℕ) (body : List ℕ) where
 
 module _ (family : Family) (v : List ℕ) where
   -- behind a component there is no destination
-  Later : ℕ → ℕ → Walk Part Checked → Type 0
+  Later : ℕ → ℕ → Walk Component Checked → Type 0
   Later at previous w = 1 ≤ previous → destinationAmong family (w .items) ≡ Missing
 
   later : (at previous : ℕ) → Later at previous (componentsFrom family v (record { at = at; previous = previous }))
@@ -43,7 +43,7 @@ module _ (family : Family) (v : List ℕ) where
       let rises = f .rises in
       rw (ne-eqb kind 1 (omega arith)) (rest (omega arith)))
 
-  parts : Walk Part Checked → List Part
+  parts : Walk Component Checked → List Component
   parts w = w .items
 
   -- how `destination_of` comes to its answers
@@ -51,10 +51,10 @@ module _ (family : Family) (v : List ℕ) where
     found : componentAt family v 0 0 ≡ next
     found = rw (← four) (sym is)
 
-    pub first-found : (kind behind : ℕ) → next ≡ Component kind behind → Found family v 0 0 kind behind
+    pub first-found : (kind behind : ℕ) → next ≡ Another kind behind → Found family v 0 0 kind behind
     first-found kind behind e = was-found family v 0 0 kind behind (found ∙ e)
 
-    pub by-first : (kind behind : ℕ) (r : Destination) → next ≡ Component kind behind
+    pub by-first : (kind behind : ℕ) (r : Destination) → next ≡ Another kind behind
         → r ≡ destinationFor family (record { kind = kind; body = between v 1 behind }) Missing → r ≡ destinationOf family v
     unfolding destinationOf components destinationAmong parts Later
     by-first kind behind r e s =

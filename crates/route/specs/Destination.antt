@@ -5,16 +5,16 @@ use mathlib.Core.List.{List, [], _∷_}
 use lib.Dec.{eqb}
 use Rattle.prefix.specs.Prefix.{prefixOf}
 use Rattle.rule.specs.declared.Family.{Family}
-use Rattle.rule.specs.Value.{Part, components}
+use Rattle.rule.specs.Value.{Component, components}
 use Rattle.route.specs.declared.Destination.{Destination}
 use Rattle.route.specs.declared.Destination.the-variants.{Missing, At}
 
 -- The destination if this component is of type 1, else what the rest gives.
-unfoldable pub destinationFor : Family → Part → Destination → Destination
+unfoldable pub destinationFor : Family → Component → Destination → Destination
 destinationFor family p rest = cond (eqb (p .kind) 1) (At (prefixOf (family .width) (p .body))) rest
 
 -- The destination among components.
-unfoldable pub destinationAmong : Family → List Part → Destination
+unfoldable pub destinationAmong : Family → List Component → Destination
 destinationAmong family [] = Missing
 destinationAmong family (p ∷ parts) = destinationFor family p (destinationAmong family parts)
 

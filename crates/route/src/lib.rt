@@ -2,7 +2,7 @@
 ghost use mathlib.Core.Path.{_≡_};
 ghost use Prim.Native.Nat.{_+_, _≤_};
 ghost use lib.ListN.{length, drop};
-ghost use Rattle.rule.specs.Value.{part};
+ghost use Rattle.rule.specs.Value.{component};
 ghost use Rattle.route.specs.Route.{routeAt, routesOf, plainPrefix, rises, soundRoutes};
 ghost use Rattle.route.specs.Feasible.{matched, longer, judged, feasible};
 ghost use Rattle.route.specs.Pass.{risesToNext, added, noted, agrees, validated};
@@ -214,7 +214,7 @@ pub fn is_feasible(setting: bool, destination: Destination, originator: u32, wor
 
 // The destination that a rule's first component spells, if it is of type 1.
 fn destination_for(kind: u8, body: &[u8]) -> Destination
-    ensures { λ r. ⌜ r ≡ destinationFor ipv4 (part kind (now (body .entry))) Destination.Missing ⌝ }
+    ensures { λ r. ⌜ r ≡ destinationFor ipv4 (component kind (now (body .entry))) Destination.Missing ⌝ }
 {
     if kind == 1 {
         return Destination::At(prefix::prefix_of(body));
@@ -227,7 +227,7 @@ pub fn destination_of(value: &[u8]) -> Destination
     ensures { λ r. ⌜ r ≡ destinationOf ipv4 (now (value .entry)) ⌝ }
 {
     match rule::next_component(rule::ipv4(), value, 0, 0) {
-        Next::Component { kind, next } => destination_for(kind, &value[1..next]),
+        Next::Another { kind, next } => destination_for(kind, &value[1..next]),
         Next::Nothing => Destination::Missing,
         Next::Refused {
             number: _,

@@ -16,7 +16,7 @@ use Rattle.rule.specs.declared.NextPair.the-variants.{More, Last, Refuse
 use Rattle.rule.specs.declared.BodyEnd.{BodyEnd}
 use Rattle.rule.specs.declared.BodyEnd.the-variants.{At, Refused as RefusedBody}
 use Rattle.rule.specs.declared.Next.{Next}
-use Rattle.rule.specs.declared.Next.the-variants.{Nothing, Component, Refused}
+use Rattle.rule.specs.declared.Next.the-variants.{Nothing, Another, Refused}
 use Rattle.rule.specs.Operator.{endsList, sizeOf, isPrefix, sizeAllowed}
 use Rattle.rule.specs.Component.{pairAt, Pair, pairOf, pairStep, pairsFrom, prefixEnd, bodyEnd, found, componentAt}
 
@@ -269,7 +269,7 @@ module _ (family : Family) (v : List ℕ) (at previous : ℕ) where
   component-order h t l = rw (lt-leb _ _ h, t, le-leb _ _ l)
 
   module _ (within : at < length v) (known : unknown ≡ false) (rises : previous < getD v at 0) (end : BodyEnd) (is : end ≡ bodyEnd family (getD v at 0) v (at + 1)) where
-    pub component-whole : (next : ℕ) → end ≡ At next → Component (getD v at 0) next ≡ componentAt family v at previous
+    pub component-whole : (next : ℕ) → end ≡ At next → Another (getD v at 0) next ≡ componentAt family v at previous
     unfolding componentAt
     component-whole next e = rw (lt-leb _ _ within, known, lt-leb _ _ rises, ← is, e)
 

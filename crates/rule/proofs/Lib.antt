@@ -1,4 +1,5 @@
 -- The laws of this crate.
+pub mod FamilyLaws
 pub mod OperatorLaws
 pub mod Refusal
 pub mod ComponentLaws
@@ -10,5 +11,5 @@ pub mod SpellingLaws
 pub mod FillLaws
 pub mod ReadingLaws
 pub mod WritingLaws
-pub mod PartLaws
+pub mod ComponentsLaws
 pub mod RoundTripLaws

@@ -24,11 +24,11 @@ use Rattle.rule.specs.declared.NextPair.the-variants.{More, Last, Refuse
 use Rattle.rule.specs.declared.BodyEnd.{BodyEnd}
 use Rattle.rule.specs.declared.BodyEnd.the-variants.{At, Refused as RefusedBody}
 use Rattle.rule.specs.declared.Next.{Next}
-use Rattle.rule.specs.declared.Next.the-variants.{Nothing, Component, Refused as RefusedNext}
+use Rattle.rule.specs.declared.Next.the-variants.{Nothing, Another, Refused as RefusedNext}
 use Rattle.rule.specs.declared.Checked.{Checked}
 use Rattle.rule.specs.Operator.{endsList, sizeOf, isPrefix, sizeAllowed}
 use Rattle.rule.specs.Component.{pairAt, Pair, pairOf, pairsFrom, prefixEnd, bodyEnd, found, componentAt}
-use Rattle.rule.specs.Value.{Part, between, componentsFrom, components, checkValue}
+use Rattle.rule.specs.Value.{Component, between, componentsFrom, components, checkValue}
 use Rattle.rule.specs.Plain.{bodyOf, operandAfter, after, plainOperand, clearedOctet, plainFrom, plain}
 use Rattle.rule.proofs.OperatorLaws.{size-positive}
 use Rattle.rule.proofs.ComponentLaws.{pair-cases, prefix-cases, component-cases, pairs-more, pairs-last, pairs-refused, pairs-ind}
@@ -222,7 +222,7 @@ module _ (start : Expected) (v : List ℕ) where
 -- what is expected behind a component
 NextExpects : Expected → List ℕ → Next → Type 0
 NextExpects start v Nothing = Unit {0}
-NextExpects start v (Component kind next) = Expects start v next Kind
+NextExpects start v (Another kind next) = Expects start v next Kind
 NextExpects start v (RefusedNext number place) = Unit {0}
 
 module _ (start : Expected) (v : List ℕ) (o : Octets v) (family : Family) where
@@ -265,14 +265,14 @@ take-plain e (suc n) [] = refl
 take-plain e (suc n) (x ∷ xs) = ap (λ (l : List ℕ). clearedOctet e x ∷ l) (take-plain (after e x) n xs)
 
 -- a component in the plain spelling
-abbrev pub plainPart : Part → Part
-plainPart p = record { kind = p .kind; body = plainFrom (bodyOf (p .kind)) (p .body) }
+abbrev pub plainComponent : Component → Component
+plainComponent p = record { kind = p .kind; body = plainFrom (bodyOf (p .kind)) (p .body) }
 
-abbrev plainWalk : Walk Part Checked → Walk Part Checked
-plainWalk w = record { items = map plainPart (w .items); ending = w .ending }
+abbrev plainWalk : Walk Component Checked → Walk Component Checked
+plainWalk w = record { items = map plainComponent (w .items); ending = w .ending }
 
 module _ (family : Family) (v : List ℕ) (o : Octets v) where
-  WalkSame : ℕ → ℕ → Walk Part Checked → Type 0
+  WalkSame : ℕ → ℕ → Walk Component Checked → Type 0
   WalkSame at previous w = Expects Kind v at Kind → componentsFrom family (plainFrom Kind v) (record { at = at; previous = previous }) ≡ plainWalk w
 
   walk-same : (at previous : ℕ) → WalkSame at previous (componentsFrom family v (record { at = at; previous = previous }))
@@ -285,11 +285,11 @@ module _ (family : Family) (v : List ℕ) (o : Octets v) where
       components-more family (plainFrom Kind v) at previous kind next (component-same Kind v o family at previous x .0 ∙ e)
       ∙ ap₂ before (one at previous kind next e x) (h (behind at previous kind next e (component-same Kind v o family at previous x .1))))
     where
-      behind : (at previous kind next : ℕ) → componentAt family v at previous ≡ Component kind next → NextExpects Kind v (componentAt family v at previous) → Expects Kind v next Kind
+      behind : (at previous kind next : ℕ) → componentAt family v at previous ≡ Another kind next → NextExpects Kind v (componentAt family v at previous) → Expects Kind v next Kind
       behind at previous kind next e x = subst (NextExpects Kind v) e x
 
-      one : (at previous kind next : ℕ) → componentAt family v at previous ≡ Component kind next → Expects Kind v at Kind
-          → record { kind = kind; body = between (plainFrom Kind v) (at + 1) next } ≡ plainPart (record { kind = kind; body = between v (at + 1) next })
+      one : (at previous kind next : ℕ) → componentAt family v at previous ≡ Another kind next → Expects Kind v at Kind
+          → record { kind = kind; body = between (plainFrom Kind v) (at + 1) next } ≡ plainComponent (record { kind = kind; body = between v (at + 1) next })
       one at previous kind next e x =
           let f = was-found family v at previous kind next e in
           let expects : Expects Kind v (at + 1) (bodyOf kind) = rw (← f .is) at (goes-on Kind v at Kind x (f .inside)) in
@@ -298,9 +298,9 @@ module _ (family : Family) (v : List ℕ) (o : Octets v) where
           λ i. record { kind = kind; body = body i }
 
   -- the components of the plain spelling are the components in the plain spelling
-  pub components-plain : components family (plain v) ≡ map plainPart (components family v)
+  pub components-plain : components family (plain v) ≡ map plainComponent (components family v)
   unfolding components WalkSame plain
-  components-plain = ap (λ (w : Walk Part Checked). w .items) (walk-same 0 0 (starts Kind v))
+  components-plain = ap (λ (w : Walk Component Checked). w .items) (walk-same 0 0 (starts Kind v))
 
   -- a value is accepted exactly when its plain spelling is, and refused with the same number and place
   pub check-plain : checkValue family (plain v) ≡ checkValue family v

@@ -13,11 +13,11 @@ use Rattle.rule.specs.declared.Family.{Family}
 use Rattle.rule.specs.declared.BodyEnd.{BodyEnd}
 use Rattle.rule.specs.declared.BodyEnd.the-variants.{At, Refused as RefusedBody}
 use Rattle.rule.specs.declared.Next.{Next}
-use Rattle.rule.specs.declared.Next.the-variants.{Nothing, Component, Refused as RefusedNext}
+use Rattle.rule.specs.declared.Next.the-variants.{Nothing, Another, Refused as RefusedNext}
 use Rattle.rule.specs.declared.Checked.{Checked}
 use Rattle.rule.specs.declared.Checked.the-variants.{Accepted, Refused}
 use Rattle.rule.specs.Component.{bodyEnd, found, componentAt}
-use Rattle.rule.specs.Value.{Part, between, Progress, componentStep, componentsFrom, checkValue}
+use Rattle.rule.specs.Value.{Component, between, Progress, componentStep, componentsFrom, checkValue}
 use Rattle.rule.proofs.ComponentLaws.{component-cases, Within, Met, EndWithin, body-within}
 use Rattle.rule.proofs.Refusal.{Refusal, placeless}
 
@@ -33,7 +33,7 @@ pub record Found (family : Family) (v : List ℕ) (at previous kind next : ℕ) 
 
 abbrev pub Says : Family → List ℕ → ℕ → ℕ → Next → Type 0
 Says family v at previous Nothing = length v ≤ at
-Says family v at previous (Component kind next) = Found family v at previous kind next
+Says family v at previous (Another kind next) = Found family v at previous kind next
 Says family v at previous (RefusedNext number place) = Met v number place
 
 module _ (family : Family) (v : List ℕ) where
@@ -56,7 +56,7 @@ module _ (family : Family) (v : List ℕ) where
           }
       go h z k r (RefusedBody number place) e = subst (EndWithin v (at + 1)) e (body-within v family (getD v at 0) (at + 1))
 
-  pub was-found : (at previous kind next : ℕ) → componentAt family v at previous ≡ Component kind next → Found family v at previous kind next
+  pub was-found : (at previous kind next : ℕ) → componentAt family v at previous ≡ Another kind next → Found family v at previous kind next
   was-found at previous kind next e = subst (Says family v at previous) e (cursor-says at previous)
 
   pub none-left : (at previous : ℕ) → componentAt family v at previous ≡ Nothing → length v ≤ at
@@ -65,24 +65,24 @@ module _ (family : Family) (v : List ℕ) where
   pub was-refused : (at previous number place : ℕ) → componentAt family v at previous ≡ RefusedNext number place → Met v number place
   was-refused at previous number place e = subst (Says family v at previous) e (cursor-says at previous)
 
-  falls : (p q : Progress) (a : Part) → componentStep v (p .at) (componentAt family v (p .at) (p .previous)) ≡ more a q
+  falls : (p q : Progress) (a : Component) → componentStep v (p .at) (componentAt family v (p .at) (p .previous)) ≡ more a q
       → length v - q .at < length v - p .at
   falls p q a = go (componentAt family v (p .at) (p .previous)) refl
     where
       go : (x : Next) → componentAt family v (p .at) (p .previous) ≡ x → componentStep v (p .at) x ≡ more a q → length v - q .at < length v - p .at
       go Nothing e s = apart (cc)
-      go (Component kind next) e s =
+      go (Another kind next) e s =
           let f = was-found (p .at) (p .previous) kind next e in
           let n : next ≡ q .at = ap (λ (r : Progress). r .at) (same-state s) in
           let w = f .within in
           omega arith
         where
-          same-state : {a b : Part} {r q : Progress} → _≡_ {A = Step Progress Part Checked} (more a r) (more b q) → r ≡ q
+          same-state : {a b : Component} {r q : Progress} → _≡_ {A = Step Progress Component Checked} (more a r) (more b q) → r ≡ q
           same-state e = cc
       go (RefusedNext number place) e s = apart (cc)
 
   -- the components from a place on: one more and the rest, none, or a refusal
-  pub components-more : (at previous kind next : ℕ) → componentAt family v at previous ≡ Component kind next
+  pub components-more : (at previous kind next : ℕ) → componentAt family v at previous ≡ Another kind next
       → componentsFrom family v (record { at = at; previous = previous })
       ≡ before (record { kind = kind; body = between v (at + 1) next }) (componentsFrom family v (record { at = next; previous = kind }))
   unfolding componentsFrom
@@ -106,10 +106,10 @@ module _ (family : Family) (v : List ℕ) where
       (record { at = at; previous = previous }) (Refused number place) (omega arith) (ap (componentStep v at) e)
 
   -- what holds at the end and at a refusal, and before a component where it holds behind it, holds of every walk over the value
-  pub components-ind : (P : ℕ → ℕ → Walk Part Checked → Type 0)
+  pub components-ind : (P : ℕ → ℕ → Walk Component Checked → Type 0)
       → ((at previous : ℕ) → componentAt family v at previous ≡ Nothing → P at previous (record { items = []; ending = Accepted }))
       → ((at previous number place : ℕ) → componentAt family v at previous ≡ RefusedNext number place → P at previous (record { items = []; ending = Refused number place }))
-      → ((at previous kind next : ℕ) (w : Walk Part Checked) → componentAt family v at previous ≡ Component kind next → P next kind w
+      → ((at previous kind next : ℕ) (w : Walk Component Checked) → componentAt family v at previous ≡ Another kind next → P next kind w
       → P at previous (before (record { kind = kind; body = between v (at + 1) next }) w))
       → (at previous : ℕ) → P at previous (componentsFrom family v (record { at = at; previous = previous }))
   unfolding componentsFrom
@@ -124,25 +124,25 @@ module _ (family : Family) (v : List ℕ) where
       stops : (p : Progress) (e : Checked) (x : Next) → componentAt family v (p .at) (p .previous) ≡ x → componentStep v (p .at) x ≡ stop e
           → P (p .at) (p .previous) (record { items = []; ending = e })
       stops p e Nothing f q = let s : Accepted ≡ e = cc in rw (← s) (none (p .at) (p .previous) f)
-      stops p e (Component kind next) f q = apart (cc)
+      stops p e (Another kind next) f q = apart (cc)
       stops p e (RefusedNext number place) f q = let s : Refused number place ≡ e = cc in rw (← s) (refused (p .at) (p .previous) number place f)
 
-      lasts : (p : Progress) (a : Part) (e : Checked) (x : Next) → componentStep v (p .at) x ≡ last a e → P (p .at) (p .previous) (record { items = a ∷ []; ending = e })
+      lasts : (p : Progress) (a : Component) (e : Checked) (x : Next) → componentStep v (p .at) x ≡ last a e → P (p .at) (p .previous) (record { items = a ∷ []; ending = e })
       lasts p a e Nothing q = apart (cc)
-      lasts p a e (Component kind next) q = apart (cc)
+      lasts p a e (Another kind next) q = apart (cc)
       lasts p a e (RefusedNext number place) q = apart (cc)
 
-      mores : (p r : Progress) (a : Part) (w : Walk Part Checked) (x : Next) → componentAt family v (p .at) (p .previous) ≡ x → componentStep v (p .at) x ≡ more a r
+      mores : (p r : Progress) (a : Component) (w : Walk Component Checked) (x : Next) → componentAt family v (p .at) (p .previous) ≡ x → componentStep v (p .at) x ≡ more a r
           → P (r .at) (r .previous) w → P (p .at) (p .previous) (before a w)
       mores p r a w Nothing f q h = apart (cc)
-      mores p r a w (Component kind next) f q h =
+      mores p r a w (Another kind next) f q h =
           let s : record { at = next; previous = kind } ≡ r = cc in
           let u : record { kind = kind; body = between v (p .at + 1) next } ≡ a = cc in
           rw (← u) (goes (p .at) (p .previous) kind next w f (subst (λ (x : Progress). P (x .at) (x .previous) w) (sym s) h))
       mores p r a w (RefusedNext number place) f q h = apart (cc)
 
 -- how `check_value` goes on and comes to each of its answers
-abbrev how : Walk Part Checked → Checked
+abbrev how : Walk Component Checked → Checked
 how w = w .ending
 
 abbrev pub accepts : Family → List ℕ → ℕ → ℕ → Checked
@@ -150,7 +150,7 @@ accepts family v at previous = componentsFrom family v (record { at = at; previo
 
 module _ (family : Family) (v : List ℕ) (at previous : ℕ) (next : Next) (is : next ≡ componentAt family v at previous)
     (so-far : checkValue family v ≡ accepts family v at previous) where
-  pub check-on : (kind behind : ℕ) → next ≡ Component kind behind → checkValue family v ≡ accepts family v behind kind
+  pub check-on : (kind behind : ℕ) → next ≡ Another kind behind → checkValue family v ≡ accepts family v behind kind
   check-on kind behind e = so-far ∙ ap how (components-more family v at previous kind behind (sym is ∙ e))
 
   pub check-accepted : next ≡ Nothing → Accepted ≡ checkValue family v

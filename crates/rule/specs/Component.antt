@@ -13,7 +13,7 @@ use Rattle.rule.specs.declared.NextPair.the-variants.{More, Last, Refuse
 use Rattle.rule.specs.declared.BodyEnd.{BodyEnd}
 use Rattle.rule.specs.declared.BodyEnd.the-variants.{At, Refused as RefusedBody}
 use Rattle.rule.specs.declared.Next.{Next}
-use Rattle.rule.specs.declared.Next.the-variants.{Nothing, Component, Refused}
+use Rattle.rule.specs.declared.Next.the-variants.{Nothing, Another, Refused}
 use Rattle.rule.specs.Operator.{endsList, sizeOf, isPrefix, sizeAllowed}
 
 -- An operator and its value, at a place in a list of the given type, and the place behind them. A missing operator is 6 at the
@@ -62,7 +62,7 @@ bodyEnd family kind v at = cond (isPrefix kind) (prefixEnd family v at) (pairsFr
 
 -- What a body's end tells of its component: the type and the place behind the body, or the body's refusal.
 abbrev pub found : ℕ → BodyEnd → Next
-found kind (At next) = Component kind next
+found kind (At next) = Another kind next
 found kind (RefusedBody number place) = Refused number place
 
 -- The component at a place, behind one of the type `previous` (0 at the start). A type that the family does not have is 3 at the

@@ -1,6 +1,19 @@
--- What a family of addresses decides about its rules: the highest component type and how many bits an address has.
+-- What a family of addresses decides: the highest component type (`highest`), how many bits an address has (`width`), how many octets
+-- stand before the first component (`head`), whether an offset octet stands behind a prefix's length octet (`offsets`), the bits of a
+-- fragment value that count (`fragment`), ICMP's protocol number (`icmp`), the version in a packet's first octet (`version`), and how many
+-- 32-bit words a route has (`words`).
+use Prim.Native.Nat.{_+_, _*_, _≤_}
+use mathlib.Core.Path.{_≡_}
+use mathlib.Core.Bool.{false}
 use Rattle.rule.specs.declared.Family.{Family}
 
--- RFC 8955: component types 1 to 12, addresses of 32 bits.
+-- RFC 8955: component types 1 to 12, addresses of 32 bits, nothing before the first component, no offsets, four bits of a fragment value
+-- (section 4.2.2.12), ICMP as protocol 1, IP version 4; 01: "four a route".
 abbrev pub ipv4 : Family
-ipv4 = record { highest = 12; width = 32 }
+ipv4 = record { highest = 12; width = 32; head = 0; offsets = false; fragment = 0x0f; icmp = 1; version = 4; words = 4 }
+
+-- What holds of every family here, and what the code of addresses and routes asks: an address has at most 128 bits, and a route's words are
+-- those of its address and three more.
+pub record Fits (family : Family) : Type 0 where
+  pub narrow : family .width ≤ 128
+  pub words : family .words * 32 ≡ family .width + 96

@@ -7,22 +7,22 @@ use lib.ListN.{length, take, drop}
 use Rattle.octets.specs.Walk.{Step, more, stop, Walk, walk}
 use Rattle.rule.specs.declared.Family.{Family}
 use Rattle.rule.specs.declared.Next.{Next}
-use Rattle.rule.specs.declared.Next.the-variants.{Nothing, Component, Refused as RefusedNext}
+use Rattle.rule.specs.declared.Next.the-variants.{Nothing, Another, Refused as RefusedNext}
 use Rattle.rule.specs.declared.Checked.{Checked}
 use Rattle.rule.specs.declared.Checked.the-variants.{Accepted, Refused}
 use Rattle.rule.specs.Component.{componentAt}
 
 -- A component, as the RFC has it: its type and its body.
-pub record Part : Type 0 where
+pub record Component : Type 0 where
   pub kind : ℕ
   pub body : List ℕ
 
 -- A component of the given type and body.
-abbrev pub part : ℕ → List ℕ → Part
-part kind body = record { kind = kind; body = body }
+abbrev pub component : ℕ → List ℕ → Component
+component kind body = record { kind = kind; body = body }
 
 -- The octets that a list of components spells.
-unfoldable pub spelled : List Part → List ℕ
+unfoldable pub spelled : List Component → List ℕ
 spelled [] = []
 spelled (p ∷ ps) = p .kind ∷ p .body ++ spelled ps
 
@@ -40,18 +40,18 @@ abbrev pub atStart : Progress
 atStart = record { at = 0; previous = 0 }
 
 -- A step along a value.
-abbrev pub componentStep : List ℕ → ℕ → Next → Step Progress Part Checked
+abbrev pub componentStep : List ℕ → ℕ → Next → Step Progress Component Checked
 componentStep v at Nothing = stop Accepted
-componentStep v at (Component kind next) = more (part kind (between v (at + 1) next)) (record { at = next; previous = kind })
+componentStep v at (Another kind next) = more (component kind (between v (at + 1) next)) (record { at = next; previous = kind })
 componentStep v at (RefusedNext number place) = stop (Refused number place)
 
 -- The components of a value from a place on, and whether all of it is accepted.
-unfoldable pub componentsFrom : Family → List ℕ → Progress → Walk Part Checked
+unfoldable pub componentsFrom : Family → List ℕ → Progress → Walk Component Checked
 componentsFrom family v p =
     walk (length v + 1) (Refused 6 (length v)) (λ (q : Progress). componentStep v (q .at) (componentAt family v (q .at) (q .previous))) p
 
 -- The components of a value, in the order in which they stand.
-unfoldable pub components : Family → List ℕ → List Part
+unfoldable pub components : Family → List ℕ → List Component
 components family v = componentsFrom family v atStart .items
 
 -- Refusals 1 to 7 of a value: over 4,095 octets is 1, no octet is 2, then 3 to 7 as met.

@@ -27,10 +27,18 @@ pub const WORKING: usize = MOST_VALUE + 1;
 
 // ---- Answers ----
 
-// What a family of addresses decides about its rules.
+// What a family of addresses decides: the highest component type; the bits of an address; the octets before the first component;
+// whether a prefix has an offset octet behind its length; the bits of a fragment value that count; ICMP's protocol number; the version
+// in a packet's first octet; and the words of a route.
 pub struct Family {
     pub highest: u8,
     pub width: u8,
+    pub head: usize,
+    pub offsets: bool,
+    pub fragment: u8,
+    pub icmp: u8,
+    pub version: u8,
+    pub words: usize,
 }
 
 // A pair at a place in a list: the place behind it, or a refusal.
@@ -46,10 +54,10 @@ pub enum BodyEnd {
     Refused { number: u8, place: usize },
 }
 
-// What stands at a place of a value: nothing more, a component with the place behind it, or a refusal.
+// What stands at a place of a value: nothing more, another component with the place behind it, or a refusal.
 pub enum Next {
     Nothing,
-    Component { kind: u8, next: usize },
+    Another { kind: u8, next: usize },
     Refused { number: u8, place: usize },
 }
 
@@ -91,13 +99,19 @@ pub enum Writing {
 
 // ---- Operators (section 4.2.1) ----
 
-// IPv4: component types 1 to 12, addresses of 32 bits.
+// IPv4 (RFC 8955).
 pub fn ipv4() -> Family
     ensures { λ r. ⌜ r ≡ ipv4 ⌝ }
 {
     Family {
         highest: 12,
         width: 32,
+        head: 0,
+        offsets: false,
+        fragment: 0x0f,
+        icmp: 1,
+        version: 4,
+        words: 4,
     }
 }
 
@@ -262,7 +276,7 @@ pub fn component_at(family: Family, value: &[u8], at: usize, previous: u8) -> Ne
         };
     }
     match body_end(family, kind, value, at + 1) {
-        BodyEnd::At(next) => Next::Component { kind, next },
+        BodyEnd::At(next) => Next::Another { kind, next },
         BodyEnd::Refused { number, place } => Next::Refused { number, place },
     }
 }
@@ -319,7 +333,7 @@ pub fn check_value(family: Family, value: &[u8]) -> Checked
             Next::Nothing => {
                 return Checked::Accepted;
             }
-            Next::Component { kind, next } => {
+            Next::Another { kind, next } => {
                 at = next;
                 previous = kind;
             }

@@ -15,7 +15,7 @@ use Rattle.octets.proofs.Facts.{Octets}
 use Rattle.rule.specs.declared.Family.{Family}
 use Rattle.rule.specs.Family.{ipv4}
 use Rattle.rule.specs.Value.{between, components}
-use Rattle.order.specs.Precedence.{partsOrder, precedence}
+use Rattle.order.specs.Precedence.{componentsOrder, precedence}
 use Rattle.order.specs.Key.{keysOf, keyOrder}
 use Rattle.order.proofs.KeyLaws.{one-order}
 use Rattle.table.specs.declared.NextRecord.the-variants.{Record}
@@ -72,12 +72,12 @@ module _ (t : List ℕ) (at next : ℕ) (found : recordAt t at ≡ Record next) 
 
 -- two plain values are ordered as their keys are
 pub plain-order : (v w : List ℕ) → Octets v → Octets w → plainValue ipv4 v ≡ true → plainValue ipv4 w ≡ true
-    → partsOrder ipv4 (components ipv4 v) (components ipv4 w) ≡ keyOrder (keysOf ipv4 v) (keysOf ipv4 w)
+    → componentsOrder ipv4 (components ipv4 v) (components ipv4 w) ≡ keyOrder (keysOf ipv4 v) (keysOf ipv4 w)
 unfolding precedence
 plain-order v w o p h k =
     let a = held ipv4 v h in
     let b = held ipv4 w k in
-    ap₂ (λ x y. partsOrder ipv4 (components ipv4 x) (components ipv4 y)) (sym (a .spelled)) (sym (b .spelled)) ∙ one-order ipv4 4 refl v w o p
+    ap₂ (λ x y. componentsOrder ipv4 (components ipv4 x) (components ipv4 y)) (sym (a .spelled)) (sym (b .spelled)) ∙ one-order ipv4 4 refl v w o p
 
 -- what a record that could be says of its entry's value
 pub good-value : (family : Family) (r : List ℕ) → goodRecord family r ≡ true → plainValue family (entryOf r .value) ≡ true

@@ -23,7 +23,7 @@ use Rattle.sorted.proofs.Cases.{by-order}
 use Rattle.sorted.proofs.SplitLaws.{front}
 use Rattle.rule.specs.Family.{ipv4}
 use Rattle.rule.specs.Value.{between, components}
-use Rattle.order.specs.Precedence.{partsOrder}
+use Rattle.order.specs.Precedence.{componentsOrder}
 use Rattle.order.specs.Key.{keysOf, keyOrder}
 use Rattle.table.specs.declared.NextRecord.{NextRecord}
 use Rattle.table.specs.declared.NextRecord.the-variants.{Nothing, Record, Unsound}
@@ -92,14 +92,14 @@ module _ (t value : List ℕ) (at : ℕ) (s : Searching t value at) where
   search-unsound next is e = nothing-left (left-unsound t at (sym is ∙ e))
 
   module _ (next : ℕ) (found : recordAt t at ≡ Record next) (o : Octets t) (p : Octets value) (plain : plainValue ipv4 value ≡ true) (order : Order)
-      (is : order ≡ ordered (partsOrder ipv4 (components ipv4 value) (components ipv4 (between t (at + headCost) next)))) where
+      (is : order ≡ ordered (componentsOrder ipv4 (components ipv4 value) (components ipv4 (between t (at + headCost) next)))) where
     -- the code's order of the values is that of the keys
     by-keys : order ≡ ordered (keyOrder (keysOf ipv4 value) (entryKey ipv4 (entryOf (between t at next))))
     by-keys =
         let r = between t at next in
         let g = good-value ipv4 (between t at next) (good-more t at next found (s .good) .0) in
         let v = value-there t at next found in
-        is ∙ ap ordered (ap (λ w. partsOrder ipv4 (components ipv4 value) (components ipv4 w)) (sym v)
+        is ∙ ap ordered (ap (λ w. componentsOrder ipv4 (components ipv4 value) (components ipv4 w)) (sym v)
         ∙ plain-order value (entryOf (between t at next) .value) p (rw v (octets-between t (at + headCost) next o)) plain g)
 
     here : placeIn ipv4 (keysOf ipv4 value) 0 (entries t)

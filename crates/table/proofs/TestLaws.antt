@@ -19,7 +19,7 @@ use Rattle.sorted.specs.History.{costs}
 use Rattle.sorted.proofs.Cases.{by-order}
 use Rattle.rule.specs.Family.{ipv4}
 use Rattle.rule.specs.Value.{between, components}
-use Rattle.order.specs.Precedence.{partsOrder}
+use Rattle.order.specs.Precedence.{componentsOrder}
 use Rattle.order.specs.Key.{keyOrder}
 use Rattle.table.specs.declared.NextRecord.{NextRecord}
 use Rattle.table.specs.declared.NextRecord.the-variants.{Nothing, Record, Unsound}
@@ -40,21 +40,21 @@ module _ (t : List ℕ) (previous at next : ℕ) where
   follows-none h = rw (eq-eqb at 0 h)
 
   module _ (later : at ≡ 0 → ⊥) (order : Order)
-      (is : order ≡ ordered (partsOrder ipv4 (components ipv4 (between t (previous + headCost) at)) (components ipv4 (between t (at + headCost) next)))) where
-    answer : (x : Ordering) → partsOrder ipv4 (components ipv4 (between t (previous + headCost) at)) (components ipv4 (between t (at + headCost) next)) ≡ x
+      (is : order ≡ ordered (componentsOrder ipv4 (components ipv4 (between t (previous + headCost) at)) (components ipv4 (between t (at + headCost) next)))) where
+    answer : (x : Ordering) → componentsOrder ipv4 (components ipv4 (between t (previous + headCost) at)) (components ipv4 (between t (at + headCost) next)) ≡ x
         → order ≡ ordered x
     answer x e = is ∙ ap ordered e
 
     pub follows-yes : order ≡ First → true ≡ followsAt t previous at next
     unfolding followsAt
     follows-yes e =
-        by-order (partsOrder ipv4 (components ipv4 (between t (previous + headCost) at)) (components ipv4 (between t (at + headCost) next)))
+        by-order (componentsOrder ipv4 (components ipv4 (between t (previous + headCost) at)) (components ipv4 (between t (at + headCost) next)))
         (λ f. rw (ne-eqb at 0 later, f)) (λ f. let d = answer Ordering·eq f in apart (cc)) (λ f. let d = answer Ordering·gt f in apart (cc))
 
     pub follows-not : (order ≡ First → ⊥) → false ≡ followsAt t previous at next
     unfolding followsAt
     follows-not n =
-        by-order (partsOrder ipv4 (components ipv4 (between t (previous + headCost) at)) (components ipv4 (between t (at + headCost) next)))
+        by-order (componentsOrder ipv4 (components ipv4 (between t (previous + headCost) at)) (components ipv4 (between t (at + headCost) next)))
         (λ f. absurd (n (answer Ordering·lt f))) (λ f. rw (ne-eqb at 0 later, f)) (λ f. rw (ne-eqb at 0 later, f))
 
 -- the entries left come after the record before them
@@ -147,7 +147,7 @@ module _ (t : List ℕ) (previous at : ℕ) (s : Testing t previous at) where
       link-is = by-test (eqb at 0) (λ z. rw z) (λ z. rw z (order (eqb-false at 0 z)))
         where
           order : (at ≡ 0 → ⊥)
-              → byOrder (partsOrder ipv4 (components ipv4 (between t (previous + headCost) at)) (components ipv4 (between t (at + headCost) next))) true false false
+              → byOrder (componentsOrder ipv4 (components ipv4 (between t (previous + headCost) at)) (components ipv4 (between t (at + headCost) next))) true false false
               ≡ byOrder (keyOrder (entryKey ipv4 (entryOf (between t previous at))) (entryKey ipv4 (entryOf (between t at next)))) true false false
           order n =
               let a = value-there t previous at (s .found n) in
@@ -155,7 +155,7 @@ module _ (t : List ℕ) (previous at : ℕ) (s : Testing t previous at) where
               let v = entryOf (between t previous at) .value in
               let w = entryOf (between t at next) .value in
               ap (λ x. byOrder x true false false)
-              (ap₂ (λ x y. partsOrder ipv4 (components ipv4 x) (components ipv4 y)) (sym a) (sym b)
+              (ap₂ (λ x y. componentsOrder ipv4 (components ipv4 x) (components ipv4 y)) (sym a) (sym b)
               ∙ plain-order (entryOf (between t previous at) .value) (entryOf (between t at next) .value) (rw a (octets-between t (previous + headCost) at o))
               (rw b (octets-between t (at + headCost) next o)) (good-value ipv4 (between t previous at) (s .good n)) (good-value ipv4 (between t at next) ok))
 

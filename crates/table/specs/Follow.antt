@@ -8,7 +8,7 @@ use lib.ListN.{length}
 use Rattle.sorted.specs.Table.{byOrder}
 use Rattle.rule.specs.Family.{ipv4}
 use Rattle.rule.specs.Value.{between, components}
-use Rattle.order.specs.Precedence.{partsOrder}
+use Rattle.order.specs.Precedence.{componentsOrder}
 use Rattle.entry.specs.Record.{headCost}
 
 -- A record ends at a place, unless that is octet 0, and another stands from there up to the next place.
@@ -21,4 +21,4 @@ pub record Adjacent (t : List ℕ) (previous at next : ℕ) : Type 0 where
 unfoldable pub followsAt : List ℕ → ℕ → ℕ → ℕ → Bool
 followsAt t previous at next =
     cond (eqb at 0) true
-    (byOrder (partsOrder ipv4 (components ipv4 (between t (previous + headCost) at)) (components ipv4 (between t (at + headCost) next))) true false false)
+    (byOrder (componentsOrder ipv4 (components ipv4 (between t (previous + headCost) at)) (components ipv4 (between t (at + headCost) next))) true false false)

@@ -7,14 +7,14 @@ use lib.ListN.{length}
 use Rattle.octets.specs.Order.{ordered}
 use Rattle.rule.specs.Family.{ipv4}
 use Rattle.rule.specs.Value.{components}
-use Rattle.order.specs.Precedence.{partsOrder}
-use Rattle.order.specs.Turn.{partsFrom}
+use Rattle.order.specs.Precedence.{componentsOrder}
+use Rattle.order.specs.Turn.{componentsLeft}
 use Rattle.order.proofs.TurnLaws.{plain-decided, plain-tied, plain-ahead}
 use Rattle.order.proofs.compare_plain.Statement.{statement}
 use Rattle.order.proofs.compare_plain.Tie as tie
 
 abbrev Inv-loop : tie.InvT-loop
-Inv-loop first second at₀ place₀ previous₀ at place previous = ordered (partsOrder ipv4 (components ipv4 first) (components ipv4 second)) ≡ ordered (partsOrder ipv4 (partsFrom first at previous) (partsFrom second place previous))
+Inv-loop first second at₀ place₀ previous₀ at place previous = ordered (componentsOrder ipv4 (components ipv4 first) (components ipv4 second)) ≡ ordered (componentsOrder ipv4 (componentsLeft first at previous) (componentsLeft second place previous))
 
 abbrev μ-loop : tie.MeasureT-loop
 μ-loop first second at₀ place₀ previous₀ at place previous = length first - at

@@ -4,7 +4,7 @@ use Rattle.octets.specs.Order.{ordered}
 use Rattle.rule.specs.Family.{ipv4}
 use Rattle.rule.specs.Value.{components}
 use Rattle.rule.proofs.WritingLaws.{front-plain, front-length}
-use Rattle.order.specs.Precedence.{partsOrder, precedence}
+use Rattle.order.specs.Precedence.{componentsOrder, precedence}
 use borrow.Author.Needs.{needs}
 use Rattle.order.proofs.compare_values.Statement.{statement}
 use Rattle.order.proofs.compare_values.Tie as tie
@@ -40,7 +40,7 @@ returns : tie.Need-returns
 unfolding precedence
 returns c = let one = front-plain _ _ _ (c .before .before .before .before .before .before .before .fill-plain .ensures) in
     let two = front-plain _ _ _ (c .before .before .before .before .fill-plain2 .ensures) in
-    c .compare-plain .ensures ∙ ap₂ (λ a b. ordered (partsOrder ipv4 (components ipv4 a) (components ipv4 b))) one two
+    c .compare-plain .ensures ∙ ap₂ (λ a b. ordered (componentsOrder ipv4 (components ipv4 a) (components ipv4 b))) one two
 
 pub compare-values-spec : {M : Type 1} → statement M
 compare-values-spec =

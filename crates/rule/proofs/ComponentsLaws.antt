@@ -18,7 +18,7 @@ use Rattle.rule.specs.declared.BodyEnd.the-variants.{At, Refused as Refu
 use Rattle.rule.specs.declared.Checked.the-variants.{Accepted}
 use Rattle.rule.specs.Operator.{isPrefix}
 use Rattle.rule.specs.Component.{prefixEnd, bodyEnd}
-use Rattle.rule.specs.Value.{Part, spelled, between, componentsFrom, components, checkValue}
+use Rattle.rule.specs.Value.{Component, spelled, between, componentsFrom, components, checkValue}
 use Rattle.rule.proofs.ComponentLaws.{prefix-cases}
 use Rattle.rule.proofs.ValueLaws.{Found, was-found, none-left, components-ind, accepted-walk}
 
@@ -48,7 +48,7 @@ module _ (family : Family) (v : List ℕ) where
   spelled-whole ok = spelled-from 0 0 (accepted-walk family v ok)
 
 -- types that rise strictly, all above `previous`
-abbrev pub Rising : ℕ → List Part → Type 0
+abbrev pub Rising : ℕ → List Component → Type 0
 Rising previous [] = Unit {0}
 Rising previous (p ∷ ps) = (previous < p .kind) × Rising (p .kind) ps
 
@@ -60,7 +60,7 @@ module _ (family : Family) (v : List ℕ) where
       (λ at previous kind next w e h. (was-found family v at previous kind next e .rises, h)) 0 0
 
   -- what holds of all that the cursor finds holds of each component
-  pub each-found : (P : Part → Type 0)
+  pub each-found : (P : Component → Type 0)
       → ((at previous kind next : ℕ) → Found family v at previous kind next → P (record { kind = kind; body = between v (at + 1) next }))
       → Each P (components family v)
   unfolding components
@@ -74,7 +74,7 @@ pub record PrefixBody (family : Family) (body : List ℕ) : Type 0 where
   pub whole : length body ≡ 1 + (getD body 0 0 + 7) / 8
 
 -- a component that the cursor can find
-pub record SoundPart (family : Family) (p : Part) : Type 0 where
+pub record SoundComponent (family : Family) (p : Component) : Type 0 where
   pub given : 1 ≤ p .kind
   pub had : p .kind ≤ family .highest
   pub prefix : isPrefix (p .kind) ≡ true → PrefixBody family (p .body)
@@ -104,9 +104,9 @@ module _ (family : Family) (v : List ℕ) where
         record { within = rw body-first (ends .0); whole = rw (body-first, body-length) (omega arith) }
 
   -- each component of a value is sound
-  pub each-sound : Each (SoundPart family) (components family v)
+  pub each-sound : Each (SoundComponent family) (components family v)
   each-sound =
-      each-found family v (SoundPart family)
+      each-found family v (SoundComponent family)
       (λ at previous kind next f.
       let rises = f .rises in
       let within = f .within in
