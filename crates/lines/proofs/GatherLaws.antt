@@ -65,12 +65,12 @@ module _ (block line exit : List ℕ) (held size start count : ℕ) (at : size �
 
 -- what a caller sees of an answer: of a block with an octet one is taken, no more is taken than there is, and the buffer holds no more
 -- than its length
-pub record Component (block line : List ℕ) (answer : Gathered) : Type 0 where
+pub record Part (block line : List ℕ) (answer : Gathered) : Type 0 where
   pub some : 0 < length block → 0 < answer .taken
   pub within : answer .taken ≤ length block
   pub fits : answer .held ≤ length line
 
-pub part-of : (block line : List ℕ) (held : ℕ) (answer : Gathered) (exit : List ℕ) (kept : List (List ℕ)) → Gathers block line held answer exit kept → Component block line answer
+pub part-of : (block line : List ℕ) (held : ℕ) (answer : Gathered) (exit : List ℕ) (kept : List (List ℕ)) → Gathers block line held answer exit kept → Part block line answer
 unfolding gathered
 part-of block line held answer exit kept gathers =
     let h = place-within 10 block in
