@@ -12,3 +12,4 @@ pub mod AgreeLaws
 pub mod RoomLaws
 pub mod OperatorTheorems
 pub mod PlainLaws
+pub mod ComparisonTheorems

@@ -1,5 +1,6 @@
 -- Comparing two rules (RFC 8955 section 5.1): both are read, the first before the second, and the values' precedence decides.
 use Prim.Native.Nat.{ℕ}
+use mathlib.Core.Path.{_≡_}
 use mathlib.Core.List.{List}
 use Rattle.octets.specs.Order.{ordered}
 use Rattle.octets.specs.declared.Order.{Order}
@@ -7,6 +8,7 @@ use Rattle.octets.specs.declared.Order.the-variants.{First as OrderFirst, Secon
 use Rattle.rule.specs.declared.Reading.{Reading}
 use Rattle.rule.specs.declared.Reading.the-variants.{Rule, Refused as RefusedReading}
 use Rattle.rule.specs.Family.{ipv4}
+use Rattle.rule.specs.Plain.{plain}
 use Rattle.rule.specs.Reading.{valueOf, oneRule}
 use Rattle.order.specs.Precedence.{precedence}
 use Rattle.flowspec.specs.declared.Comparison.{Comparison}
@@ -27,3 +29,15 @@ compareRead a (Rule start size) b (Rule begin length) = comparisonOf (ordered (p
 -- Comparing two rules.
 unfoldable pub compareRules : List ℕ → List ℕ → Comparison
 compareRules a b = compareRead a (oneRule ipv4 a) b (oneRule ipv4 b)
+
+-- Octets that are one accepted rule: where its value starts, and its size.
+pub record IsRule (octets : List ℕ) : Type 0 where
+  pub start : ℕ
+  pub size : ℕ
+  pub read : oneRule ipv4 octets ≡ Rule start size
+
+-- 01: "Two rules are the same rule when their plain spellings are equal."
+pub record SameRule (a b : List ℕ) : Type 0 where
+  pub first : IsRule a
+  pub second : IsRule b
+  pub equal : plain (valueOf a (first .start) (first .size)) ≡ plain (valueOf b (second .start) (second .size))
