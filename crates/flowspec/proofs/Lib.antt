@@ -1,4 +1,6 @@
 -- The laws of this crate.
+pub mod ToldLaws
+pub mod ChecksLaws
 pub mod CompareLaws
 pub mod WriteLaws
 pub mod FeasibilityLaws

@@ -4,6 +4,7 @@ pub mod Feasibility
 pub mod Announce
 pub mod Told
 pub mod Look
+pub mod Checks
 pub mod Promise
 pub mod Examples
 pub mod History

@@ -1,0 +1,174 @@
+-- What each answer says is what 01's checks come to, in their order: one law for each call. Assumes nothing.
+use mathlib.Core.Path.{_≡_, refl, sym, ap, _∙_}
+use mathlib.Core.Bool.{Bool, true, false, cond, not}
+use mathlib.Core.List.{List, [], _∷_}
+use Prim.Native.Nat.{ℕ, _+_, _-_, _<_, _≤_, Ordering, Ordering·lt, Ordering·eq, Ordering·gt}
+use native.Mathlib.Omega.{arith}
+use lib.Dec.{leb, ltb, eqb}
+use lib.ListN.{length}
+use borrow.Author.Tests.{lt-ltb, le-ltb, le-leb, lt-leb, ltb-true, ltb-false, eqb-true, eqb-false, ne-eqb}
+use Rattle.octets.specs.Order.{ordered}
+use Rattle.octets.proofs.Cases.{by-test, apart}
+use Rattle.sorted.specs.Table.{byOrder}
+use Rattle.rule.specs.declared.Checked.{Checked}
+use Rattle.rule.specs.declared.Checked.the-variants.{Accepted, Refused as RefusedValue}
+use Rattle.rule.specs.declared.Reading.{Reading}
+use Rattle.rule.specs.declared.Reading.the-variants.{Rule, Refused as NotRead}
+use Rattle.rule.specs.Family.{ipv4}
+use Rattle.rule.specs.Plain.{plain}
+use Rattle.rule.specs.Value.{checkValue}
+use Rattle.rule.specs.Reading.{fieldSize, fieldLength, valueOf, readAs, alone, firstRule, oneRule}
+use Rattle.rule.specs.Writing.{ruleFor, intoRoom, writing}
+use Rattle.rule.proofs.ReadingLaws.{ReadRule, one-read}
+use Rattle.order.specs.Key.{keysOf}
+use Rattle.order.specs.Precedence.{precedence}
+use Rattle.action.specs.declared.Reading.{Reading as ActionsReading}
+use Rattle.action.specs.declared.Reading.the-variants.{Read, Unsound}
+use Rattle.action.specs.Actions.{noActions, actionsOf, flagsOf, valuesOf}
+use Rattle.entry.specs.Entry.{Entry}
+use Rattle.packet.specs.Header.{isUnusable}
+use Rattle.packet.specs.Packet.{fieldsOf, packetOf}
+use Rattle.table.specs.declared.Verdict.{Verdict}
+use Rattle.table.specs.declared.Verdict.the-variants.{Unmatched, Matched}
+use Rattle.table.specs.Walk.{entries}
+use Rattle.table.specs.Sound.{soundTable}
+use Rattle.table.specs.Lookup.{hit, collected, mergedOnto, verdictOf, verdictFor}
+use Rattle.table.specs.Change.{holds, withdrawn}
+use Rattle.flowspec.specs.declared.Looked.the-variants.{Judged}
+use Rattle.flowspec.specs.Compare.{comparisonOf, compareRead, compareRules}
+use Rattle.flowspec.specs.Announce.{changeOf, withdrawnBy, withdrawing}
+use Rattle.flowspec.specs.Look.{shown, seen, lookedUp, lookingUp, firstIn, firstMatch, matchPlace}
+use Rattle.flowspec.specs.Told.{Told, done, refused, readingTold, writingTold, comparisonTold, actionsTold, changeTold, verdictTold, lookupTold, matchPlaceTold}
+use Rattle.flowspec.specs.Checks.{Check, check, oneToSeven, told, ruleEnd, valueIn, checkRule, endsThere, readChecks, readValues, writeChecks, writeValues, compareChecks, compareValues, actionsChecks, actionsValues, withdrawChecks, lookupChecks, lookupValues, firstMatchValues, isSound, actionsIn}
+
+-- ---- reading ----
+
+-- what a call says that goes on only once a rule was read
+abbrev pub afterReading : Reading → ℕ → Told → Told
+afterReading (Rule start size) many next = next
+afterReading (NotRead number place) many next = refused number place many
+
+-- 1 to 7 and 15 are the refusals of reading, whatever is checked next
+module _ (rule : List ℕ) (cs : List Check) (values : List ℕ) where
+  pub read-first : told (oneToSeven (checkRule rule) ∷ check (endsThere rule) 15 ∷ cs) values
+      ≡ afterReading (oneRule ipv4 rule) (length values) (told cs values)
+  unfolding oneRule firstRule
+  read-first =
+      by-test (ltb (length rule) (fieldSize rule))
+      (λ t. let h = ltb-true (length rule) (fieldSize rule) t in rw (t, lt-ltb (length rule) (ruleEnd rule) (omega arith)))
+      (λ t. by-test (ltb (length rule - fieldSize rule) (fieldLength rule))
+      (λ u.
+      let h = ltb-true (length rule - fieldSize rule) (fieldLength rule) u in
+      let k = ltb-false (length rule) (fieldSize rule) t in
+      rw (t, u, lt-ltb (length rule) (ruleEnd rule) (omega arith)))
+      (λ u.
+      let h = ltb-false (length rule - fieldSize rule) (fieldLength rule) u in
+      let k = ltb-false (length rule) (fieldSize rule) t in
+      rw (t, u, le-ltb (length rule) (ruleEnd rule) (omega arith)) (go (omega arith) (checkValue ipv4 (valueIn rule)))))
+    where
+      go : ruleEnd rule ≤ length rule → (c : Checked) → told (oneToSeven c ∷ check (endsThere rule) 15 ∷ cs) values
+          ≡ afterReading (alone (length rule) (readAs (fieldSize rule) (fieldLength rule) c)) (length values) (told cs values)
+      go fits Accepted =
+          by-test (eqb (ruleEnd rule) (length rule))
+          (λ t. let e = eqb-true (ruleEnd rule) (length rule) t in rw (t, le-leb (length rule) (ruleEnd rule) (omega arith)))
+          (λ t. let e = eqb-false (ruleEnd rule) (length rule) t in rw (t, lt-leb (length rule) (ruleEnd rule) (omega arith)))
+      go fits (RefusedValue number place) = refl
+
+-- a rule that was read starts behind its length field, and is as long as that tells
+read-value : (rule : List ℕ) (start size : ℕ) → oneRule ipv4 rule ≡ Rule start size → (start ≡ fieldSize rule) × (size ≡ fieldLength rule)
+read-value rule start size e = let r = one-read ipv4 rule start size e in (r .field, r .tells)
+
+pub read-tells : (rule : List ℕ) → readingTold (oneRule ipv4 rule) ≡ told (readChecks rule) (readValues rule)
+read-tells rule = go (oneRule ipv4 rule) refl ∙ sym (read-first rule [] (readValues rule))
+  where
+    go : (r : Reading) → oneRule ipv4 rule ≡ r → readingTold r ≡ afterReading r 2 (done (readValues rule))
+    go (Rule start size) e = let v = read-value rule start size e in rw (v .0, v .1)
+    go (NotRead number place) e = refl
+
+-- ---- writing ----
+
+pub write-tells : (value buffer : List ℕ) → writingTold (writing ipv4 value (length buffer)) ≡ told (writeChecks value buffer) (writeValues value)
+unfolding writing
+write-tells value buffer = go (checkValue ipv4 value)
+  where
+    go : (c : Checked) → writingTold (intoRoom value (length buffer) c)
+        ≡ told (oneToSeven c ∷ check (leb (length (ruleFor value)) (length buffer)) 16 ∷ []) (writeValues value)
+    go Accepted =
+        by-test (ltb (length buffer) (length (ruleFor value)))
+        (λ t. rw (t, lt-leb (length (ruleFor value)) (length buffer) (ltb-true (length buffer) (length (ruleFor value)) t)))
+        (λ t. rw (t, le-leb (length (ruleFor value)) (length buffer) (ltb-false (length buffer) (length (ruleFor value)) t)))
+    go (RefusedValue number place) = refl
+
+-- ---- comparing ----
+
+pub compare-tells : (a b : List ℕ) → comparisonTold (compareRules a b) ≡ told (compareChecks a b) (compareValues a b)
+unfolding compareRules
+compare-tells a b =
+    go (oneRule ipv4 a) refl (oneRule ipv4 b) refl
+    ∙ sym (read-first a (oneToSeven (checkRule b) ∷ check (endsThere b) 15 ∷ []) (compareValues a b)
+    ∙ ap (afterReading (oneRule ipv4 a) 1) (read-first b [] (compareValues a b)))
+  where
+    order : (o : Ordering) → comparisonTold (comparisonOf (ordered o)) ≡ done (byOrder o 1 3 2 ∷ [])
+    order Ordering·lt = refl
+    order Ordering·eq = refl
+    order Ordering·gt = refl
+
+    go : (r : Reading) → oneRule ipv4 a ≡ r → (q : Reading) → oneRule ipv4 b ≡ q
+        → comparisonTold (compareRead a r b q) ≡ afterReading r 1 (afterReading q 1 (done (compareValues a b)))
+    go (NotRead number place) e q f = refl
+    go (Rule start size) e (NotRead number place) f = refl
+    go (Rule start size) e (Rule begin extent) f =
+        let v = read-value a start size e in
+        let w = read-value b begin extent f in
+        rw (v .0, v .1, w .0, w .1) (order (precedence ipv4 (valueIn a) (valueIn b)))
+
+-- ---- actions ----
+
+pub actions-tells : (communities : List ℕ) → actionsTold (actionsOf communities) ≡ told (actionsChecks communities) (actionsValues communities)
+actions-tells communities = go (actionsOf communities)
+  where
+    go : (a : ActionsReading) → actionsTold a ≡ told (check (isSound a) 13 ∷ []) (valuesOf (actionsIn a))
+    go (Read actions) = refl
+    go Unsound = refl
+
+-- ---- withdrawing ----
+
+pub withdraw-tells : (rule t : List ℕ) → changeTold (withdrawing rule t .answer) ≡ told (withdrawChecks rule t) []
+unfolding withdrawing withdrawn changeOf
+withdraw-tells rule t =
+    by-test (soundTable ipv4 t)
+    (λ s. rw s (go (oneRule ipv4 rule) refl
+    ∙ sym (read-first rule (check (holds ipv4 t (keysOf ipv4 (plain (valueIn rule)))) 14 ∷ []) [])))
+    (λ s. rw s)
+  where
+    go : (r : Reading) → oneRule ipv4 rule ≡ r → changeTold (withdrawnBy t rule r .answer)
+        ≡ afterReading r 0 (told (check (holds ipv4 t (keysOf ipv4 (plain (valueIn rule)))) 14 ∷ []) [])
+    go (NotRead number place) e = refl
+    go (Rule start size) e =
+        let v = read-value rule start size e in
+        rw (v .0, v .1) (by-test (holds ipv4 t (keysOf ipv4 (plain (valueIn rule)))) (λ h. rw h) (λ h. rw h))
+
+-- ---- looking up ----
+
+pub lookup-tells : (t packet : List ℕ) → lookupTold (lookingUp t packet) ≡ told (lookupChecks t packet) (lookupValues t packet)
+unfolding lookingUp seen packetOf verdictFor verdictOf mergedOnto flagsOf
+lookup-tells t packet =
+    by-test (soundTable ipv4 t)
+    (λ s. by-test (isUnusable packet) (λ u. rw (s, u)) (λ u. rw (s, u) (go (collected (hit ipv4 (fieldsOf packet)) (entries t)))))
+    (λ s. rw s)
+  where
+    go : (rules : List Entry) → lookupTold (Judged (verdictOf (mergedOnto noActions rules) (length rules)))
+        ≡ done (length rules ∷ valuesOf (mergedOnto noActions rules))
+    go [] = refl
+    go (e ∷ es) = rw (ne-eqb (length (e ∷ es)) 0 (λ z. omega arith))
+
+pub locate-tells : (t packet : List ℕ) → matchPlaceTold (matchPlace t packet) ≡ told (lookupChecks t packet) (firstMatchValues t packet)
+unfolding matchPlace lookingUp firstMatch seen packetOf
+locate-tells t packet =
+    by-test (soundTable ipv4 t)
+    (λ s. by-test (isUnusable packet) (λ u. rw (s, u)) (λ u. rw (s, u) (go (verdictFor ipv4 (fieldsOf packet) (entries t)))))
+    (λ s. rw s)
+  where
+    go : (v : Verdict) → _≡_ {A = Told} (record { number = verdictTold v .number; place = 0; values = firstMatchValues t packet }) (done (firstMatchValues t packet))
+    go Unmatched = refl
+    go (Matched actions count) = refl

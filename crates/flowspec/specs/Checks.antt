@@ -1,0 +1,138 @@
+-- 01's table of refusals as lists: what each call checks, in the order in which 01 names the numbers, and what a call says that goes
+-- through such a list. The first check that does not hold refuses the call.
+use Prim.Native.Nat.{ℕ, _+_, _-_}
+use mathlib.Core.Bool.{Bool, true, false, cond, not}
+use mathlib.Core.List.{List, [], _∷_}
+use lib.Dec.{leb, ltb}
+use lib.ListN.{length}
+use Rattle.sorted.specs.Table.{byOrder}
+use Rattle.rule.specs.declared.Checked.{Checked}
+use Rattle.rule.specs.declared.Checked.the-variants.{Accepted, Refused}
+use Rattle.rule.specs.Family.{ipv4}
+use Rattle.rule.specs.Plain.{plain}
+use Rattle.rule.specs.Value.{checkValue}
+use Rattle.rule.specs.Reading.{fieldSize, fieldLength, valueOf}
+use Rattle.rule.specs.Writing.{ruleFor}
+use Rattle.order.specs.Key.{keysOf}
+use Rattle.order.specs.Precedence.{precedence}
+use Rattle.action.specs.declared.Actions.{Actions}
+use Rattle.action.specs.declared.Reading.{Reading as ActionsReading}
+use Rattle.action.specs.declared.Reading.the-variants.{Read, Unsound}
+use Rattle.action.specs.Actions.{noActions, actionsOf, valuesOf}
+use Rattle.packet.specs.Header.{isUnusable}
+use Rattle.packet.specs.Packet.{fieldsOf}
+use Rattle.table.specs.declared.Place.{Place}
+use Rattle.table.specs.Walk.{entries}
+use Rattle.table.specs.Sound.{soundTable}
+use Rattle.table.specs.Lookup.{hit, collected, mergedOnto, firstPlace}
+use Rattle.table.specs.Change.{holds}
+use Rattle.flowspec.specs.Told.{Told, done, refused}
+
+-- A check: whether it holds, and the number and the place of the refusal where it does not.
+pub record Check : Type 0 where
+  pub holds : Bool
+  pub number : ℕ
+  pub place : ℕ
+
+-- 01: "3 to 7 carry a place in the value"; "Others carry place 0."
+abbrev pub check : Bool → ℕ → Check
+check holds number = record { holds = holds; number = number; place = 0 }
+
+-- 01: ""1 to 7" means 1, 2, then 3 to 7 as met": the refusals of a value, which is read left to right, as one check.
+abbrev pub oneToSeven : Checked → Check
+oneToSeven Accepted = record { holds = true; number = 0; place = 0 }
+oneToSeven (Refused number place) = record { holds = false; number = number; place = place }
+
+-- What a call says that goes through checks: the refusal of the first that does not hold, with each value 0, or, where all hold, that it
+-- is done, with its values.
+abbrev pub told : List Check → List ℕ → Told
+told [] values = done values
+told (c ∷ cs) values = cond (c .holds) (told cs values) (refused (c .number) (c .place) (length values))
+
+-- Where the rule ends that octets begin with: behind its length field and its value.
+abbrev pub ruleEnd : List ℕ → ℕ
+ruleEnd rule = fieldSize rule + fieldLength rule
+
+-- The value of that rule.
+abbrev pub valueIn : List ℕ → List ℕ
+valueIn rule = valueOf rule (fieldSize rule) (fieldLength rule)
+
+-- 1 where the "length field or value runs past the bytes", then the refusals of the value.
+abbrev pub checkRule : List ℕ → Checked
+checkRule rule = cond (ltb (length rule) (ruleEnd rule)) (Refused 1 0) (checkValue ipv4 (valueIn rule))
+
+-- No "bytes after the one rule".
+abbrev pub endsThere : List ℕ → Bool
+endsThere rule = leb (length rule) (ruleEnd rule)
+
+-- 01: "reading one rule 1 to 7, 15".
+abbrev pub readChecks : List ℕ → List Check
+readChecks rule = oneToSeven (checkRule rule) ∷ check (endsThere rule) 15 ∷ []
+
+-- 01: "Reading one rule answers the start and length of its value".
+abbrev pub readValues : List ℕ → List ℕ
+readValues rule = fieldSize rule ∷ fieldLength rule ∷ []
+
+-- 01: "writer (takes a value) 1 to 7, 16".
+abbrev pub writeChecks : List ℕ → List ℕ → List Check
+writeChecks value buffer = oneToSeven (checkValue ipv4 value) ∷ check (leb (length (ruleFor value)) (length buffer)) 16 ∷ []
+
+-- 01: "answers how many octets it wrote".
+abbrev pub writeValues : List ℕ → List ℕ
+writeValues value = length (ruleFor value) ∷ []
+
+-- 01: "comparing the same, first rule before second".
+abbrev pub compareChecks : List ℕ → List ℕ → List Check
+compareChecks first second =
+    oneToSeven (checkRule first)
+    ∷ check (endsThere first) 15
+    ∷ oneToSeven (checkRule second)
+    ∷ check (endsThere second) 15
+    ∷ []
+
+-- 1 where the first rule comes first, 3 where they are the same rule, 2 where the second comes first.
+abbrev pub compareValues : List ℕ → List ℕ → List ℕ
+compareValues first second = byOrder (precedence ipv4 (valueIn first) (valueIn second)) 1 3 2 ∷ []
+
+-- Whether communities are sound, and the actions that they ask for, none where they are not.
+abbrev pub isSound : ActionsReading → Bool
+isSound (Read actions) = true
+isSound Unsound = false
+
+abbrev pub actionsIn : ActionsReading → Actions
+actionsIn (Read actions) = actions
+actionsIn Unsound = noActions
+
+-- 01: "actions 13".
+abbrev pub actionsChecks : List ℕ → List Check
+actionsChecks communities = check (isSound (actionsOf communities)) 13 ∷ []
+
+-- The values of the actions, in the order of a record.
+abbrev pub actionsValues : List ℕ → List ℕ
+actionsValues communities = valuesOf (actionsIn (actionsOf communities))
+
+-- 01: "withdraw 10, 1 to 7, 15, 14".
+abbrev pub withdrawChecks : List ℕ → List ℕ → List Check
+withdrawChecks rule table =
+    check (soundTable ipv4 table) 10
+    ∷ oneToSeven (checkRule rule)
+    ∷ check (endsThere rule) 15
+    ∷ check (holds ipv4 table (keysOf ipv4 (plain (valueIn rule)))) 14
+    ∷ []
+
+-- 01: "lookup 10, 12".
+abbrev pub lookupChecks : List ℕ → List ℕ → List Check
+lookupChecks table packet = check (soundTable ipv4 table) 10 ∷ check (not (isUnusable packet)) 12 ∷ []
+
+-- 01: "matched with the merged actions and the count collected": the count, then the values of the actions; each is 0 where no rule matches.
+abbrev pub lookupValues : List ℕ → List ℕ → List ℕ
+lookupValues table packet =
+    let rules = collected (hit ipv4 (fieldsOf packet)) (entries table) in
+    length rules ∷ valuesOf (mergedOnto noActions rules)
+
+-- Where the first match's record stands, as its start and length, 0 and 0 where there is none.
+abbrev pub placeValues : Place → List ℕ
+placeValues place = place .start ∷ (place .end - place .start) ∷ []
+
+abbrev pub firstMatchValues : List ℕ → List ℕ → List ℕ
+firstMatchValues table packet = placeValues (firstPlace (hit ipv4 (fieldsOf packet)) 0 (entries table))
