@@ -41,6 +41,7 @@ use Rattle.flowspec.specs.declared.Looked.{Looked}
 use Rattle.flowspec.specs.declared.Looked.the-variants.{Judged, Refused as NotLookedUp}
 use Rattle.flowspec.specs.Told.{changeTold}
 use Rattle.flowspec.specs.Compare.{comparisonOf, compareRead, compareRules}
+use Rattle.flowspec.specs.Input.{Announcement, Policy}
 use Rattle.flowspec.specs.Feasibility.{readWithRoutes, isFeasible, feasibilityOf, judgeRead, judgement}
 use Rattle.flowspec.specs.Announce.{announcedEntry, changeOf, askedBy, asked, announcedBy, announcing, withdrawnBy, withdrawing}
 use Rattle.flowspec.specs.Look.{shown, seen, lookedUp, lookingUp}
@@ -87,18 +88,18 @@ with-says words rule =
     go (NotRead number place) h = h
     go (Rule start size) h = tt
 
-pub not-feasible : (setting : Bool) (words rule : List ℕ) (originator number place : ℕ) → judgement setting words rule originator ≡ NotFeasible number place
+pub not-feasible : (policy : Policy) (rule : List ℕ) (originator number place : ℕ) → judgement policy rule originator ≡ NotFeasible number place
     → Refusal number place
 unfolding judgement
-not-feasible setting words rule originator number place e = subst Judges e (go (readWithRoutes words rule) (with-says words rule))
+not-feasible policy rule originator number place e = subst Judges e (go (readWithRoutes (policy .routes) rule) (with-says (policy .routes) rule))
   where
     verdict : (b : Bool) → Judges (feasibilityOf b)
     verdict true = tt
     verdict false = placeless 8 (omega arith) (omega arith)
 
-    go : (r : Reading) → Reads r → Judges (judgeRead setting words rule originator r)
+    go : (r : Reading) → Reads r → Judges (judgeRead policy rule originator r)
     go (NotRead number place) h = h
-    go (Rule start size) h = verdict (isFeasible setting words (valueOf rule start size) originator)
+    go (Rule start size) h = verdict (isFeasible policy (valueOf rule start size) originator)
 
 -- ---- announcing and withdrawing ----
 
@@ -120,32 +121,32 @@ abbrev Asks : Request → Type 0
 Asks (NotAsked number place) = Refusal number place
 Asks (Announce start size actions feasible) = Unit {0}
 
-module _ (setting : Bool) (words rule : List ℕ) (originator : ℕ) (communities : List ℕ) where
-  asks : Asks (asked setting words rule originator communities)
+module _ (policy : Policy) (a : Announcement) where
+  asks : Asks (asked policy a)
   unfolding asked
-  asks = go (readWithRoutes words rule) (with-says words rule) (actionsOf communities)
+  asks = go (readWithRoutes (policy .routes) (a .rule)) (with-says (policy .routes) (a .rule)) (actionsOf (a .communities))
     where
-      go : (r : Reading) → Reads r → (a : ActionsReading) → Asks (askedBy setting words rule originator r a)
-      go (NotRead number place) h a = h
+      go : (r : Reading) → Reads r → (acts : ActionsReading) → Asks (askedBy policy a r acts)
+      go (NotRead number place) h acts = h
       go (Rule start size) h Unsound = placeless 13 (omega arith) (omega arith)
       go (Rule start size) h (Read actions) = tt
 
-  pub not-announced : (t : List ℕ) (number place : ℕ) → announcing setting words rule originator communities t .answer ≡ NotChanged number place
+  pub not-announced : (t : List ℕ) (number place : ℕ) → announcing policy a t .answer ≡ NotChanged number place
       → Refusal number place
   unfolding announcing
   not-announced t number place e =
       subst Changes e
-      (by-test (soundTable ipv4 t) (λ s. rw s (go (asked setting words rule originator communities) asks))
+      (by-test (soundTable ipv4 t) (λ s. rw s (go (asked policy a) asks))
       (λ s. rw s (placeless 10 (omega arith) (omega arith))))
     where
       told : (n : Entry) (feasible : Bool) → announced ipv4 t n feasible .number ≤ 16
       told n true = by-test (hasRoom ipv4 t n) (λ h. rw h (omega arith)) (λ h. rw h (omega arith))
       told n false = omega arith
 
-      go : (r : Request) → Asks r → Changes (announcedBy t rule originator r .answer)
+      go : (r : Request) → Asks r → Changes (announcedBy a t r .answer)
       go (NotAsked number place) h = h
       go (Announce start size actions feasible) h =
-          let n : Entry = announcedEntry rule originator start size actions in
+          let n : Entry = announcedEntry a start size actions in
           changes (announced ipv4 t n feasible .number) (told n feasible)
 
 pub not-withdrawn : (rule t : List ℕ) (number place : ℕ) → withdrawing rule t .answer ≡ NotChanged number place → Refusal number place

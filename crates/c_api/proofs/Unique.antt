@@ -2,6 +2,7 @@
 use mathlib.Core.Path.{_≡_, sym, _∙_}
 use mathlib.Core.List.{List}
 use Prim.Native.Nat.{ℕ}
+use Rattle.flowspec.specs.Input.{Announcement, Policy}
 use Rattle.flowspec.specs.Told.{Told}
 use Rattle.c_api.specs.Promise.{Returns, ReturnsKeeping, ReadCall, WriteCall, CompareCall, FeasibleCall, ActionsCall, AnnounceCall, WithdrawCall, LookupCall, FirstMatchCall}
 
@@ -27,18 +28,18 @@ module _ (k l : List (List ℕ)) where
       → (a ≡ b) × ((x ≡ y) × (k ≡ l))
   one-compare first second entry a b x y p q = one-keeping p q
 
-  pub one-feasible : (routes : List ℕ) (setting : ℕ) (rule : List ℕ) (originator a b : ℕ) → FeasibleCall routes setting rule originator a k
-      → FeasibleCall routes setting rule originator b l → (a ≡ b) × (k ≡ l)
-  one-feasible routes setting rule originator a b p q = (p .is ∙ sym (q .is), p .keeps ∙ sym (q .keeps))
+  pub one-feasible : (policy : Policy) (rule : List ℕ) (originator a b : ℕ) → FeasibleCall policy rule originator a k
+      → FeasibleCall policy rule originator b l → (a ≡ b) × (k ≡ l)
+  one-feasible policy rule originator a b p q = (p .is ∙ sym (q .is), p .keeps ∙ sym (q .keeps))
 
   pub one-actions : (communities entry : List ℕ) (a b : ℕ) (x y : List ℕ) → ActionsCall communities entry a x k → ActionsCall communities entry b y l
       → (a ≡ b) × ((x ≡ y) × (k ≡ l))
   one-actions communities entry a b x y p q = one-keeping p q
 
-  pub one-announce : (table routes : List ℕ) (setting : ℕ) (rule : List ℕ) (originator : ℕ) (communities : List ℕ) (a b : ℕ) (s t : List ℕ)
-      → AnnounceCall table routes setting rule originator communities a s k → AnnounceCall table routes setting rule originator communities b t l
+  pub one-announce : (table : List ℕ) (policy : Policy) (announcement : Announcement) (a b : ℕ) (s t : List ℕ)
+      → AnnounceCall table policy announcement a s k → AnnounceCall table policy announcement b t l
       → (a ≡ b) × ((s ≡ t) × (k ≡ l))
-  one-announce table routes setting rule originator communities a b s t p q =
+  one-announce table policy announcement a b s t p q =
       (p .is ∙ sym (q .is), (p .leaves ∙ sym (q .leaves), p .keeps ∙ sym (q .keeps)))
 
   pub one-withdraw : (table rule : List ℕ) (a b : ℕ) (s t : List ℕ) → WithdrawCall table rule a s k → WithdrawCall table rule b t l

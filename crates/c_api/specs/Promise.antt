@@ -10,11 +10,12 @@ use Rattle.rule.specs.Reading.{oneRule}
 use Rattle.rule.specs.Writing.{writing, afterWriting}
 use Rattle.action.specs.Actions.{actionsOf}
 use Rattle.flowspec.specs.Compare.{compareRules}
+use Rattle.flowspec.specs.Input.{Announcement, Policy}
 use Rattle.flowspec.specs.Feasibility.{judgement}
 use Rattle.flowspec.specs.Announce.{announcing, withdrawing}
 use Rattle.flowspec.specs.Look.{lookingUp, matchPlace}
 use Rattle.flowspec.specs.Told.{Told, readingTold, writingTold, comparisonTold, feasibilityTold, actionsTold, changeTold, lookupTold, matchPlaceTold}
-use Rattle.c_api.specs.Word.{wordOf, outAfter, isOn}
+use Rattle.c_api.specs.Word.{wordOf, outAfter}
 
 -- What a call returns, and what `out` holds when the call begins and when it ends.
 pub record Returns (answer : Told) (entry : List ℕ) (result : ℕ) (exit : List ℕ) : Type 0 where
@@ -43,9 +44,9 @@ CompareCall first second entry result exit kept =
     ReturnsKeeping (comparisonTold (compareRules first second)) (first ∷ second ∷ []) entry result exit kept
 
 -- flowspec4_feasible: refusals 9, 1 to 7, 15, 8.
-pub record FeasibleCall (routes : List ℕ) (setting : ℕ) (rule : List ℕ) (originator result : ℕ) (kept : List (List ℕ)) : Type 0 where
-  pub is : result ≡ wordOf (feasibilityTold (judgement (isOn setting) routes rule originator))
-  pub keeps : kept ≡ routes ∷ rule ∷ []
+pub record FeasibleCall (policy : Policy) (rule : List ℕ) (originator result : ℕ) (kept : List (List ℕ)) : Type 0 where
+  pub is : result ≡ wordOf (feasibilityTold (judgement policy rule originator))
+  pub keeps : kept ≡ policy .routes ∷ rule ∷ []
 
 -- flowspec4_actions: refusal 13.
 abbrev pub ActionsCall : List ℕ → List ℕ → ℕ → List ℕ → List (List ℕ) → Type 0
@@ -53,11 +54,10 @@ ActionsCall communities entry result exit kept =
     ReturnsKeeping (actionsTold (actionsOf communities)) (communities ∷ []) entry result exit kept
 
 -- flowspec4_announce: refusals 10, 9, 1 to 7, 15, 13, 8, 11; of these 8 alone changes the table, where the rule was held.
-pub record AnnounceCall (table routes : List ℕ) (setting : ℕ) (rule : List ℕ) (originator : ℕ) (communities : List ℕ) (result : ℕ) (left : List ℕ)
-    (kept : List (List ℕ)) : Type 0 where
-  pub is : result ≡ wordOf (changeTold (announcing (isOn setting) routes rule originator communities table .answer))
-  pub leaves : left ≡ announcing (isOn setting) routes rule originator communities table .table
-  pub keeps : kept ≡ routes ∷ rule ∷ communities ∷ []
+pub record AnnounceCall (table : List ℕ) (policy : Policy) (announcement : Announcement) (result : ℕ) (left : List ℕ) (kept : List (List ℕ)) : Type 0 where
+  pub is : result ≡ wordOf (changeTold (announcing policy announcement table .answer))
+  pub leaves : left ≡ announcing policy announcement table .table
+  pub keeps : kept ≡ policy .routes ∷ announcement .rule ∷ announcement .communities ∷ []
 
 -- flowspec4_withdraw: refusals 10, 1 to 7, 15, 14, none of which changes an octet.
 pub record WithdrawCall (table rule : List ℕ) (result : ℕ) (left : List ℕ) (kept : List (List ℕ)) : Type 0 where

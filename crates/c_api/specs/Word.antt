@@ -18,6 +18,6 @@ wordOf a = word (a .number) (a .place)
 abbrev pub outAfter : Told → List ℕ → List ℕ
 outAfter a out = cond (eqb (a .number) 0) (a .values) out
 
--- `allow_no_destination`: 0 is off and any other number on.
+-- The header's `allow_no_destination`: 0 is off and any other number on.
 abbrev pub isOn : ℕ → Bool
-isOn setting = not (eqb setting 0)
+isOn allow = not (eqb allow 0)

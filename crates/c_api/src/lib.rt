@@ -3,6 +3,7 @@
 ghost use mathlib.Core.Path.{_≡_};
 ghost use mathlib.Core.List.{[], _∷_};
 ghost use Prim.Native.Nat.{_≤_};
+ghost use Rattle.flowspec.specs.Input.{announcementOf, policyOf};
 ghost use Rattle.flowspec.specs.Told.{changeTold, verdictTold};
 ghost use Rattle.c_api.specs.Word.{word, wordOf, isOn};
 ghost use Rattle.c_api.specs.Promise.{ReadCall, WriteCall, CompareCall, FeasibleCall, ActionsCall, AnnounceCall, WithdrawCall, LookupCall, FirstMatchCall};
@@ -33,11 +34,11 @@ fn change_word(change: Change) -> u64
     }
 }
 
-// Whether a setting, the header's `allow_no_destination`, is on: 0 is off and any other number on.
-fn is_on(setting: u32) -> bool
-    ensures { λ r. ⌜ r ≡ isOn setting ⌝ }
+// Whether the header's `allow_no_destination` is on: 0 is off and any other number on.
+fn is_on(allow: u32) -> bool
+    ensures { λ r. ⌜ r ≡ isOn allow ⌝ }
 {
-    setting != 0
+    allow != 0
 }
 
 // The words of a verdict: the count and the merged actions' values, all 0 where no rule matches.
@@ -110,17 +111,17 @@ pub extern "C" fn flowspec4_compare(first: &[u8], second: &[u8], out: &mut [u64;
     }
 }
 
-// Judges whether a rule is feasible for an originator by the lent routes; a setting other than 0 allows rules with no destination.
+// Judges whether a rule is feasible for an originator by the lent routes; `allow_no_destination` is on where it is not 0.
 #[no_mangle]
 pub extern "C" fn flowspec4_feasible(
     routes: &[u32],
-    setting: u32,
+    allow_no_destination: u32,
     rule: &[u8],
     originator: u32,
 ) -> u64
-    ensures { λ r. ⌜ FeasibleCall (now (routes .entry)) setting (now (rule .entry)) originator r (now (routes .exit) ∷ now (rule .exit) ∷ []) ⌝ }
+    ensures { λ r. ⌜ FeasibleCall (policyOf (now (routes .entry)) (isOn «allow_no_destination»)) (now (rule .entry)) originator r (now (routes .exit) ∷ now (rule .exit) ∷ []) ⌝ }
 {
-    let on = is_on(setting);
+    let on = is_on(allow_no_destination);
     match flowspec::judge_rule(on, routes, rule, originator) {
         Feasibility::Refused { number, place } => word_of(number, place),
         Feasibility::Feasible => 0,
@@ -141,19 +142,19 @@ pub extern "C" fn flowspec4_actions(communities: &[u8], out: &mut [u64; 5]) -> u
     }
 }
 
-// Announces a rule with its actions to a table; a setting other than 0 allows rules with no destination.
+// Announces a rule with its actions to a table; `allow_no_destination` is on where it is not 0.
 #[no_mangle]
 pub extern "C" fn flowspec4_announce(
     table: &mut [u8],
     routes: &[u32],
-    setting: u32,
+    allow_no_destination: u32,
     rule: &[u8],
     originator: u32,
     communities: &[u8],
 ) -> u64
-    ensures { λ r. ⌜ AnnounceCall (now (table .entry)) (now (routes .entry)) setting (now (rule .entry)) originator (now (communities .entry)) r (now (table .exit)) (now (routes .exit) ∷ now (rule .exit) ∷ now (communities .exit) ∷ []) ⌝ }
+    ensures { λ r. ⌜ AnnounceCall (now (table .entry)) (policyOf (now (routes .entry)) (isOn «allow_no_destination»)) (announcementOf (now (rule .entry)) originator (now (communities .entry))) r (now (table .exit)) (now (routes .exit) ∷ now (rule .exit) ∷ now (communities .exit) ∷ []) ⌝ }
 {
-    let on = is_on(setting);
+    let on = is_on(allow_no_destination);
     let change = flowspec::announce(table, on, routes, rule, originator, communities);
     change_word(change)
 }

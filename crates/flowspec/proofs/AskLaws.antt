@@ -17,6 +17,7 @@ use Rattle.action.specs.declared.Reading.the-variants.{Read, Unsound}
 use Rattle.action.specs.Actions.{actionsOf}
 use Rattle.flowspec.specs.declared.Request.the-variants.{Announce, Refused}
 use Rattle.flowspec.specs.declared.Change.the-variants.{Done, Refused as NotChanged}
+use Rattle.flowspec.specs.Input.{Announcement, Policy}
 use Rattle.flowspec.specs.Feasibility.{readWithRoutes, isFeasible}
 use Rattle.flowspec.specs.Announce.{changeOf, askedBy, asked}
 use Rattle.flowspec.proofs.FeasibilityLaws.{with-routes}
@@ -30,46 +31,46 @@ pub change-refused : (number : ℕ) → (number ≡ 0 → ⊥) → NotChanged nu
 unfolding changeOf
 change-refused number h = rw (ne-eqb number 0 h)
 
-module _ (setting : Bool) (words rule : List ℕ) (originator : ℕ) (communities : List ℕ) (reading : Reading) (read-is : reading ≡ readWithRoutes words rule) where
-  pub ask-refused : (number place : ℕ) → reading ≡ NotRead number place → Refused number place ≡ asked setting words rule originator communities
+module _ (policy : Policy) (a : Announcement) (reading : Reading) (read-is : reading ≡ readWithRoutes (policy .routes) (a .rule)) where
+  pub ask-refused : (number place : ℕ) → reading ≡ NotRead number place → Refused number place ≡ asked policy a
   unfolding asked
   ask-refused number place e = rw (← read-is, e)
 
-  module _ (start size : ℕ) (e : reading ≡ Rule start size) (actions : ActionsReading) (acts : actions ≡ actionsOf communities) where
-    pub ask-actions : actions ≡ Unsound → Refused 13 0 ≡ asked setting words rule originator communities
+  module _ (start size : ℕ) (e : reading ≡ Rule start size) (actions : ActionsReading) (acts : actions ≡ actionsOf (a .communities)) where
+    pub ask-actions : actions ≡ Unsound → Refused 13 0 ≡ asked policy a
     unfolding asked
     ask-actions h = rw (← read-is, e, ← acts, h)
 
     pub ask-announce : (read : Actions) (judged : Bool) → actions ≡ Read read
-        → judged ≡ isFeasible setting words (valueOf rule start (start + size - start)) originator
-        → Announce start size read judged ≡ asked setting words rule originator communities
+        → judged ≡ isFeasible policy (valueOf (a .rule) start (start + size - start)) (a .originator)
+        → Announce start size read judged ≡ asked policy a
     unfolding asked
     ask-announce read judged h j = rw (← read-is, e, ← acts, h, j, add-sub-cancel-left start size)
 
 -- what an announcement that asks for an entry was read from, and how it was judged
-pub record Asked (setting : Bool) (words rule : List ℕ) (originator : ℕ) (communities : List ℕ) (start size : ℕ) (actions : Actions) (judged : Bool) : Type 0 where
-  pub read : oneRule ipv4 rule ≡ Rule start size
-  pub acts : actionsOf communities ≡ Read actions
-  pub is : judged ≡ isFeasible setting words (valueOf rule start size) originator
+pub record Asked (policy : Policy) (a : Announcement) (start size : ℕ) (actions : Actions) (judged : Bool) : Type 0 where
+  pub read : oneRule ipv4 (a .rule) ≡ Rule start size
+  pub acts : actionsOf (a .communities) ≡ Read actions
+  pub is : judged ≡ isFeasible policy (valueOf (a .rule) start size) (a .originator)
 
-module _ (setting : Bool) (words rule : List ℕ) (originator : ℕ) (communities : List ℕ) (start size : ℕ) (actions : Actions) (judged : Bool) where
-  pub asked-from : asked setting words rule originator communities ≡ Announce start size actions judged
-      → Asked setting words rule originator communities start size actions judged
+module _ (policy : Policy) (a : Announcement) (start size : ℕ) (actions : Actions) (judged : Bool) where
+  pub asked-from : asked policy a ≡ Announce start size actions judged
+      → Asked policy a start size actions judged
   unfolding asked
   asked-from e =
-      go (readWithRoutes words rule) refl (actionsOf communities) refl e
+      go (readWithRoutes (policy .routes) (a .rule)) refl (actionsOf (a .communities)) refl e
     where
-      go : (r : Reading) → readWithRoutes words rule ≡ r → (a : ActionsReading) → actionsOf communities ≡ a
-          → askedBy setting words rule originator r a ≡ Announce start size actions judged
-          → Asked setting words rule originator communities start size actions judged
-      go (NotRead number place) f a g z = apart (cc)
+      go : (r : Reading) → readWithRoutes (policy .routes) (a .rule) ≡ r → (acts : ActionsReading) → actionsOf (a .communities) ≡ acts
+          → askedBy policy a r acts ≡ Announce start size actions judged
+          → Asked policy a start size actions judged
+      go (NotRead number place) f acts g z = apart (cc)
       go (Rule begin extent) f Unsound g z = apart (cc)
       go (Rule begin extent) f (Read read) g z =
           let starts : begin ≡ start = cc in
           let sizes : extent ≡ size = cc in
           let reads : read ≡ actions = cc in
-          let judges : isFeasible setting words (valueOf rule begin extent) originator ≡ judged = cc in
-          record { read = with-routes words rule start size (f ∙ rw (starts, sizes)); acts = g ∙ rw reads; is = sym judges ∙ rw (starts, sizes) }
+          let judges : isFeasible policy (valueOf (a .rule) begin extent) (a .originator) ≡ judged = cc in
+          record { read = with-routes (policy .routes) (a .rule) start size (f ∙ rw (starts, sizes)); acts = g ∙ rw reads; is = sym judges ∙ rw (starts, sizes) }
 
-  pub asked-rule : asked setting words rule originator communities ≡ Announce start size actions judged → ReadRule ipv4 rule start size
-  asked-rule e = one-read ipv4 rule start size (asked-from e .read)
+  pub asked-rule : asked policy a ≡ Announce start size actions judged → ReadRule ipv4 (a .rule) start size
+  asked-rule e = one-read ipv4 (a .rule) start size (asked-from e .read)

@@ -18,6 +18,7 @@ use Rattle.route.specs.Destination.{destinationOf}
 use Rattle.route.specs.Feasible.{feasible}
 use Rattle.flowspec.specs.declared.Feasibility.{Feasibility}
 use Rattle.flowspec.specs.declared.Feasibility.the-variants.{Refused}
+use Rattle.flowspec.specs.Input.{Policy}
 use Rattle.flowspec.specs.Feasibility.{readWithRoutes, isFeasible, feasibilityOf, judgement}
 use Rattle.flowspec.specs.Told.{feasibilityTold}
 use Rattle.flowspec.specs.Promise.{JudgesOne}
@@ -42,22 +43,22 @@ module _ (words rule : List ℕ) where
   rule-there reading start size is e = one-read ipv4 rule start size (with-routes start size (sym is ∙ e))
 
 -- judging a value
-pub value-judged : (setting : Bool) (words value : List ℕ) (originator : ℕ) (destination : Destination) (feasibly : Bool) → destination ≡ destinationOf ipv4 value
-    → feasibly ≡ feasible 32 setting destination originator (routesOf words) → feasibly ≡ isFeasible setting words value originator
+pub value-judged : (policy : Policy) (value : List ℕ) (originator : ℕ) (destination : Destination) (feasibly : Bool) → destination ≡ destinationOf ipv4 value
+    → feasibly ≡ feasible 32 (policy .allowsNoDestination) destination originator (routesOf (policy .routes)) → feasibly ≡ isFeasible policy value originator
 unfolding isFeasible
-value-judged setting words value originator destination feasibly is says = says ∙ rw is
+value-judged policy value originator destination feasibly is says = says ∙ rw is
 
-module _ (setting : Bool) (words rule : List ℕ) (originator : ℕ) (reading : Reading) (read : reading ≡ readWithRoutes words rule) where
+module _ (policy : Policy) (rule : List ℕ) (originator : ℕ) (reading : Reading) (read : reading ≡ readWithRoutes (policy .routes) rule) where
   -- a promise from the equation for the answer
-  kept : (answer : Feasibility) → answer ≡ judgement setting words rule originator → JudgesOne setting words rule originator answer (words ∷ rule ∷ [])
+  kept : (answer : Feasibility) → answer ≡ judgement policy rule originator → JudgesOne policy rule originator answer (policy .routes ∷ rule ∷ [])
   kept answer e = record { is = e; says = ap feasibilityTold e; keeps = refl }
 
-  pub judge-refused : (number place : ℕ) → reading ≡ NotRead number place → JudgesOne setting words rule originator (Refused number place) (words ∷ rule ∷ [])
+  pub judge-refused : (number place : ℕ) → reading ≡ NotRead number place → JudgesOne policy rule originator (Refused number place) (policy .routes ∷ rule ∷ [])
   unfolding judgement
   judge-refused number place e = kept _ (rw (← read, e))
 
   pub judge-read : (start size : ℕ) (feasibly : Bool) (answer : Feasibility) → reading ≡ Rule start size
-      → feasibly ≡ isFeasible setting words (valueOf rule start (start + size - start)) originator → answer ≡ feasibilityOf feasibly
-      → JudgesOne setting words rule originator answer (words ∷ rule ∷ [])
+      → feasibly ≡ isFeasible policy (valueOf rule start (start + size - start)) originator → answer ≡ feasibilityOf feasibly
+      → JudgesOne policy rule originator answer (policy .routes ∷ rule ∷ [])
   unfolding judgement
   judge-read start size feasibly answer e f a = kept answer (a ∙ rw (← read, e, f, add-sub-cancel-left start size))

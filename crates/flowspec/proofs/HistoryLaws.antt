@@ -28,7 +28,7 @@ use Rattle.rule.specs.Plain.{plain}
 use Rattle.rule.specs.Reading.{valueOf, oneRule}
 use Rattle.rule.proofs.ReadingLaws.{one-read}
 use Rattle.action.proofs.PossibleLaws.{read-possible}
-use Rattle.order.specs.Key.{keysOf, keyOrder}
+use Rattle.order.specs.Key.{RuleKey, keysOf, keyOrder}
 use Rattle.order.proofs.KeyLaws.{key-order}
 use Rattle.entry.specs.Entry.{Entry, entryKey, possible}
 use Rattle.entry.proofs.ValueLaws.{make-possible}
@@ -42,6 +42,7 @@ use Rattle.table.proofs.CallLaws.{plain-held}
 use Rattle.flowspec.specs.declared.Change.{Change}
 use Rattle.flowspec.specs.declared.Request.{Request}
 use Rattle.flowspec.specs.declared.Request.the-variants.{Announce, Refused as NotAsked}
+use Rattle.flowspec.specs.Input.{Announcement, Policy}
 use Rattle.flowspec.specs.Announce.{announcedEntry, Outcome, changeOf, outcome, asked, announcedBy, announcing, withdrawnBy, withdrawing}
 use Rattle.flowspec.specs.History.{Call, announcement, withdrawal, Made, CanBe, EachCanBe, asksToAnnounce, asksToWithdraw, asks, Promised, Happened, askedOf, numberOf, inForceAfter, endOf, emptyTable}
 use Rattle.flowspec.specs.Told.{changeTold}
@@ -67,7 +68,7 @@ module _ (t : List ℕ) (es : List Entry) (c : Encodes ipv4 t es) where
         is = ap (λ n. tableOf n xs) (sym long);
       }
 
-  without : (k : List (List ℕ)) → Encodes ipv4 (removed ipv4 t k) (remove keyOrder (entryKey ipv4) k es)
+  without : (k : RuleKey) → Encodes ipv4 (removed ipv4 t k) (remove keyOrder (entryKey ipv4) k es)
   unfolding removed
   without k =
       let less = costs-remove keyOrder (entryKey ipv4) cost k es in
@@ -75,7 +76,7 @@ module _ (t : List ℕ) (es : List Entry) (c : Encodes ipv4 t es) where
       rw (encodes-entries ipv4 t es c)
       (encoding (remove keyOrder (entryKey ipv4) k es) (omega arith) (every-remove keyOrder (entryKey ipv4) (possible ipv4) k es (c .each)) (remove-sorted keyOrder (entryKey ipv4) key-order k es (c .rising)))
 
-  long-removed : (k : List (List ℕ)) → length (removed ipv4 t k) ≡ length t
+  long-removed : (k : RuleKey) → length (removed ipv4 t k) ≡ length t
   unfolding removed
   long-removed k =
       let less = costs-remove keyOrder (entryKey ipv4) cost k es in
@@ -99,7 +100,7 @@ module _ (t : List ℕ) (es : List Entry) (c : Encodes ipv4 t es) where
       (λ h. rw h (record { answers = refl; encodes = c; long = refl })))
   same-announced e false ok = record { answers = refl; encodes = without (entryKey ipv4 e); long = long-removed (entryKey ipv4 e) }
 
-  same-withdrawn : (k : List (List ℕ))
+  same-withdrawn : (k : RuleKey)
       → Same (length t) (outcome (withdrawn ipv4 t k)) (apply keyOrder (entryKey ipv4) cost (length t) (withdraw k) es)
   unfolding changeOf withdrawn holds
   same-withdrawn k =
@@ -115,42 +116,39 @@ pub octets-value : (rule : List ℕ) (start size : ℕ) → Octets rule → Octe
 octets-value rule start size o = rw (add-sub-cancel-left start size) at (octets-between rule start (start + size) o)
 
 -- what is asked to be announced could be
-abbrev pub Could : List ℕ → ℕ → Request → Type 0
-Could rule originator (NotAsked number place) = Unit {0}
-Could rule originator (Announce start size actions feasible) =
-    possible ipv4 (announcedEntry rule originator start size actions) ≡ true
+abbrev pub Could : Announcement → Request → Type 0
+Could a (NotAsked number place) = Unit {0}
+Could a (Announce start size actions feasible) = possible ipv4 (announcedEntry a start size actions) ≡ true
 
-pub asked-could : (setting : Bool) (routes rule : List ℕ) (originator : ℕ) (communities : List ℕ) → Octets rule → originator < 2 ^ 32
-    → Could rule originator (asked setting routes rule originator communities)
-asked-could setting routes rule originator communities o small =
-    go (asked setting routes rule originator communities) refl
+pub asked-could : (policy : Policy) (a : Announcement) → Octets (a .rule) → a .originator < 2 ^ 32 → Could a (asked policy a)
+asked-could policy a o small =
+    go (asked policy a) refl
   where
-    go : (r : Request) → asked setting routes rule originator communities ≡ r → Could rule originator r
+    go : (r : Request) → asked policy a ≡ r → Could a r
     go (NotAsked number place) e = tt
     go (Announce start size actions feasible) e =
-        let from = asked-from setting routes rule originator communities start size actions feasible e in
-        let octets = octets-value rule start size o in
-        make-possible ipv4 (announcedEntry rule originator start size actions) small
-        (read-possible communities actions (from .acts))
-        (plain-held (valueOf rule start size) octets (one-read ipv4 rule start size (from .read) .accepted))
+        let from = asked-from policy a start size actions feasible e in
+        let octets = octets-value (a .rule) start size o in
+        make-possible ipv4 (announcedEntry a start size actions) small
+        (read-possible (a .communities) actions (from .acts))
+        (plain-held (valueOf (a .rule) start size) octets (one-read ipv4 (a .rule) start size (from .read) .accepted))
 
 -- one call
-module _ (setting : Bool) (routes : List ℕ) (t : List ℕ) (es : List Entry) (c : Encodes ipv4 t es) where
-  same-announcing : (rule : List ℕ) (originator : ℕ) (communities : List ℕ) → Octets rule → originator < 2 ^ 32
-      → Same (length t) (announcing setting routes rule originator communities t)
-      (apply keyOrder (entryKey ipv4) cost (length t) (asks setting routes (announcement rule originator communities)) es)
+module _ (policy : Policy) (t : List ℕ) (es : List Entry) (c : Encodes ipv4 t es) where
+  same-announcing : (a : Announcement) → Octets (a .rule) → a .originator < 2 ^ 32
+      → Same (length t) (announcing policy a t) (apply keyOrder (entryKey ipv4) cost (length t) (asks policy (announcement a)) es)
   unfolding announcing
-  same-announcing rule originator communities o small =
-      rw (encodes-sound ipv4 t es c) (go (asked setting routes rule originator communities) (asked-could setting routes rule originator communities o small))
+  same-announcing a o small =
+      rw (encodes-sound ipv4 t es c) (go (asked policy a) (asked-could policy a o small))
     where
-      go : (r : Request) → Could rule originator r
-          → Same (length t) (announcedBy t rule originator r) (apply keyOrder (entryKey ipv4) cost (length t) (asksToAnnounce rule originator r) es)
+      go : (r : Request) → Could a r
+          → Same (length t) (announcedBy a t r) (apply keyOrder (entryKey ipv4) cost (length t) (asksToAnnounce a r) es)
       go (NotAsked number place) ok = record { answers = refl; encodes = c; long = refl }
       go (Announce start size actions feasible) ok =
-          same-announced t es c (announcedEntry rule originator start size actions) feasible ok
+          same-announced t es c (announcedEntry a start size actions) feasible ok
 
   same-withdrawing : (rule : List ℕ)
-      → Same (length t) (withdrawing rule t) (apply keyOrder (entryKey ipv4) cost (length t) (asks setting routes (withdrawal rule)) es)
+      → Same (length t) (withdrawing rule t) (apply keyOrder (entryKey ipv4) cost (length t) (asks policy (withdrawal rule)) es)
   unfolding withdrawing
   same-withdrawing rule = rw (encodes-sound ipv4 t es c) (go (oneRule ipv4 rule))
     where
@@ -158,34 +156,33 @@ module _ (setting : Bool) (routes : List ℕ) (t : List ℕ) (es : List Entry) (
       go (NotRead number place) = record { answers = refl; encodes = c; long = refl }
       go (Rule start size) = same-withdrawn t es c (keysOf ipv4 (plain (valueOf rule start size)))
 
-  same-made : (call : Call) (answer : Change) (left : List ℕ) → CanBe call → Promised setting routes call t answer left
-      → Same (length t) (record { answer = answer; table = left }) (apply keyOrder (entryKey ipv4) cost (length t) (asks setting routes call) es)
-  same-made (announcement rule originator communities) answer left can p =
-      rw (p .is, p .leaves) (same-announcing rule originator communities (can .0) (can .1))
+  same-made : (call : Call) (answer : Change) (left : List ℕ) → CanBe call → Promised policy call t answer left
+      → Same (length t) (record { answer = answer; table = left }) (apply keyOrder (entryKey ipv4) cost (length t) (asks policy call) es)
+  same-made (announcement a) answer left can p = rw (p .is, p .leaves) (same-announcing a (can .0) (can .1))
   same-made (withdrawal rule) answer left can p = rw (p .is, p .leaves) (same-withdrawing rule)
 
 -- any history: the table at its end encodes the entries that the same calls leave on lists, and each call was answered as it is there
-module _ (setting : Bool) (routes : List ℕ) where
+module _ (policy : Policy) where
   step : (n : ℕ) (m : Made) (t : List ℕ) (es : List Entry) → Encodes ipv4 t es → length t ≡ n → CanBe (m .call)
-      → Promised setting routes (m .call) t (m .answer) (m .left)
-      → Same n (record { answer = m .answer; table = m .left }) (apply keyOrder (entryKey ipv4) cost n (askedOf setting routes m) es)
+      → Promised policy (m .call) t (m .answer) (m .left)
+      → Same n (record { answer = m .answer; table = m .left }) (apply keyOrder (entryKey ipv4) cost n (askedOf policy m) es)
   step n m t es c long can made =
       subst
-      (λ (size : ℕ). Same size (record { answer = m .answer; table = m .left }) (apply keyOrder (entryKey ipv4) cost size (askedOf setting routes m) es))
+      (λ (size : ℕ). Same size (record { answer = m .answer; table = m .left }) (apply keyOrder (entryKey ipv4) cost size (askedOf policy m) es))
       long
-      (same-made setting routes t es c (m .call) (m .answer) (m .left) can made)
+      (same-made policy t es c (m .call) (m .answer) (m .left) can made)
 
   record Follows (n : ℕ) (h : List Made) (t : List ℕ) (es : List Entry) : Type 0 where
-    pub encodes : Encodes ipv4 (endOf t h) (run keyOrder (entryKey ipv4) cost n (askedOf setting routes) h es)
+    pub encodes : Encodes ipv4 (endOf t h) (run keyOrder (entryKey ipv4) cost n (askedOf policy) h es)
     pub long : length (endOf t h) ≡ n
-    pub ran : Ran keyOrder (entryKey ipv4) cost n (askedOf setting routes) numberOf h es
+    pub ran : Ran keyOrder (entryKey ipv4) cost n (askedOf policy) numberOf h es
 
-  follows : (n : ℕ) (h : List Made) (t : List ℕ) (es : List Entry) → Encodes ipv4 t es → length t ≡ n → EachCanBe h → Happened setting routes t h
+  follows : (n : ℕ) (h : List Made) (t : List ℕ) (es : List Entry) → Encodes ipv4 t es → length t ≡ n → EachCanBe h → Happened policy t h
       → Follows n h t es
   follows n [] t es c long can made = record { encodes = c; long = long; ran = tt }
   follows n (m ∷ h) t es c long can made =
       let same = step n m t es c long (can .0) (made .0) in
-      let rest = follows n h (m .left) (apply keyOrder (entryKey ipv4) cost n (askedOf setting routes m) es .table) (same .encodes) (same .long) (can .1) (made .1) in
+      let rest = follows n h (m .left) (apply keyOrder (entryKey ipv4) cost n (askedOf policy m) es .table) (same .encodes) (same .long) (can .1) (made .1) in
       record { encodes = rest .encodes; long = rest .long; ran = (same .answers, rest .ran) }
 
 -- the empty table is the encoding of no entries
@@ -198,17 +195,17 @@ empty-encodes n h =
     let long = long-empty n in
     record { short = omega arith; room = omega arith; each = refl; rising = tt; is = rw (long, sub-zero n) }
 
-module _ (setting : Bool) (routes : List ℕ) (n : ℕ) (fits : n ≤ mostOctets) where
+module _ (policy : Policy) (n : ℕ) (fits : n ≤ mostOctets) where
   -- the table after a history that began at an empty table
   abbrev pub after : List Made → List ℕ
   after h = endOf (emptyTable n) h
 
-  module _ (h : List Made) (can : EachCanBe h) (made : Happened setting routes (emptyTable n) h) where
+  module _ (h : List Made) (can : EachCanBe h) (made : Happened policy (emptyTable n) h) where
     abbrev left : List Entry
-    left = run keyOrder (entryKey ipv4) cost n (askedOf setting routes) h []
+    left = run keyOrder (entryKey ipv4) cost n (askedOf policy) h []
 
-    followed : Follows setting routes n h (emptyTable n) []
-    followed = follows setting routes n h (emptyTable n) [] (empty-encodes n fits) (long-empty n) can made
+    followed : Follows policy n h (emptyTable n) []
+    followed = follows policy n h (emptyTable n) [] (empty-encodes n fits) (long-empty n) can made
 
     entries-left : entries (after h) ≡ left
     entries-left = encodes-entries ipv4 (after h) left (followed .encodes)
@@ -218,15 +215,15 @@ module _ (setting : Bool) (routes : List ℕ) (n : ℕ) (fits : n ≤ mostOctets
     history-sound = rw entries-left (followed .encodes)
 
     -- **the table holds exactly what is in force**: an entry stands in it where it is what its rule's last counted call left in force
-    pub history-holds : (e : Entry) → List·Memᴰ e (entries (after h)) ↔ (inForceAfter setting routes h (entryKey ipv4 e) ≡ some e)
+    pub history-holds : (e : Entry) → List·Memᴰ e (entries (after h)) ↔ (inForceAfter policy h (entryKey ipv4 e) ≡ some e)
     history-holds e =
-        rw entries-left (run-holds keyOrder (entryKey ipv4) cost n (askedOf setting routes) numberOf key-order h (followed .ran) e)
+        rw entries-left (run-holds keyOrder (entryKey ipv4) cost n (askedOf policy) numberOf key-order h (followed .ran) e)
 
   -- **two histories** that leave the same in force for every rule end in equal octets
-  pub histories-agree : (h g : List Made) → EachCanBe h → EachCanBe g → Happened setting routes (emptyTable n) h → Happened setting routes (emptyTable n) g
-      → ((k : List (List ℕ)) → inForceAfter setting routes h k ≡ inForceAfter setting routes g k) → after h ≡ after g
+  pub histories-agree : (h g : List Made) → EachCanBe h → EachCanBe g → Happened policy (emptyTable n) h → Happened policy (emptyTable n) g
+      → ((k : RuleKey) → inForceAfter policy h k ≡ inForceAfter policy g k) → after h ≡ after g
   histories-agree h g can also made too agree =
       let first = followed h can made in
       let second = followed g also too in
-      let same = run-agree keyOrder (entryKey ipv4) cost n (askedOf setting routes) numberOf key-order h g (first .ran) (second .ran) agree in
+      let same = run-agree keyOrder (entryKey ipv4) cost n (askedOf policy) numberOf key-order h g (first .ran) (second .ran) agree in
       first .encodes .is ∙ ap₂ tableOf (first .long ∙ sym (second .long)) same ∙ sym (second .encodes .is)

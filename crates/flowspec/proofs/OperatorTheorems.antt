@@ -33,6 +33,7 @@ use Rattle.flowspec.specs.declared.Change.the-variants.{Done, Refused}
 use Rattle.flowspec.specs.declared.Comparison.the-variants.{Same}
 use Rattle.flowspec.specs.declared.Request.{Request}
 use Rattle.flowspec.specs.declared.Request.the-variants.{Announce, Refused as NotAsked}
+use Rattle.flowspec.specs.Input.{Announcement, Policy}
 use Rattle.flowspec.specs.Announce.{announcedEntry, Outcome, changeOf, asked, announcedBy, announcing, withdrawing}
 use Rattle.flowspec.specs.Compare.{compareRules}
 use Rattle.flowspec.specs.Promise.{Announces, Withdraws}
@@ -84,41 +85,41 @@ module _ (t : List ℕ) (c : Encodes ipv4 t (entries t)) where
     inserted-either x fine space differ has long =
         rw (entries-with, with-entry e ok room .1, has, long) (ap (tableOf (length t)) (sym (insert-swap keyOrder (entryKey ipv4) key-order e x (entries t) (c .rising) differ)))
 
-module _ (setting : Bool) (routes rule : List ℕ) (originator : ℕ) (communities : List ℕ) where
+module _ (policy : Policy) (a : Announcement) where
   -- what a done announcement asked, what it found, and what it left
   record Stored (t left : List ℕ) : Type 0 where
     pub start : ℕ
     pub size : ℕ
     pub actions : Actions
-    pub asks : asked setting routes rule originator communities ≡ Announce start size actions true
+    pub asks : asked policy a ≡ Announce start size actions true
     pub sound : soundTable ipv4 t ≡ true
-    pub room : hasRoom ipv4 t (announcedEntry rule originator start size actions) ≡ true
-    pub is : left ≡ inserted ipv4 t (announcedEntry rule originator start size actions)
+    pub room : hasRoom ipv4 t (announcedEntry a start size actions) ≡ true
+    pub is : left ≡ inserted ipv4 t (announcedEntry a start size actions)
 
-  done-stored : (t left : List ℕ) (kept : List (List ℕ)) → Announces setting routes rule originator communities t Done left kept → Stored t left
+  done-stored : (t left : List ℕ) (kept : List (List ℕ)) → Announces policy a t Done left kept → Stored t left
   unfolding announcing changeOf
   done-stored t left kept p =
-      by-test (soundTable ipv4 t) (λ s. go s (asked setting routes rule originator communities) refl (rw s at (p .is)) (rw s at (p .leaves)))
+      by-test (soundTable ipv4 t) (λ s. go s (asked policy a) refl (rw s at (p .is)) (rw s at (p .leaves)))
       (λ s. let z : Done ≡ Refused 10 0 = rw s at (p .is) in apart (cc))
     where
-      go : soundTable ipv4 t ≡ true → (r : Request) → asked setting routes rule originator communities ≡ r → Done ≡ announcedBy t rule originator r .answer
-          → left ≡ announcedBy t rule originator r .table → Stored t left
-      go s (NotAsked number place) e a l = apart (cc)
-      go s (Announce start size actions false) e a l = let z : Done ≡ Refused 8 0 = a in apart (cc)
-      go s (Announce start size actions true) e a l =
-          by-test (hasRoom ipv4 t (announcedEntry rule originator start size actions))
+      go : soundTable ipv4 t ≡ true → (r : Request) → asked policy a ≡ r → Done ≡ announcedBy a t r .answer
+          → left ≡ announcedBy a t r .table → Stored t left
+      go s (NotAsked number place) e says l = apart (cc)
+      go s (Announce start size actions false) e says l = let z : Done ≡ Refused 8 0 = says in apart (cc)
+      go s (Announce start size actions true) e says l =
+          by-test (hasRoom ipv4 t (announcedEntry a start size actions))
           (λ h. record { start = start; size = size; actions = actions; asks = e; sound = s; room = h; is = rw h at l })
-          (λ h. let z : Done ≡ Refused 11 0 = rw h at a in apart (cc))
+          (λ h. let z : Done ≡ Refused 11 0 = rw h at says in apart (cc))
 
-  stores : (t : List ℕ) (start size : ℕ) (actions : Actions) → asked setting routes rule originator communities ≡ Announce start size actions true
-      → soundTable ipv4 t ≡ true → hasRoom ipv4 t (announcedEntry rule originator start size actions) ≡ true
-      → announcing setting routes rule originator communities t ≡ record { answer = Done; table = inserted ipv4 t (announcedEntry rule originator start size actions) }
+  stores : (t : List ℕ) (start size : ℕ) (actions : Actions) → asked policy a ≡ Announce start size actions true
+      → soundTable ipv4 t ≡ true → hasRoom ipv4 t (announcedEntry a start size actions) ≡ true
+      → announcing policy a t ≡ record { answer = Done; table = inserted ipv4 t (announcedEntry a start size actions) }
   unfolding announcing changeOf
   stores t start size actions e s h = rw (s, e, h)
 
   -- an announcement asks for the same entry wherever it is made
   one-entry : (t left u exit : List ℕ) (s : Stored t left) (r : Stored u exit)
-      → announcedEntry rule originator (s .start) (s .size) (s .actions) ≡ announcedEntry rule originator (r .start) (r .size) (r .actions)
+      → announcedEntry a (s .start) (s .size) (s .actions) ≡ announcedEntry a (r .start) (r .size) (r .actions)
   one-entry t left u exit s r =
       let same = sym (s .asks) ∙ r .asks in
       let starts : s .start ≡ r .start = cc in
@@ -126,40 +127,40 @@ module _ (setting : Bool) (routes rule : List ℕ) (originator : ℕ) (communiti
       let acts : s .actions ≡ r .actions = cc in
       rw (starts, sizes, acts)
 
-  module _ (o : Octets rule) (small : originator < 2 ^ 32) (t : List ℕ) (octets : Octets t) (left : List ℕ) (kept : List (List ℕ))
-      (done : Announces setting routes rule originator communities t Done left kept) where
+  module _ (o : Octets (a .rule)) (small : a .originator < 2 ^ 32) (t : List ℕ) (octets : Octets t) (left : List ℕ) (kept : List (List ℕ))
+      (done : Announces policy a t Done left kept) where
     stored : Stored t left
     stored = done-stored t left kept done
 
     abbrev entered : Entry
-    entered = announcedEntry rule originator (stored .start) (stored .size) (stored .actions)
+    entered = announcedEntry a (stored .start) (stored .size) (stored .actions)
 
     before : Encodes ipv4 t (entries t)
     before = sound-encodes ipv4 t octets (stored .sound)
 
     could : possible ipv4 entered ≡ true
-    could = rw (stored .asks) at (asked-could setting routes rule originator communities o small)
+    could = rw (stored .asks) at (asked-could policy a o small)
 
     -- **the same announcement twice**: the second is done too, and changes nothing
-    pub announced-twice : (answer : Change) (exit : List ℕ) (held : List (List ℕ)) → Announces setting routes rule originator communities left answer exit held
+    pub announced-twice : (answer : Change) (exit : List ℕ) (held : List (List ℕ)) → Announces policy a left answer exit held
         → (answer ≡ Done) × (exit ≡ left)
     announced-twice answer exit held q =
         let again = stores (inserted ipv4 t entered) (stored .start) (stored .size) (stored .actions) (stored .asks) (sound-with t before entered could (stored .room)) (room-again t before entered could (stored .room)) in
-        let asks = ap (announcing setting routes rule originator communities) (stored .is) ∙ again in (
+        let asks = ap (announcing policy a) (stored .is) ∙ again in (
           q .is ∙ ap (λ (x : Outcome). x .answer) asks,
           q .leaves ∙ ap (λ (x : Outcome). x .table) asks ∙ inserted-again t before entered could (stored .room) ∙ sym (stored .is),
         )
 
-    read : oneRule ipv4 rule ≡ Rule (stored .start) (stored .size)
-    read = asked-from setting routes rule originator communities (stored .start) (stored .size) (stored .actions) true (stored .asks) .read
+    read : oneRule ipv4 (a .rule) ≡ Rule (stored .start) (stored .size)
+    read = asked-from policy a (stored .start) (stored .size) (stored .actions) true (stored .asks) .read
 
     -- withdrawing from a table that holds the rule, and from any sound one
     withdraws : soundTable ipv4 (inserted ipv4 t entered) ≡ true → holds ipv4 (inserted ipv4 t entered) (entryKey ipv4 entered) ≡ true
-        → withdrawing rule (inserted ipv4 t entered) ≡ record { answer = Done; table = removed ipv4 (inserted ipv4 t entered) (entryKey ipv4 entered) }
+        → withdrawing (a .rule) (inserted ipv4 t entered) ≡ record { answer = Done; table = removed ipv4 (inserted ipv4 t entered) (entryKey ipv4 entered) }
     unfolding withdrawing withdrawn changeOf
     withdraws s h = rw (s, read, h)
 
-    alone : withdrawing rule t .table ≡ removed ipv4 t (entryKey ipv4 entered)
+    alone : withdrawing (a .rule) t .table ≡ removed ipv4 t (entryKey ipv4 entered)
     unfolding withdrawing withdrawn removed holds
     alone =
         rw (stored .sound, read)
@@ -167,10 +168,10 @@ module _ (setting : Bool) (routes rule : List ℕ) (originator : ℕ) (communiti
         (λ h. rw (h, remove-absent keyOrder (entryKey ipv4) (entryKey ipv4 entered) (entries t) (not-held _ h)) (before .is)))
 
     -- **announcing, then withdrawing**: the withdrawal is done, and leaves what it would have left without the announcement
-    pub announced-withdrawn : (answer : Change) (exit : List ℕ) (held : List (List ℕ)) → Withdraws rule left answer exit held
-        → (other : Change) (without : List ℕ) (lent : List (List ℕ)) → Withdraws rule t other without lent → (answer ≡ Done) × (exit ≡ without)
+    pub announced-withdrawn : (answer : Change) (exit : List ℕ) (held : List (List ℕ)) → Withdraws (a .rule) left answer exit held
+        → (other : Change) (without : List ℕ) (lent : List (List ℕ)) → Withdraws (a .rule) t other without lent → (answer ≡ Done) × (exit ≡ without)
     announced-withdrawn answer exit held q other without lent r =
-        let out = ap (withdrawing rule) (stored .is) ∙ withdraws (sound-with t before entered could (stored .room)) (holds-with t before entered could (stored .room)) in (
+        let out = ap (withdrawing (a .rule)) (stored .is) ∙ withdraws (sound-with t before entered could (stored .room)) (holds-with t before entered could (stored .room)) in (
           q .is ∙ ap (λ (x : Outcome). x .answer) out,
           q .leaves ∙ ap (λ (x : Outcome). x .table) out ∙ removed-again t before entered could (stored .room) ∙ sym (r .leaves ∙ alone),
         )
@@ -189,27 +190,27 @@ same-rule rule other start size begin extent o p found also same =
     let tie : precedence ipv4 v w ≡ Ordering·eq = one-order ipv4 4 refl v w first second ∙ rw keys (key-order .same (keysOf ipv4 w)) in
     rw (found, also, tie)
 
-module _ (setting : Bool) (routes rule : List ℕ) (originator : ℕ) (communities other : List ℕ) (founder : ℕ) (others : List ℕ)
-    (o : Octets rule) (small : originator < 2 ^ 32) (p : Octets other) (little : founder < 2 ^ 32) (t : List ℕ) (octets : Octets t) where
+module _ (policy : Policy) (a b : Announcement) (o : Octets (a .rule)) (small : a .originator < 2 ^ 32) (p : Octets (b .rule))
+    (little : b .originator < 2 ^ 32) (t : List ℕ) (octets : Octets t) where
   -- **two announcements of different rules**, done in either order, leave equal octets
-  pub announced-either-way : (compareRules rule other ≡ Same → ⊥) → (first both second all : List ℕ) (k l m n : List (List ℕ))
-      → Announces setting routes rule originator communities t Done first k → Announces setting routes other founder others first Done both l
-      → Announces setting routes other founder others t Done second m → Announces setting routes rule originator communities second Done all n
+  pub announced-either-way : (compareRules (a .rule) (b .rule) ≡ Same → ⊥) → (first both second all : List ℕ) (k l m n : List (List ℕ))
+      → Announces policy a t Done first k → Announces policy b first Done both l
+      → Announces policy b t Done second m → Announces policy a second Done all n
       → both ≡ all
-  announced-either-way differ first both second all k l m n a b c d =
-      let x = stored setting routes rule originator communities o small t octets first k a in
-      let y = stored setting routes other founder others p little t octets second m c in
-      let z = done-stored setting routes other founder others first both l b in
-      let w = done-stored setting routes rule originator communities second all n d in
-      let e = entered setting routes rule originator communities o small t octets first k a in
-      let f = entered setting routes other founder others p little t octets second m c in
-      let can = could setting routes rule originator communities o small t octets first k a in
-      let also = could setting routes other founder others p little t octets second m c in
-      let whole = before setting routes rule originator communities o small t octets first k a in
+  announced-either-way differ first both second all k l m n one two three four =
+      let x = stored policy a o small t octets first k one in
+      let y = stored policy b p little t octets second m three in
+      let z = done-stored policy b first both l two in
+      let w = done-stored policy a second all n four in
+      let e = entered policy a o small t octets first k one in
+      let f = entered policy b p little t octets second m three in
+      let can = could policy a o small t octets first k one in
+      let also = could policy b p little t octets second m three in
+      let whole = before policy a o small t octets first k one in
       let apart-keys : entryKey ipv4 e ≡ entryKey ipv4 f → ⊥ = λ same.
-      differ (same-rule rule other (x .start) (x .size) (y .start) (y .size) o p (read setting routes rule originator communities o small t octets first k a)
-      (read setting routes other founder others p little t octets second m c) same) in
+      differ (same-rule (a .rule) (b .rule) (x .start) (x .size) (y .start) (y .size) o p (read policy a o small t octets first k one)
+      (read policy b p little t octets second m three) same) in
       let either = inserted-either t whole e can (x .room) f also (y .room) apart-keys (entries-with t whole f also (y .room)) (with-entry t whole f also (y .room) .1) in
-      z .is ∙ ap₂ (inserted ipv4) (x .is) (one-entry setting routes other founder others first both t second z y)
+      z .is ∙ ap₂ (inserted ipv4) (x .is) (one-entry policy b first both t second z y)
       ∙ either
-      ∙ sym (w .is ∙ ap₂ (inserted ipv4) (y .is) (one-entry setting routes rule originator communities second all t first w x))
+      ∙ sym (w .is ∙ ap₂ (inserted ipv4) (y .is) (one-entry policy a second all t first w x))

@@ -29,6 +29,7 @@ use Rattle.route.specs.Destination.{destinationFor, destinationAmong, destinati
 use Rattle.route.specs.Feasible.{covers, moreSpecific, matched, bestMatch, undisputed, feasible}
 use Rattle.route.proofs.FeasibleLaws.{judged-alike}
 use Rattle.packet.proofs.PlainLaws.{first-kept}
+use Rattle.flowspec.specs.Input.{Policy}
 use Rattle.flowspec.specs.Feasibility.{isFeasible}
 
 -- two prefixes that differ past their length at most
@@ -72,13 +73,13 @@ AlikeTo Missing (At q) = ⊥
 AlikeTo (At p) Missing = ⊥
 AlikeTo (At p) (At q) = Alike p q
 
-feasible-alike : (setting : Bool) (d e : Destination) (originator : ℕ) (routes : List Route) → AlikeTo d e
-    → feasible 32 setting d originator routes ≡ feasible 32 setting e originator routes
+feasible-alike : (allows : Bool) (d e : Destination) (originator : ℕ) (routes : List Route) → AlikeTo d e
+    → feasible 32 allows d originator routes ≡ feasible 32 allows e originator routes
 unfolding feasible
-feasible-alike setting Missing Missing originator routes same = refl
-feasible-alike setting Missing (At q) originator routes same = absurd same
-feasible-alike setting (At p) Missing originator routes same = absurd same
-feasible-alike setting (At p) (At q) originator routes same =
+feasible-alike allows Missing Missing originator routes same = refl
+feasible-alike allows Missing (At q) originator routes same = absurd same
+feasible-alike allows (At p) Missing originator routes same = absurd same
+feasible-alike allows (At p) (At q) originator routes same =
     judged-alike 32 p q originator routes routes (best-alike p q same routes) (undisputed-alike p q same routes)
 
 -- the prefix of a body in the plain spelling differs past its length at most
@@ -98,15 +99,15 @@ destination-alike (p ∷ ps) o s =
     destination p o s e = body-alike (p .body) o (s .prefix (rw e refl) .within)
 
 -- **a rule is feasible where its plain spelling is**, whatever octets its value is
-pub feasible-plain : (setting : Bool) (words v : List ℕ) (originator : ℕ) → Octets v → isFeasible setting words (plain v) originator ≡ isFeasible setting words v originator
+pub feasible-plain : (policy : Policy) (v : List ℕ) (originator : ℕ) → Octets v → isFeasible policy (plain v) originator ≡ isFeasible policy v originator
 unfolding isFeasible destinationOf
-feasible-plain setting words v originator o =
+feasible-plain policy v originator o =
     rw (components-plain ipv4 v o)
-    (feasible-alike setting _ _ originator (routesOf words) (destination-alike (components ipv4 v) (each-octets ipv4 v o) (each-sound ipv4 v)))
+    (feasible-alike (policy .allowsNoDestination) _ _ originator (routesOf (policy .routes)) (destination-alike (components ipv4 v) (each-octets ipv4 v o) (each-sound ipv4 v)))
 
 -- values of one plain spelling, which are one rule, are judged alike
-pub feasible-alone : (setting : Bool) (words v w : List ℕ) (originator : ℕ) → Octets v → Octets w → plain v ≡ plain w
-    → isFeasible setting words v originator ≡ isFeasible setting words w originator
-feasible-alone setting words v w originator o q e =
-    sym (feasible-plain setting words v originator o) ∙ ap (λ (x : List ℕ). isFeasible setting words x originator) e
-    ∙ feasible-plain setting words w originator q
+pub feasible-alone : (policy : Policy) (v w : List ℕ) (originator : ℕ) → Octets v → Octets w → plain v ≡ plain w
+    → isFeasible policy v originator ≡ isFeasible policy w originator
+feasible-alone policy v w originator o q e =
+    sym (feasible-plain policy v originator o) ∙ ap (λ (x : List ℕ). isFeasible policy x originator) e
+    ∙ feasible-plain policy w originator q

@@ -18,6 +18,7 @@ use Rattle.flowspec.specs.declared.Request.{Request}
 use Rattle.flowspec.specs.declared.Request.the-variants.{Announce, Refused as NotAsked}
 use Rattle.flowspec.specs.declared.Change.{Change}
 use Rattle.flowspec.specs.declared.Change.the-variants.{Done, Refused}
+use Rattle.flowspec.specs.Input.{Announcement, Policy}
 use Rattle.flowspec.specs.Announce.{announcedEntry, Outcome, changeOf, outcome, asked, announcedBy, announcing, withdrawnBy, withdrawing}
 use Rattle.flowspec.specs.Promise.{Announces, Withdraws}
 
@@ -39,14 +40,13 @@ unfolding changeOf withdrawn
 withdrew t k number place h n =
     by-test (holds ipv4 t k) (λ r. let z : Done ≡ Refused number place = rw r at h in apart (cc)) (λ r. rw r)
 
-pub announce-keeps : (setting : Bool) (words rule : List ℕ) (originator : ℕ) (communities t : List ℕ)
-    → Unchanged t (announcing setting words rule originator communities t)
+pub announce-keeps : (policy : Policy) (a : Announcement) (t : List ℕ) → Unchanged t (announcing policy a t)
 unfolding announcing
-announce-keeps setting words rule originator communities t =
-    by-test (soundTable ipv4 t) (λ s. rw s (go (asked setting words rule originator communities))) (λ s. rw s (λ number place h n. refl))
+announce-keeps policy a t =
+    by-test (soundTable ipv4 t) (λ s. rw s (go (asked policy a))) (λ s. rw s (λ number place h n. refl))
   where
-    go : (r : Request) → Unchanged t (announcedBy t rule originator r)
-    go (Announce start size actions feasible) = changed t (announcedEntry rule originator start size actions) feasible
+    go : (r : Request) → Unchanged t (announcedBy a t r)
+    go (Announce start size actions feasible) = changed t (announcedEntry a start size actions) feasible
     go (NotAsked number place) = λ m p h n. refl
 
 pub withdraw-keeps : (rule t : List ℕ) → Unchanged t (withdrawing rule t)
@@ -58,11 +58,11 @@ withdraw-keeps rule t = by-test (soundTable ipv4 t) (λ s. rw s (go (oneRule ipv
     go (NotRead number place) = λ m p h n. refl
 
 -- the same of the calls, by their promises
-pub refused-announcement : (setting : Bool) (words rule : List ℕ) (originator : ℕ) (communities t : List ℕ) (answer : Change) (exit : List ℕ) (kept : List (List ℕ))
-    → Announces setting words rule originator communities t answer exit kept → (number place : ℕ) → answer ≡ Refused number place → (number ≡ 8 → ⊥)
+pub refused-announcement : (policy : Policy) (a : Announcement) (t : List ℕ) (answer : Change) (exit : List ℕ) (kept : List (List ℕ))
+    → Announces policy a t answer exit kept → (number place : ℕ) → answer ≡ Refused number place → (number ≡ 8 → ⊥)
     → exit ≡ t
-refused-announcement setting words rule originator communities t answer exit kept p number place e n =
-    p .leaves ∙ announce-keeps setting words rule originator communities t number place (sym (p .is) ∙ e) n
+refused-announcement policy a t answer exit kept p number place e n =
+    p .leaves ∙ announce-keeps policy a t number place (sym (p .is) ∙ e) n
 
 pub refused-withdrawal : (rule t : List ℕ) (answer : Change) (exit : List ℕ) (kept : List (List ℕ)) → Withdraws rule t answer exit kept
     → (number place : ℕ) → answer ≡ Refused number place → (number ≡ 8 → ⊥) → exit ≡ t

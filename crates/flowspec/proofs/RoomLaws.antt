@@ -2,7 +2,7 @@
 -- the table holds takes after the call what it took before, so that whatever an announcement of it is answered, it is not 11. Of what
 -- the call is given only what its types say is assumed: octets are below 256.
 use mathlib.Core.Path.{_≡_, sym, _∙_}
-use mathlib.Core.Bool.{Bool, true}
+use mathlib.Core.Bool.{true}
 use mathlib.Core.List.{List}
 use Prim.Native.Nat.{ℕ}
 use Rattle.octets.proofs.Cases.{by-test, apart}
@@ -24,6 +24,7 @@ use Rattle.table.proofs.ChangeLaws.{held-is-done}
 use Rattle.table.proofs.CallLaws.{plain-held}
 use Rattle.flowspec.specs.declared.Change.{Change}
 use Rattle.flowspec.specs.declared.Change.the-variants.{Refused}
+use Rattle.flowspec.specs.Input.{Announcement, Policy}
 use Rattle.flowspec.specs.Announce.{announcedEntry, changeOf, askedBy, asked, announcedBy, announcing}
 use Rattle.flowspec.specs.Feasibility.{readWithRoutes, isFeasible}
 use Rattle.flowspec.specs.Promise.{Announces}
@@ -33,26 +34,26 @@ use Rattle.flowspec.proofs.HistoryLaws.{octets-value}
 abbrev Not11 : Change → Type 0
 Not11 answer = (place : ℕ) → answer ≡ Refused 11 place → ⊥
 
-module _ (setting : Bool) (routes rule : List ℕ) (originator : ℕ) (communities t : List ℕ) (o : Octets t) (octets : Octets rule)
-    (start size : ℕ) (read : oneRule ipv4 rule ≡ Rule start size) (held : holds ipv4 t (keysOf ipv4 (plain (valueOf rule start size))) ≡ true) where
-  pub held-not-11 : Not11 (announcing setting routes rule originator communities t .answer)
+module _ (policy : Policy) (a : Announcement) (t : List ℕ) (o : Octets t) (octets : Octets (a .rule))
+    (start size : ℕ) (read : oneRule ipv4 (a .rule) ≡ Rule start size) (held : holds ipv4 t (keysOf ipv4 (plain (valueOf (a .rule) start size))) ≡ true) where
+  pub held-not-11 : Not11 (announcing policy a t .answer)
   unfolding announcing asked readWithRoutes changeOf
   held-not-11 =
       by-test (soundTable ipv4 t)
-      (λ sound. rw sound (by-test (soundRoutes 32 routes) (λ r. rw (readWithRoutes, r, read) (go sound (actionsOf communities))) (λ r. rw (readWithRoutes, r) (λ place e. apart (cc)))))
+      (λ sound. rw sound (by-test (soundRoutes 32 (policy .routes)) (λ r. rw (readWithRoutes, r, read) (go sound (actionsOf (a .communities)))) (λ r. rw (readWithRoutes, r) (λ place e. apart (cc)))))
       (λ sound. rw sound (λ place e. apart (cc)))
     where
-      go : soundTable ipv4 t ≡ true → (a : ActionsReading) → Not11 (announcedBy t rule originator (askedBy setting routes rule originator (Rule start size) a) .answer)
+      go : soundTable ipv4 t ≡ true → (acts : ActionsReading) → Not11 (announcedBy a t (askedBy policy a (Rule start size) acts) .answer)
       go sound Unsound = λ place e. apart (cc)
       go sound (Read actions) =
-          let v = octets-value rule start size octets in
-          let done = held-is-done t o sound (announcedEntry rule originator start size actions)
-          (octets-plain (valueOf rule start size) v) (plain-held (valueOf rule start size) v (one-read ipv4 rule start size read .accepted)) held in
-          by-test (isFeasible setting routes (valueOf rule start size) originator)
+          let v = octets-value (a .rule) start size octets in
+          let done = held-is-done t o sound (announcedEntry a start size actions)
+          (octets-plain (valueOf (a .rule) start size) v) (plain-held (valueOf (a .rule) start size) v (one-read ipv4 (a .rule) start size read .accepted)) held in
+          by-test (isFeasible policy (valueOf (a .rule) start size) (a .originator))
           (λ f. rw (f, done) (λ place e. apart (cc)))
           (λ f. rw f (λ place e. apart (cc)))
 
   -- the same of the call, by its promise
-  pub held-announcement : (answer : Change) (exit : List ℕ) (kept : List (List ℕ)) → Announces setting routes rule originator communities t answer exit kept
+  pub held-announcement : (answer : Change) (exit : List ℕ) (kept : List (List ℕ)) → Announces policy a t answer exit kept
       → Not11 answer
   held-announcement answer exit kept promise place e = held-not-11 place (sym (promise .is) ∙ e)

@@ -39,9 +39,10 @@ use Rattle.flowspec.specs.declared.Change.the-variants.{Refused as NotCh
 use Rattle.flowspec.specs.declared.Looked.{Looked}
 use Rattle.flowspec.specs.declared.Looked.the-variants.{Judged, Refused as NotLookedUp}
 use Rattle.flowspec.specs.declared.MatchPlace.{MatchPlace}
-use Rattle.flowspec.specs.Announce.{announcedEntry, Outcome, changeOf, outcome, refusal, asked, announcing, withdrawing}
+use Rattle.flowspec.specs.Announce.{announcedEntry, entryFor, Outcome, changeOf, outcome, refusal, asked, announcing, withdrawing}
 use Rattle.flowspec.specs.declared.Seen.{Seen}
 use Rattle.flowspec.specs.declared.Seen.the-variants.{Shows, Refused as NotSeen}
+use Rattle.flowspec.specs.Input.{Announcement, Policy}
 use Rattle.flowspec.specs.Look.{seen, lookingUp, firstMatch, matchPlace}
 use Rattle.flowspec.specs.Told.{changeTold, verdictTold, lookupTold, matchPlaceTold}
 use Rattle.flowspec.specs.Promise.{Announces, Withdraws, LooksUp, LocatesFirst}
@@ -63,42 +64,42 @@ module _ (t : List ℕ) (s : Soundness) (is : s ≡ soundness ipv4 t) where
 
 -- ---- announcing ----
 
-module _ (setting : Bool) (words rule : List ℕ) (originator : ℕ) (communities t : List ℕ) where
+module _ (policy : Policy) (a : Announcement) (t : List ℕ) where
   -- a promise from the equation for the outcome
-  announce-kept : (o : Outcome) (answer : Change) (exit : List ℕ) → announcing setting words rule originator communities t ≡ o → answer ≡ o .answer → exit ≡ o .table
-      → Announces setting words rule originator communities t answer exit (words ∷ rule ∷ communities ∷ [])
-  announce-kept o answer exit e a x =
-      let q : answer ≡ announcing setting words rule originator communities t .answer = rw e a in
+  announce-kept : (o : Outcome) (answer : Change) (exit : List ℕ) → announcing policy a t ≡ o → answer ≡ o .answer → exit ≡ o .table
+      → Announces policy a t answer exit (policy .routes ∷ a .rule ∷ a .communities ∷ [])
+  announce-kept o answer exit e h x =
+      let q : answer ≡ announcing policy a t .answer = rw e h in
       record { is = q; says = ap changeTold q; leaves = rw e x; keeps = refl }
 
   module _ (s : Soundness) (is : s ≡ soundness ipv4 t) where
-    pub announce-unsound : s ≡ Unsound → Announces setting words rule originator communities t (NotChanged 10 0) t (words ∷ rule ∷ communities ∷ [])
+    pub announce-unsound : s ≡ Unsound → Announces policy a t (NotChanged 10 0) t (policy .routes ∷ a .rule ∷ a .communities ∷ [])
     unfolding announcing
     announce-unsound e = announce-kept (refusal 10 0 t) _ _ (rw (was-unsound t s is e)) refl refl
 
-    module _ (used : ℕ) (e : s ≡ Sound used) (request : Request) (asks : request ≡ asked setting words rule originator communities) where
-      pub announce-refused : (number place : ℕ) → request ≡ NotAsked number place → Announces setting words rule originator communities t (NotChanged number place) t (words ∷ rule ∷ communities ∷ [])
+    module _ (used : ℕ) (e : s ≡ Sound used) (request : Request) (asks : request ≡ asked policy a) where
+      pub announce-refused : (number place : ℕ) → request ≡ NotAsked number place → Announces policy a t (NotChanged number place) t (policy .routes ∷ a .rule ∷ a .communities ∷ [])
       unfolding announcing
       announce-refused number place f = announce-kept (refusal number place t) _ _ (rw (was-sound t s is used e .0, ← asks, f)) refl refl
 
       module _ (start size : ℕ) (actions : Actions) (feasible : Bool) (f : request ≡ Announce start size actions feasible) where
-        pub announce-rule : ReadRule ipv4 rule start size
-        announce-rule = asked-rule setting words rule originator communities start size actions feasible (sym asks ∙ f)
+        pub announce-rule : ReadRule ipv4 (a .rule) start size
+        announce-rule = asked-rule policy a start size actions feasible (sym asks ∙ f)
 
-        pub announce-requires : (soundTable ipv4 t ≡ true) × ((checkValue ipv4 (take (start + size - start) (drop start rule)) ≡ Accepted) × (used ≡ costs cost (entries t)))
+        pub announce-requires : (soundTable ipv4 t ≡ true) × ((checkValue ipv4 (take (start + size - start) (drop start (a .rule))) ≡ Accepted) × (used ≡ costs cost (entries t)))
         announce-requires =
             let h = was-sound t s is used e in
             (h .0, (rw (add-sub-cancel-left start size) (announce-rule .accepted), h .1))
 
         pub announce-done : (number : ℕ) (answer : Change) (exit : List ℕ)
-            → (number ≡ announced ipv4 t (record { originator = originator; actions = actions; value = plain (take (start + size - start) (drop start rule)) }) feasible .number)
-            × (exit ≡ announced ipv4 t (record { originator = originator; actions = actions; value = plain (take (start + size - start) (drop start rule)) }) feasible .table)
-            → answer ≡ changeOf number → Announces setting words rule originator communities t answer exit (words ∷ rule ∷ communities ∷ [])
+            → (number ≡ announced ipv4 t (entryFor (a .originator) actions (take (start + size - start) (drop start (a .rule)))) feasible .number)
+            × (exit ≡ announced ipv4 t (entryFor (a .originator) actions (take (start + size - start) (drop start (a .rule)))) feasible .table)
+            → answer ≡ changeOf number → Announces policy a t answer exit (policy .routes ∷ a .rule ∷ a .communities ∷ [])
         unfolding announcing
-        announce-done number answer exit h a =
+        announce-done number answer exit h says =
             let k = rw (add-sub-cancel-left start size) at h in
-            announce-kept (outcome (announced ipv4 t (announcedEntry rule originator start size actions) feasible)) answer exit
-            (rw (was-sound t s is used e .0, ← asks, f)) (a ∙ ap changeOf (k .0)) (k .1)
+            announce-kept (outcome (announced ipv4 t (announcedEntry a start size actions) feasible)) answer exit
+            (rw (was-sound t s is used e .0, ← asks, f)) (says ∙ ap changeOf (k .0)) (k .1)
 
 -- ---- withdrawing ----
 

@@ -1,6 +1,5 @@
 -- For each public call: two results that satisfy its promise are equal, in the answer and in every lent octet. Assumes nothing.
 use mathlib.Core.Path.{_≡_, sym, _∙_}
-use mathlib.Core.Bool.{Bool}
 use mathlib.Core.List.{List}
 use Prim.Native.Nat.{ℕ}
 use Rattle.rule.specs.declared.Reading.{Reading}
@@ -11,6 +10,7 @@ use Rattle.flowspec.specs.declared.Feasibility.{Feasibility}
 use Rattle.flowspec.specs.declared.Change.{Change}
 use Rattle.flowspec.specs.declared.Looked.{Looked}
 use Rattle.flowspec.specs.declared.MatchPlace.{MatchPlace}
+use Rattle.flowspec.specs.Input.{Announcement, Policy}
 use Rattle.flowspec.specs.Promise.{ReadsOne, WritesOne, ComparesTwo, JudgesOne, ReadsActions, Announces, Withdraws, LooksUp, LocatesFirst, FirstMatches}
 
 module _ (k l : List (List ℕ)) where
@@ -24,18 +24,18 @@ module _ (k l : List (List ℕ)) where
   pub one-comparison : (first second : List ℕ) (a b : Comparison) → ComparesTwo first second a k → ComparesTwo first second b l → (a ≡ b) × (k ≡ l)
   one-comparison first second a b p q = (p .is ∙ sym (q .is), p .keeps ∙ sym (q .keeps))
 
-  pub one-judgement : (setting : Bool) (routes rule : List ℕ) (originator : ℕ) (a b : Feasibility) → JudgesOne setting routes rule originator a k
-      → JudgesOne setting routes rule originator b l → (a ≡ b) × (k ≡ l)
-  one-judgement setting routes rule originator a b p q = (p .is ∙ sym (q .is), p .keeps ∙ sym (q .keeps))
+  pub one-judgement : (policy : Policy) (rule : List ℕ) (originator : ℕ) (a b : Feasibility) → JudgesOne policy rule originator a k
+      → JudgesOne policy rule originator b l → (a ≡ b) × (k ≡ l)
+  one-judgement policy rule originator a b p q = (p .is ∙ sym (q .is), p .keeps ∙ sym (q .keeps))
 
   pub one-reading-of-actions : (communities : List ℕ) (a b : ActionsReading) → ReadsActions communities a k → ReadsActions communities b l
       → (a ≡ b) × (k ≡ l)
   one-reading-of-actions communities a b p q = (p .is ∙ sym (q .is), p .keeps ∙ sym (q .keeps))
 
-  pub one-announcement : (setting : Bool) (routes rule : List ℕ) (originator : ℕ) (communities table : List ℕ) (a b : Change) (x y : List ℕ)
-      → Announces setting routes rule originator communities table a x k → Announces setting routes rule originator communities table b y l
+  pub one-announcement : (policy : Policy) (announcement : Announcement) (table : List ℕ) (a b : Change) (x y : List ℕ)
+      → Announces policy announcement table a x k → Announces policy announcement table b y l
       → (a ≡ b) × ((x ≡ y) × (k ≡ l))
-  one-announcement setting routes rule originator communities table a b x y p q =
+  one-announcement policy announcement table a b x y p q =
       (p .is ∙ sym (q .is), (p .leaves ∙ sym (q .leaves), p .keeps ∙ sym (q .keeps)))
 
   pub one-withdrawal : (rule table : List ℕ) (a b : Change) (x y : List ℕ) → Withdraws rule table a x k → Withdraws rule table b y l

@@ -1,7 +1,7 @@
 -- Announcing to and withdrawing from a table: what a call asks, once its input is read and judged, and what it leaves. A call on an
 -- unsound table is 10, and changes nothing.
 use Prim.Native.Nat.{ℕ}
-use mathlib.Core.Bool.{Bool, cond}
+use mathlib.Core.Bool.{cond}
 use mathlib.Core.List.{List}
 use lib.Dec.{eqb}
 use Rattle.rule.specs.declared.Reading.{Reading}
@@ -21,6 +21,7 @@ use Rattle.flowspec.specs.declared.Change.{Change}
 use Rattle.flowspec.specs.declared.Change.the-variants.{Done, Refused as NotChanged}
 use Rattle.flowspec.specs.declared.Request.{Request}
 use Rattle.flowspec.specs.declared.Request.the-variants.{Announce, Refused as NotAsked}
+use Rattle.flowspec.specs.Input.{Announcement, Policy}
 use Rattle.flowspec.specs.Feasibility.{readWithRoutes, isFeasible}
 
 -- What a call on a table leaves: its answer, and the table's octets.
@@ -33,15 +34,15 @@ unfoldable pub changeOf : ℕ → Change
 changeOf number = cond (eqb number 0) Done (NotChanged number 0)
 
 -- What an announcement asks: a rule that is refused is refused so, then unsound actions are 13, then the rule is judged.
-abbrev pub askedBy : Bool → List ℕ → List ℕ → ℕ → Reading → ActionsReading → Request
-askedBy setting routes rule originator (NotRead number place) actions = NotAsked number place
-askedBy setting routes rule originator (Rule start size) Unsound = NotAsked 13 0
-askedBy setting routes rule originator (Rule start size) (Read actions) =
-    Announce start size actions (isFeasible setting routes (valueOf rule start size) originator)
+abbrev pub askedBy : Policy → Announcement → Reading → ActionsReading → Request
+askedBy policy a (NotRead number place) actions = NotAsked number place
+askedBy policy a (Rule start size) Unsound = NotAsked 13 0
+askedBy policy a (Rule start size) (Read actions) =
+    Announce start size actions (isFeasible policy (valueOf (a .rule) start size) (a .originator))
 
 -- The rule is read once the routes are found sound.
-unfoldable pub asked : Bool → List ℕ → List ℕ → ℕ → List ℕ → Request
-asked setting routes rule originator communities = askedBy setting routes rule originator (readWithRoutes routes rule) (actionsOf communities)
+unfoldable pub asked : Policy → Announcement → Request
+asked policy a = askedBy policy a (readWithRoutes (policy .routes) (a .rule)) (actionsOf (a .communities))
 
 -- What a change of the table leaves.
 abbrev pub outcome : Changed → Outcome
@@ -51,20 +52,22 @@ outcome c = record { answer = changeOf (c .number); table = c .table }
 abbrev pub refusal : ℕ → ℕ → List ℕ → Outcome
 refusal number place t = record { answer = NotChanged number place; table = t }
 
--- The entry that an announcement asks for: its originator and actions, and the plain spelling of the value that was read.
-abbrev pub announcedEntry : List ℕ → ℕ → ℕ → ℕ → Actions → Entry
-announcedEntry rule originator start size actions = record { originator = originator; actions = actions; value = plain (valueOf rule start size) }
+-- The entry for a value: its originator and actions, and the value's plain spelling.
+abbrev pub entryFor : ℕ → Actions → List ℕ → Entry
+entryFor originator actions value = record { originator = originator; actions = actions; value = plain value }
+
+-- The entry that an announcement asks for, once its rule and its actions are read.
+abbrev pub announcedEntry : Announcement → ℕ → ℕ → Actions → Entry
+announcedEntry a start size actions = entryFor (a .originator) actions (valueOf (a .rule) start size)
 
 -- What an announcement leaves in a sound table.
-abbrev pub announcedBy : List ℕ → List ℕ → ℕ → Request → Outcome
-announcedBy t rule originator (NotAsked number place) = refusal number place t
-announcedBy t rule originator (Announce start size actions feasible) =
-    outcome (announced ipv4 t (announcedEntry rule originator start size actions) feasible)
+abbrev pub announcedBy : Announcement → List ℕ → Request → Outcome
+announcedBy a t (NotAsked number place) = refusal number place t
+announcedBy a t (Announce start size actions feasible) = outcome (announced ipv4 t (announcedEntry a start size actions) feasible)
 
 -- 01: "Announce checks 10, 9, 1 to 7, 15, 13, 8, 11".
-unfoldable pub announcing : Bool → List ℕ → List ℕ → ℕ → List ℕ → List ℕ → Outcome
-announcing setting routes rule originator communities t =
-    cond (soundTable ipv4 t) (announcedBy t rule originator (asked setting routes rule originator communities)) (refusal 10 0 t)
+unfoldable pub announcing : Policy → Announcement → List ℕ → Outcome
+announcing policy a t = cond (soundTable ipv4 t) (announcedBy a t (asked policy a)) (refusal 10 0 t)
 
 -- What a withdrawal leaves in a sound table.
 abbrev pub withdrawnBy : List ℕ → List ℕ → Reading → Outcome

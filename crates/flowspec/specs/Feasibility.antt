@@ -11,14 +11,16 @@ use Rattle.route.specs.Destination.{destinationOf}
 use Rattle.route.specs.Feasible.{feasible}
 use Rattle.flowspec.specs.declared.Feasibility.{Feasibility}
 use Rattle.flowspec.specs.declared.Feasibility.the-variants.{Feasible, Refused}
+use Rattle.flowspec.specs.Input.{Policy}
 
 -- 01: "9, 1 to 7, 15": unsound routes are refused before the rule is read.
 unfoldable pub readWithRoutes : List ℕ → List ℕ → Reading
 readWithRoutes routes rule = cond (soundRoutes 32 routes) (oneRule ipv4 rule) (NotRead 9 0)
 
--- An accepted value is feasible where its destination is, for this originator and by these routes.
-unfoldable pub isFeasible : Bool → List ℕ → List ℕ → ℕ → Bool
-isFeasible setting routes value originator = feasible 32 setting (destinationOf ipv4 value) originator (routesOf routes)
+-- An accepted value is feasible where its destination is, for this originator and by this policy.
+unfoldable pub isFeasible : Policy → List ℕ → ℕ → Bool
+isFeasible policy value originator =
+    feasible 32 (policy .allowsNoDestination) (destinationOf ipv4 value) originator (routesOf (policy .routes))
 
 -- Infeasible is refusal 8.
 abbrev pub feasibilityOf : Bool → Feasibility
@@ -26,10 +28,10 @@ feasibilityOf true = Feasible
 feasibilityOf false = Refused 8 0
 
 -- A rule that was refused is refused so; a rule that was read is judged.
-abbrev pub judgeRead : Bool → List ℕ → List ℕ → ℕ → Reading → Feasibility
-judgeRead setting routes rule originator (NotRead number place) = Refused number place
-judgeRead setting routes rule originator (Rule start size) = feasibilityOf (isFeasible setting routes (valueOf rule start size) originator)
+abbrev pub judgeRead : Policy → List ℕ → ℕ → Reading → Feasibility
+judgeRead policy rule originator (NotRead number place) = Refused number place
+judgeRead policy rule originator (Rule start size) = feasibilityOf (isFeasible policy (valueOf rule start size) originator)
 
 -- 01: "feasibility alone 9, 1 to 7, 15, 8".
-unfoldable pub judgement : Bool → List ℕ → List ℕ → ℕ → Feasibility
-judgement setting routes rule originator = judgeRead setting routes rule originator (readWithRoutes routes rule)
+unfoldable pub judgement : Policy → List ℕ → ℕ → Feasibility
+judgement policy rule originator = judgeRead policy rule originator (readWithRoutes (policy .routes) rule)

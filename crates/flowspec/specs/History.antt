@@ -2,7 +2,6 @@
 -- exactly when their plain spellings are equal (crate order, KeyLaws: `keys-only` and `keys-same`).
 use Prim.Native.Nat.{ℕ, _^_, _<_}
 use mathlib.Core.Path.{_≡_}
-use mathlib.Core.Bool.{Bool}
 use mathlib.Core.List.{List, [], _∷_}
 use mathlib.Core.Option.{Option, none, some}
 use lib.ListN.{replicate}
@@ -15,13 +14,14 @@ use Rattle.rule.specs.declared.Reading.the-variants.{Rule, Refused as NotRead}
 use Rattle.rule.specs.Family.{ipv4}
 use Rattle.rule.specs.Plain.{plain}
 use Rattle.rule.specs.Reading.{valueOf, oneRule}
-use Rattle.order.specs.Key.{keysOf, keyOrder}
+use Rattle.order.specs.Key.{RuleKey, keysOf, keyOrder}
 use Rattle.action.specs.declared.Reading.{Reading as ActionsReading}
 use Rattle.action.specs.Actions.{actionsOf}
 use Rattle.entry.specs.Entry.{Entry, entryKey}
 use Rattle.flowspec.specs.declared.Change.{Change}
 use Rattle.flowspec.specs.declared.Request.{Request}
 use Rattle.flowspec.specs.declared.Request.the-variants.{Announce, Refused as NotAsked}
+use Rattle.flowspec.specs.Input.{Announcement, Policy}
 use Rattle.flowspec.specs.Announce.{announcedEntry, asked}
 use Rattle.flowspec.specs.Told.{changeTold}
 use Rattle.flowspec.specs.Promise.{Announces, Withdraws}
@@ -30,20 +30,19 @@ use Rattle.flowspec.specs.Promise.{Announces, Withdraws}
 abbrev pub emptyTable : ℕ → List ℕ
 emptyTable n = replicate n 0
 
--- A call, with whatever octets it was given: an announcement of a rule by an originator with communities, or a withdrawal of a rule.
+-- A call, with whatever octets it was given: an announcement, or a withdrawal of a rule.
 pub data Call : Type 0 where
-  announcement : List ℕ → ℕ → List ℕ → Call
+  announcement : Announcement → Call
   withdrawal : List ℕ → Call
 
 -- What an announcement asks of a table once its input is read and judged: nothing, where that is refused; else to announce an entry,
 -- which is feasible or not.
-abbrev pub asksToAnnounce : List ℕ → ℕ → Request → Op (List (List ℕ)) Entry
-asksToAnnounce rule originator (NotAsked number place) = refuse number
-asksToAnnounce rule originator (Announce start size actions feasible) =
-    announce (announcedEntry rule originator start size actions) feasible
+abbrev pub asksToAnnounce : Announcement → Request → Op RuleKey Entry
+asksToAnnounce a (NotAsked number place) = refuse number
+asksToAnnounce a (Announce start size actions feasible) = announce (announcedEntry a start size actions) feasible
 
 -- What a withdrawal asks of a table once its rule is read: nothing, where that is refused; else to withdraw the rule.
-abbrev pub asksToWithdraw : List ℕ → Reading → Op (List (List ℕ)) Entry
+abbrev pub asksToWithdraw : List ℕ → Reading → Op RuleKey Entry
 asksToWithdraw rule (NotRead number place) = refuse number
 asksToWithdraw rule (Rule start size) = withdraw (keysOf ipv4 (plain (valueOf rule start size)))
 
@@ -59,7 +58,7 @@ numberOf m = changeTold (m .answer) .number
 
 -- What a call is given, by the types of what it is lent: octets, and an originator of 32 bits.
 abbrev pub CanBe : Call → Type 0
-CanBe (announcement rule originator communities) = Octets rule × (originator < 2 ^ 32)
+CanBe (announcement a) = Octets (a .rule) × (a .originator < 2 ^ 32)
 CanBe (withdrawal rule) = Unit {0}
 
 -- What every call of a history is given.
@@ -74,7 +73,7 @@ pub data Deed : Type 0 where
 
 -- What is compared of a call.
 abbrev pub deed : Call → Deed
-deed (announcement rule originator communities) = announced originator (actionsOf communities)
+deed (announcement a) = announced (a .originator) (actionsOf (a .communities))
 deed (withdrawal rule) = withdrew
 
 -- The same of a call that was made, if there is one.
@@ -82,15 +81,15 @@ abbrev pub deedOf : Option Made → Option Deed
 deedOf none = none
 deedOf (some m) = some (deed (m .call))
 
-module _ (setting : Bool) (routes : List ℕ) where
+module _ (policy : Policy) where
   -- What a call asks of a table, by its kind.
-  abbrev pub asks : Call → Op (List (List ℕ)) Entry
-  asks (announcement rule originator communities) = asksToAnnounce rule originator (asked setting routes rule originator communities)
+  abbrev pub asks : Call → Op RuleKey Entry
+  asks (announcement a) = asksToAnnounce a (asked policy a)
   asks (withdrawal rule) = asksToWithdraw rule (oneRule ipv4 rule)
 
   -- A call's promise, with a table at entry.
   abbrev pub Promised : Call → List ℕ → Change → List ℕ → Type 0
-  Promised (announcement rule originator communities) table answer left = Announces setting routes rule originator communities table answer left (routes ∷ rule ∷ communities ∷ [])
+  Promised (announcement a) table answer left = Announces policy a table answer left (policy .routes ∷ a .rule ∷ a .communities ∷ [])
   Promised (withdrawal rule) table answer left = Withdraws rule table answer left (rule ∷ [])
 
   -- A history from a table on, the oldest call first: each call keeps its promise on the table that the call before it left.
@@ -99,21 +98,21 @@ module _ (setting : Bool) (routes : List ℕ) where
   Happened table (m ∷ h) = Promised (m .call) table (m .answer) (m .left) × Happened (m .left) h
 
   -- What a call that was made asked of its table.
-  abbrev pub askedOf : Made → Op (List (List ℕ)) Entry
+  abbrev pub askedOf : Made → Op RuleKey Entry
   askedOf m = asks (m .call)
 
-  -- The last counted call about a rule: of the calls that are about it, the last that was answered 0, 8 or 14.
-  abbrev pub lastCounted : List (List ℕ) → List Made → Option Made
+  -- The last counted call about a rule. 01: "A counted call is an announcement answered 0 or 8, or a withdrawal answered 0 or 14."
+  abbrev pub lastCounted : RuleKey → List Made → Option Made
   lastCounted k h = S.lastCounted keyOrder (entryKey ipv4) askedOf numberOf k h
 
   -- What is in force for a rule after a history: the entry of a feasible announcement, with its originator and actions, where that is the
   -- rule's last counted call.
-  abbrev pub inForceAfter : List Made → List (List ℕ) → Option Entry
+  abbrev pub inForceAfter : List Made → RuleKey → Option Entry
   inForceAfter h k = S.inForceAfter keyOrder (entryKey ipv4) askedOf numberOf h k
 
   -- Two histories agree on each rule's last counted call.
   abbrev pub Agree : List Made → List Made → Type 0
-  Agree h g = (k : List (List ℕ)) → deedOf (lastCounted k h) ≡ deedOf (lastCounted k g)
+  Agree h g = (k : RuleKey) → deedOf (lastCounted k h) ≡ deedOf (lastCounted k g)
 
 -- The table at the end of a history.
 abbrev pub endOf : List ℕ → List Made → List ℕ

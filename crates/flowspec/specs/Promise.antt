@@ -3,7 +3,6 @@
 -- slices hold at exit). No call has a `requires`. That no second result satisfies a promise is shown in proofs/Unique.antt.
 use Prim.Native.Nat.{ℕ, _+_, _≤_}
 use mathlib.Core.Path.{_≡_}
-use mathlib.Core.Bool.{Bool}
 use mathlib.Core.List.{List, [], _∷_}
 use lib.ListN.{length}
 use Rattle.rule.specs.declared.Reading.{Reading}
@@ -18,6 +17,7 @@ use Rattle.flowspec.specs.declared.Feasibility.{Feasibility}
 use Rattle.flowspec.specs.declared.Change.{Change}
 use Rattle.flowspec.specs.declared.Looked.{Looked}
 use Rattle.flowspec.specs.declared.MatchPlace.{MatchPlace}
+use Rattle.flowspec.specs.Input.{Announcement, Policy}
 use Rattle.flowspec.specs.Announce.{announcing, withdrawing}
 use Rattle.flowspec.specs.Look.{lookingUp, firstMatch, matchPlace}
 use Rattle.rule.specs.Value.{between}
@@ -46,10 +46,10 @@ pub record ComparesTwo (first second : List ℕ) (answer : Comparison) (kept : L
   pub keeps : kept ≡ first ∷ second ∷ []
 
 -- Judging one rule: refusals 9, 1 to 7, 15, 8.
-pub record JudgesOne (setting : Bool) (routes rule : List ℕ) (originator : ℕ) (answer : Feasibility) (kept : List (List ℕ)) : Type 0 where
-  pub is : answer ≡ judgement setting routes rule originator
-  pub says : feasibilityTold answer ≡ feasibilityTold (judgement setting routes rule originator)
-  pub keeps : kept ≡ routes ∷ rule ∷ []
+pub record JudgesOne (policy : Policy) (rule : List ℕ) (originator : ℕ) (answer : Feasibility) (kept : List (List ℕ)) : Type 0 where
+  pub is : answer ≡ judgement policy rule originator
+  pub says : feasibilityTold answer ≡ feasibilityTold (judgement policy rule originator)
+  pub keeps : kept ≡ policy .routes ∷ rule ∷ []
 
 -- Reading actions: refusal 13.
 pub record ReadsActions (communities : List ℕ) (answer : ActionsReading) (kept : List (List ℕ)) : Type 0 where
@@ -59,11 +59,11 @@ pub record ReadsActions (communities : List ℕ) (answer : ActionsReading) (kept
 
 -- Announcing: refusals 10, 9, 1 to 7, 15, 13, 8, 11. The table at exit is the outcome's: changed where done and, at 8, where the rule was
 -- held; every other refusal changes no octet.
-pub record Announces (setting : Bool) (routes rule : List ℕ) (originator : ℕ) (communities table : List ℕ) (answer : Change) (exit : List ℕ) (kept : List (List ℕ)) : Type 0 where
-  pub is : answer ≡ announcing setting routes rule originator communities table .answer
-  pub says : changeTold answer ≡ changeTold (announcing setting routes rule originator communities table .answer)
-  pub leaves : exit ≡ announcing setting routes rule originator communities table .table
-  pub keeps : kept ≡ routes ∷ rule ∷ communities ∷ []
+pub record Announces (policy : Policy) (announcement : Announcement) (table : List ℕ) (answer : Change) (exit : List ℕ) (kept : List (List ℕ)) : Type 0 where
+  pub is : answer ≡ announcing policy announcement table .answer
+  pub says : changeTold answer ≡ changeTold (announcing policy announcement table .answer)
+  pub leaves : exit ≡ announcing policy announcement table .table
+  pub keeps : kept ≡ policy .routes ∷ announcement .rule ∷ announcement .communities ∷ []
 
 -- Withdrawing: refusals 10, 1 to 7, 15, 14, none of which changes an octet.
 pub record Withdraws (rule table : List ℕ) (answer : Change) (exit : List ℕ) (kept : List (List ℕ)) : Type 0 where

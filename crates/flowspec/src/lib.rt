@@ -4,6 +4,7 @@ ghost use mathlib.Core.Path.{_≡_};
 ghost use mathlib.Core.List.{[], _∷_};
 ghost use Rattle.flowspec.specs.Compare.{comparisonOf};
 ghost use Rattle.flowspec.specs.Feasibility.{readWithRoutes, isFeasible, feasibilityOf};
+ghost use Rattle.flowspec.specs.Input.{announcementOf, policyOf};
 ghost use Rattle.flowspec.specs.Promise.{ReadsOne, WritesOne, ComparesTwo, JudgesOne, ReadsActions, Announces, Withdraws, LooksUp, LocatesFirst, FirstMatches};
 ghost use Rattle.flowspec.specs.Announce.{changeOf, asked};
 ghost use Rattle.flowspec.specs.Look.{seen};
@@ -132,11 +133,11 @@ fn read_with_routes(routes: &[u32], rule: &[u8]) -> Reading
 }
 
 // Whether an accepted value is feasible for an originator by the lent routes.
-fn is_feasible(setting: bool, routes: &[u32], value: &[u8], originator: u32) -> bool
-    ensures { λ r. ⌜ r ≡ isFeasible setting (now (routes .entry)) (now (value .entry)) originator ⌝ }
+fn is_feasible(allows_no_destination: bool, routes: &[u32], value: &[u8], originator: u32) -> bool
+    ensures { λ r. ⌜ r ≡ isFeasible (policyOf (now (routes .entry)) «allows_no_destination») (now (value .entry)) originator ⌝ }
 {
     let destination = route::destination_of(value);
-    route::is_feasible(setting, destination, originator, routes)
+    route::is_feasible(allows_no_destination, destination, originator, routes)
 }
 
 // What is answered of a rule that was judged: infeasible is refusal 8.
@@ -153,14 +154,24 @@ fn feasibility_of(feasible: bool) -> Feasibility
 }
 
 // Judges whether a rule is feasible for an originator by the lent routes.
-pub fn judge_rule(setting: bool, routes: &[u32], rule: &[u8], originator: u32) -> Feasibility
-    ensures { λ r. ⌜ JudgesOne setting (now (routes .entry)) (now (rule .entry)) originator r (now (routes .exit) ∷ now (rule .exit) ∷ []) ⌝ }
+pub fn judge_rule(
+    allows_no_destination: bool,
+    routes: &[u32],
+    rule: &[u8],
+    originator: u32,
+) -> Feasibility
+    ensures { λ r. ⌜ JudgesOne (policyOf (now (routes .entry)) «allows_no_destination») (now (rule .entry)) originator r (now (routes .exit) ∷ now (rule .exit) ∷ []) ⌝ }
 {
     match read_with_routes(routes, rule) {
         Reading::Refused { number, place } => Feasibility::Refused { number, place },
         Reading::Rule { start, size } => {
             let end = start + size;
-            feasibility_of(is_feasible(setting, routes, &rule[start..end], originator))
+            feasibility_of(is_feasible(
+                allows_no_destination,
+                routes,
+                &rule[start..end],
+                originator,
+            ))
         }
     }
 }
@@ -173,8 +184,14 @@ pub fn read_actions(communities: &[u8]) -> action::Reading
 }
 
 // Reads and judges an announcement, in the order in which 01 has the checks.
-fn ask(setting: bool, routes: &[u32], rule: &[u8], originator: u32, communities: &[u8]) -> Request
-    ensures { λ r. ⌜ r ≡ asked setting (now (routes .entry)) (now (rule .entry)) originator (now (communities .entry)) ⌝ }
+fn ask(
+    allows_no_destination: bool,
+    routes: &[u32],
+    rule: &[u8],
+    originator: u32,
+    communities: &[u8],
+) -> Request
+    ensures { λ r. ⌜ r ≡ asked (policyOf (now (routes .entry)) «allows_no_destination») (announcementOf (now (rule .entry)) originator (now (communities .entry))) ⌝ }
 {
     match read_with_routes(routes, rule) {
         Reading::Refused { number, place } => Request::Refused { number, place },
@@ -185,7 +202,12 @@ fn ask(setting: bool, routes: &[u32], rule: &[u8], originator: u32, communities:
             },
             action::Reading::Read(actions) => {
                 let end = start + size;
-                let feasible = is_feasible(setting, routes, &rule[start..end], originator);
+                let feasible = is_feasible(
+                    allows_no_destination,
+                    routes,
+                    &rule[start..end],
+                    originator,
+                );
                 Request::Announce {
                     start,
                     size,
@@ -210,20 +232,26 @@ fn change_of(number: u8) -> Change
 // Announces a rule with its actions to a table.
 pub fn announce(
     table: &mut [u8],
-    setting: bool,
+    allows_no_destination: bool,
     routes: &[u32],
     rule: &[u8],
     originator: u32,
     communities: &[u8],
 ) -> Change
-    ensures { λ r. ⌜ Announces setting (now (routes .entry)) (now (rule .entry)) originator (now (communities .entry)) (now (table .entry)) r (now (table .exit)) (now (routes .exit) ∷ now (rule .exit) ∷ now (communities .exit) ∷ []) ⌝ }
+    ensures { λ r. ⌜ Announces (policyOf (now (routes .entry)) «allows_no_destination») (announcementOf (now (rule .entry)) originator (now (communities .entry))) (now (table .entry)) r (now (table .exit)) (now (routes .exit) ∷ now (rule .exit) ∷ now (communities .exit) ∷ []) ⌝ }
 {
     match table::sound_table(table) {
         Soundness::Unsound => Change::Refused {
             number: 10,
             place: 0,
         },
-        Soundness::Sound(used) => match ask(setting, routes, rule, originator, communities) {
+        Soundness::Sound(used) => match ask(
+            allows_no_destination,
+            routes,
+            rule,
+            originator,
+            communities,
+        ) {
             Request::Refused { number, place } => Change::Refused { number, place },
             Request::Announce {
                 start,

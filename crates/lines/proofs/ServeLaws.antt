@@ -14,6 +14,7 @@ use Rattle.rule.specs.Value.{between}
 use Rattle.octets.specs.Store.{stored}
 use Rattle.route.specs.Route.{mostWords}
 use Rattle.flowspec.specs.declared.Change.{Change}
+use Rattle.flowspec.specs.Input.{announcementOf, policyOf}
 use Rattle.flowspec.specs.Announce.{announcing, withdrawing, Outcome as Changed}
 use Rattle.flowspec.specs.Told.{changeTold}
 use Rattle.text.specs.Hex.{octetsIn}
@@ -143,10 +144,10 @@ module _ (line : List ℕ) (used : ℕ) (routes table out : List ℕ) (form : Fo
 
   module _ (rule ruleEnd originator communities : ℕ) (is : form ≡ Announce rule ruleEnd originator communities) where
     pub serve-announced : (count printed : ℕ) (t x : List ℕ) → count ≡ min used (length routes)
-        → Changes (announcing false (take count routes) (octetsIn (between line rule ruleEnd)) originator (octetsIn (between line communities (length line))) table) out printed t x
+        → Changes (announcing (policyOf (take count routes) false) (announcementOf (octetsIn (between line rule ruleEnd)) originator (octetsIn (between line communities (length line)))) table) out printed t x
         → Serves line used routes table out (record { printed = printed; used = used }) routes t x (line ∷ [])
     serve-announced count printed t x e c =
-        serves (changing (announcing false (take count routes) (octetsIn (between line rule ruleEnd)) originator (octetsIn (between line communities (length line))) table) used routes)
+        serves (changing (announcing (policyOf (take count routes) false) (announcementOf (octetsIn (between line rule ruleEnd)) originator (octetsIn (between line communities (length line)))) table) used routes)
         (served-as (Announce rule ruleEnd originator communities) is ∙ rw (in-use used count routes e)) _ _ _ _
         (λ i. record { printed = c .prints .1 i; used = used }) refl (c .leaves) (c .prints .0) (c .prints .2)
 

@@ -7,6 +7,7 @@ use lib.Dec.{leb}
 use lib.ListN.{length, take}
 use Rattle.octets.specs.Store.{stored}
 use Rattle.route.specs.Route.{mostWords}
+use Rattle.flowspec.specs.Input.{announcementOf, policyOf}
 use Rattle.flowspec.specs.Announce.{announcing, withdrawing, Outcome as Changed}
 use Rattle.flowspec.specs.Told.{changeTold}
 use Rattle.text.specs.Print.{laid}
@@ -47,7 +48,7 @@ adding words used routes table =
 abbrev pub servedAs : Line → ℕ → List ℕ → List ℕ → Outcome
 servedAs (route address size originator neighbour) used routes table = adding (address ∷ size ∷ originator ∷ neighbour ∷ []) used routes table
 servedAs (announce rule originator communities) used routes table =
-    changing (announcing false (take used routes) rule originator communities table) used routes
+    changing (announcing (policyOf (take used routes) false) (announcementOf rule originator communities) table) used routes
 servedAs (withdraw rule) used routes table = changing (withdrawing rule table) used routes
 servedAs list used routes table = printing (listText table) used routes table
 servedAs other used routes table = printing unknownText used routes table

@@ -7,6 +7,7 @@ ghost use Prim.Native.Nat.{_+_, _≤_};
 ghost use lib.ListN.{length};
 ghost use Rattle.table.specs.Sound.{mostOctets};
 ghost use Rattle.table.specs.Walk.{records};
+ghost use Rattle.flowspec.specs.Input.{announcementOf, policyOf};
 ghost use Rattle.flowspec.specs.Announce.{announcing, withdrawing};
 ghost use Rattle.flowspec.specs.Told.{changeTold};
 ghost use Rattle.text.specs.Spelling.{quoted};
@@ -430,7 +431,7 @@ fn serve_announce(
     out: &mut [u8],
 ) -> usize
     requires { ⌜ (length (now rule) ≤ mostSigns) × (length (now communities) ≤ mostSigns) ⌝ }
-    ensures { λ r. ⌜ Changes (announcing false (now (routes .entry)) (octetsIn (now (rule .entry))) originator (octetsIn (now (communities .entry))) (now (table .entry))) (now (out .entry)) r (now (table .exit)) (now (out .exit)) ⌝ }
+    ensures { λ r. ⌜ Changes (announcing (policyOf (now (routes .entry)) false) (announcementOf (octetsIn (now (rule .entry))) originator (octetsIn (now (communities .entry)))) (now (table .entry))) (now (out .entry)) r (now (table .exit)) (now (out .exit)) ⌝ }
 {
     let mut octets = [0u8; FIELD_OCTETS];
     let size = text::read_octets(rule, &mut octets);

@@ -11,6 +11,10 @@ use Rattle.rule.specs.Operator.{isPrefix}
 use Rattle.rule.specs.Value.{Component, components}
 use Rattle.rule.specs.Plain.{plain}
 
+-- Rules are known by their keys.
+abbrev pub RuleKey : Type 0
+RuleKey = List (List ℕ)
+
 -- The bits of a prefix, as many as its length says, of an address of w bits: a more specific prefix goes on where the other runs out.
 abbrev pub prefixBits : ℕ → Prefix → List ℕ
 prefixBits w p = firstBits w (p .length) (p .address)
@@ -24,9 +28,9 @@ unfoldable pub keyOf : Family → Component → List ℕ
 keyOf family p = p .kind ∷ bodyKey family (p .kind) (p .body)
 
 -- The key of a value: the keys of the components of its plain spelling.
-unfoldable pub keysOf : Family → List ℕ → List (List ℕ)
+unfoldable pub keysOf : Family → List ℕ → RuleKey
 keysOf family v = map (keyOf family) (components family (plain v))
 
 -- The order of keys: component by component, and within a component number by number.
-abbrev pub keyOrder : List (List ℕ) → List (List ℕ) → Ordering
+abbrev pub keyOrder : RuleKey → RuleKey → Ordering
 keyOrder = lex (lex compare)

@@ -2,7 +2,7 @@
 -- records in force, so that two histories which leave the same in force at every key leave equal tables. A call that is answered 11
 -- changes nothing and does not count, so that no law here asks that there be none. Assumes nothing.
 use mathlib.Core.Path.{_≡_, refl, ap, sym, _∙_}
-use mathlib.Core.Bool.{Bool, true, false, cond, _&&_, and-false}
+use mathlib.Core.Bool.{Bool, true, false, cond, _&&_}
 use mathlib.Core.List.{List, [], _∷_, _++_, List·Memᴰ}
 use mathlib.Core.Logic.{_↔_}
 use mathlib.Core.Option.{Option, none, some}
@@ -47,8 +47,8 @@ module _ {K R : Type 0} (cmp : K → K → Ordering) (key : R → K) (cost : R �
   -- a counted call settles what is found under its key, and no call changes what is found under another
   apply-lookup : (k : K) (op : Op K R) (t : List R) → Sorted cmp key t
       → lookup cmp key k (apply cmp key cost room op t .table)
-      ≡ cond (counts (apply cmp key cost room op t .answer) && isAbout cmp key k op) (inForce op) (lookup cmp key k t)
-  apply-lookup k (refuse number) t s = rw (and-false (counts number))
+      ≡ cond (counts op (apply cmp key cost room op t .answer) && isAbout cmp key k op) (inForce op) (lookup cmp key k t)
+  apply-lookup k (refuse number) t s = refl
   apply-lookup k (announce r true) t s =
       by-test
       (leb (costs cost (insert cmp key r t)) room)

@@ -31,10 +31,11 @@ abbrev pub isHeld : {R : Type 0} → Option R → Bool
 isHeld none = false
 isHeld (some x) = true
 
--- 01: "A counted call is an announcement answered 0 or 8, or a withdrawal answered 0 or 14": no announcement is answered 14, and no
--- withdrawal 8.
-abbrev pub counts : ℕ → Bool
-counts answer = eqb answer 0 || (eqb answer 8 || eqb answer 14)
+-- 01: "A counted call is an announcement answered 0 or 8, or a withdrawal answered 0 or 14."
+abbrev pub counts : {K R : Type 0} → Op K R → ℕ → Bool
+counts (refuse number) answer = false
+counts (announce r feasible) answer = eqb answer 0 || eqb answer 8
+counts (withdraw k) answer = eqb answer 0 || eqb answer 14
 
 -- The record that a call leaves in force under its key: that of a feasible announcement.
 abbrev pub inForce : {K R : Type 0} → Op K R → Option R
@@ -56,9 +57,9 @@ module _ {K R : Type 0} (cmp : K → K → Ordering) (key : R → K) where
   isAbout k (withdraw j) = isEq (cmp k j)
 
   module _ {M : Type 0} (view : M → Op K R) (told : M → ℕ) where
-    -- Whether a call counts, by its answer, and is about a key.
+    -- Whether a call counts and is about a key.
     abbrev pub isCounted : K → M → Bool
-    isCounted k m = counts (told m) && isAbout k (view m)
+    isCounted k m = counts (view m) (told m) && isAbout k (view m)
 
     -- The last counted call about a key, and `before` where a history has none.
     abbrev pub lastFrom : Option M → K → List M → Option M

@@ -1,4 +1,4 @@
--- On is any setting but 0, as the definition tests it.
+-- On is any number but 0, as the definition tests it.
 use mathlib.Core.Path.{refl}
 use Rattle.c_api.proofs.is_on.Statement.{statement}
 use Rattle.c_api.proofs.is_on.Tie as tie

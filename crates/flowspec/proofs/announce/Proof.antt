@@ -9,7 +9,7 @@ use Rattle.flowspec.proofs.announce.Tie as tie
 
 rule-read : (c : tie.After-known-told3) → ReadRule ipv4 (c .before .before .before .before .before .before .before .before .before .before .before .before .before .args .rule .now) (c .before .start .given .0 .0) (c .before .start .given .0 .1 .0)
 rule-read c =
-    announce-rule (c .before .before .before .before .before .before .before .before .before .before .before .before .before .args .setting) (c .before .before .before .before .before .before .before .before .before .before .before .before .before .args .routes .now) _ (c .before .before .before .before .before .before .before .before .before .before .before .before .before .args .originator) (c .before .before .before .before .before .before .before .before .before .before .before .before .before .args .communities .now) (c .before .before .before .before .before .before .before .before .before .before .before .before .before .args .table .now) _ (c .before .before .before .before .before .before .before .sound-table .ensures)
+    announce-rule _ _ (c .before .before .before .before .before .before .before .before .before .before .before .before .before .args .table .now) _ (c .before .before .before .before .before .before .before .sound-table .ensures)
     _ (c .before .before .before .before .before .used .given .1) _ (c .before .before .before .ask .ensures) _ _ _ _ (c .before .start .given .1)
 
 sound-table-requires : tie.Need-sound-table-requires
@@ -44,7 +44,7 @@ part-announce-value-end c = omega (arith, rule-read (c .before))
 
 announce-value-requires : tie.Need-announce-value-requires
 announce-value-requires c κs = let k = c .before .before in
-    announce-requires (k .before .before .before .before .before .before .before .before .before .before .before .before .before .args .setting) (k .before .before .before .before .before .before .before .before .before .before .before .before .before .args .routes .now) _ (k .before .before .before .before .before .before .before .before .before .before .before .before .before .args .originator) (k .before .before .before .before .before .before .before .before .before .before .before .before .before .args .communities .now) _ _ (k .before .before .before .before .before .before .before .sound-table .ensures) _ (k .before .before .before .before .before .used .given .1) _ (k .before .before .before .ask .ensures) _ _ _ _ (k .before .start .given .1)
+    announce-requires _ _ _ _ (k .before .before .before .before .before .before .before .sound-table .ensures) _ (k .before .before .before .before .before .used .given .1) _ (k .before .before .before .ask .ensures) _ _ _ _ (k .before .start .given .1)
 
 change-of-requires : tie.Need-change-of-requires
 change-of-requires c κs = search needs
@@ -53,20 +53,20 @@ same-length : tie.Need-same-length
 same-length c = search needs
 
 returns : tie.Need-returns
-returns c = announce-unsound _ _ _ _ _ _ _ (c .before .before .sound-table .ensures) (c .enum-told .given .1)
+returns c = announce-unsound _ _ _ _ (c .before .before .sound-table .ensures) (c .enum-told .given .1)
 
 same-length-2 : tie.Need-same-length-2
 same-length-2 c = search needs
 
 returns-2 : tie.Need-returns-2
-returns-2 c = announce-refused _ _ _ _ _ _ _ (c .before .before .before .before .before .before .before .sound-table .ensures) _ (c .before .before .before .before .before .used .given .1) _ (c .before .before .before .ask .ensures) _ _ (c .before .number .given .1)
+returns-2 c = announce-refused _ _ _ _ (c .before .before .before .before .before .before .before .sound-table .ensures) _ (c .before .before .before .before .before .used .given .1) _ (c .before .before .before .ask .ensures) _ _ (c .before .number .given .1)
 
 same-length-3 : tie.Need-same-length-3
 same-length-3 c = search needs
 
 returns-3 : tie.Need-returns-3
 returns-3 c = let k = c .before .before .before .before .before .before in
-    announce-done _ _ _ _ _ _ _ (k .before .before .before .before .before .before .before .sound-table .ensures) _ (k .before .before .before .before .before .used .given .1) _ (k .before .before .before .ask .ensures) _ _ _ _ (k .before .start .given .1) _ _ _
+    announce-done _ _ _ _ (k .before .before .before .before .before .before .before .sound-table .ensures) _ (k .before .before .before .before .before .used .given .1) _ (k .before .before .before .ask .ensures) _ _ _ _ (k .before .start .given .1) _ _ _
     (c .before .before .before .announce-value .ensures) (c .change-of .ensures)
 
 pub announce-spec : {M : Type 1} → statement M
