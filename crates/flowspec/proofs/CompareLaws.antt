@@ -20,10 +20,11 @@ use Rattle.flowspec.specs.declared.Comparison.the-variants.{Refused}
 use Rattle.flowspec.specs.Compare.{comparisonOf, compareRules}
 use Rattle.flowspec.specs.Told.{comparisonTold}
 use Rattle.flowspec.specs.Promise.{ComparesTwo}
+use Rattle.flowspec.proofs.ToldLaws.{compare-tells}
 
 -- a promise from the equation for the answer
 kept : (a b : List ℕ) (answer : Comparison) → answer ≡ compareRules a b → ComparesTwo a b answer (a ∷ b ∷ [])
-kept a b answer e = record { is = e; says = ap comparisonTold e; keeps = refl }
+kept a b answer e = record { is = e; tells = ap comparisonTold e ∙ compare-tells a b; keeps = refl }
 
 module _ (a b : List ℕ) (family : Family) (four : family ≡ ipv4) (left right : Reading) (is : left ≡ oneRule family a) (other-is : right ≡ oneRule family b) where
   first-is : oneRule ipv4 a ≡ left

@@ -22,6 +22,7 @@ use Rattle.flowspec.specs.Input.{Policy}
 use Rattle.flowspec.specs.Feasibility.{readWithRoutes, isFeasible, feasibilityOf, judgement}
 use Rattle.flowspec.specs.Told.{feasibilityTold}
 use Rattle.flowspec.specs.Promise.{JudgesOne}
+use Rattle.flowspec.proofs.ToldLaws.{judge-tells}
 
 -- reading a rule once the routes are found sound
 module _ (words rule : List ℕ) where
@@ -51,7 +52,7 @@ value-judged policy value originator destination feasibly is says = says ∙ rw 
 module _ (policy : Policy) (rule : List ℕ) (originator : ℕ) (reading : Reading) (read : reading ≡ readWithRoutes (policy .routes) rule) where
   -- a promise from the equation for the answer
   kept : (answer : Feasibility) → answer ≡ judgement policy rule originator → JudgesOne policy rule originator answer (policy .routes ∷ rule ∷ [])
-  kept answer e = record { is = e; says = ap feasibilityTold e; keeps = refl }
+  kept answer e = record { is = e; tells = ap feasibilityTold e ∙ judge-tells policy rule originator; keeps = refl }
 
   pub judge-refused : (number place : ℕ) → reading ≡ NotRead number place → JudgesOne policy rule originator (Refused number place) (policy .routes ∷ rule ∷ [])
   unfolding judgement

@@ -46,6 +46,7 @@ use Rattle.flowspec.specs.Input.{Announcement, Policy}
 use Rattle.flowspec.specs.Look.{seen, lookingUp, firstMatch, matchPlace}
 use Rattle.flowspec.specs.Told.{changeTold, verdictTold, lookupTold, matchPlaceTold}
 use Rattle.flowspec.specs.Promise.{Announces, Withdraws, LooksUp, LocatesFirst}
+use Rattle.flowspec.proofs.ToldLaws.{announce-tells, withdraw-tells, lookup-tells, locate-tells}
 use Rattle.flowspec.proofs.AskLaws.{asked-rule}
 
 -- what the answer on soundness says of a table
@@ -70,7 +71,7 @@ module _ (policy : Policy) (a : Announcement) (t : List ℕ) where
       → Announces policy a t answer exit (policy .routes ∷ a .rule ∷ a .communities ∷ [])
   announce-kept o answer exit e h x =
       let q : answer ≡ announcing policy a t .answer = rw e h in
-      record { is = q; says = ap changeTold q; leaves = rw e x; keeps = refl }
+      record { is = q; tells = ap changeTold q ∙ announce-tells policy a t; leaves = rw e x; keeps = refl }
 
   module _ (s : Soundness) (is : s ≡ soundness ipv4 t) where
     pub announce-unsound : s ≡ Unsound → Announces policy a t (NotChanged 10 0) t (policy .routes ∷ a .rule ∷ a .communities ∷ [])
@@ -107,7 +108,7 @@ module _ (rule t : List ℕ) where
   withdraw-kept : (o : Outcome) (answer : Change) (exit : List ℕ) → withdrawing rule t ≡ o → answer ≡ o .answer → exit ≡ o .table → Withdraws rule t answer exit (rule ∷ [])
   withdraw-kept o answer exit e a x =
       let q : answer ≡ withdrawing rule t .answer = rw e a in
-      record { is = q; says = ap changeTold q; leaves = rw e x; keeps = refl }
+      record { is = q; tells = ap changeTold q ∙ withdraw-tells rule t; leaves = rw e x; keeps = refl }
 
   module _ (s : Soundness) (is : s ≡ soundness ipv4 t) where
     pub withdraw-unsound : s ≡ Unsound → Withdraws rule t (NotChanged 10 0) t (rule ∷ [])
@@ -143,10 +144,10 @@ module _ (rule t : List ℕ) where
 
 module _ (t octets : List ℕ) where
   look-kept : (answer : Looked) → answer ≡ lookingUp t octets → LooksUp t octets answer (t ∷ octets ∷ [])
-  look-kept answer e = record { is = e; says = ap lookupTold e; keeps = refl }
+  look-kept answer e = record { is = e; tells = ap lookupTold e ∙ lookup-tells t octets; keeps = refl }
 
   located : (answer : MatchPlace) → answer ≡ matchPlace t octets → answer .start ≤ answer .end → answer .end ≤ length t → LocatesFirst t octets answer (t ∷ octets ∷ [])
-  located answer e ordered inside = record { is = e; says = ap matchPlaceTold e; ordered = ordered; inside = inside; keeps = refl }
+  located answer e ordered inside = record { is = e; tells = ap matchPlaceTold e ∙ locate-tells t octets; ordered = ordered; inside = inside; keeps = refl }
 
   -- what is seen
   module _ (s : Soundness) (is : s ≡ soundness ipv4 t) where

@@ -26,6 +26,7 @@ use Rattle.action.specs.declared.Reading.{Reading as ActionsReading}
 use Rattle.action.specs.declared.Reading.the-variants.{Read, Unsound}
 use Rattle.action.specs.Actions.{noActions, actionsOf, flagsOf, valuesOf}
 use Rattle.entry.specs.Entry.{Entry}
+use Rattle.route.specs.Route.{soundRoutes}
 use Rattle.packet.specs.Header.{isUnusable}
 use Rattle.packet.specs.Packet.{fieldsOf, packetOf}
 use Rattle.table.specs.declared.Verdict.{Verdict}
@@ -33,13 +34,15 @@ use Rattle.table.specs.declared.Verdict.the-variants.{Unmatched, Matched}
 use Rattle.table.specs.Walk.{entries}
 use Rattle.table.specs.Sound.{soundTable}
 use Rattle.table.specs.Lookup.{hit, collected, mergedOnto, verdictOf, verdictFor}
-use Rattle.table.specs.Change.{holds, withdrawn}
+use Rattle.table.specs.Change.{holds, hasRoom, withdrawn}
 use Rattle.flowspec.specs.declared.Looked.the-variants.{Judged}
 use Rattle.flowspec.specs.Compare.{comparisonOf, compareRead, compareRules}
-use Rattle.flowspec.specs.Announce.{changeOf, withdrawnBy, withdrawing}
+use Rattle.flowspec.specs.Input.{Announcement, Policy}
+use Rattle.flowspec.specs.Feasibility.{readWithRoutes, isFeasible, judgeRead, judgement}
+use Rattle.flowspec.specs.Announce.{changeOf, askedBy, asked, entryFor, announcedBy, announcing, withdrawnBy, withdrawing}
 use Rattle.flowspec.specs.Look.{shown, seen, lookedUp, lookingUp, firstIn, firstMatch, matchPlace}
-use Rattle.flowspec.specs.Told.{Told, done, refused, readingTold, writingTold, comparisonTold, actionsTold, changeTold, verdictTold, lookupTold, matchPlaceTold}
-use Rattle.flowspec.specs.Checks.{Check, check, oneToSeven, told, ruleEnd, valueIn, checkRule, endsThere, readChecks, readValues, writeChecks, writeValues, compareChecks, compareValues, actionsChecks, actionsValues, withdrawChecks, lookupChecks, lookupValues, firstMatchValues, isSound, actionsIn}
+use Rattle.flowspec.specs.Told.{Told, done, refused, readingTold, writingTold, comparisonTold, feasibilityTold, actionsTold, changeTold, verdictTold, lookupTold, matchPlaceTold}
+use Rattle.flowspec.specs.Checks.{judgeChecks, announceChecks, Check, check, oneToSeven, told, ruleEnd, valueIn, checkRule, endsThere, readChecks, readValues, writeChecks, writeValues, compareChecks, compareValues, actionsChecks, actionsValues, withdrawChecks, lookupChecks, lookupValues, firstMatchValues, isSound, actionsIn}
 
 -- ---- reading ----
 
@@ -130,6 +133,54 @@ actions-tells communities = go (actionsOf communities)
     go : (a : ActionsReading) → actionsTold a ≡ told (check (isSound a) 13 ∷ []) (valuesOf (actionsIn a))
     go (Read actions) = refl
     go Unsound = refl
+
+-- ---- judging ----
+
+pub judge-tells : (policy : Policy) (rule : List ℕ) (originator : ℕ)
+    → feasibilityTold (judgement policy rule originator) ≡ told (judgeChecks policy rule originator) []
+unfolding judgement readWithRoutes
+judge-tells policy rule originator =
+    by-test (soundRoutes 32 (policy .routes))
+    (λ s. rw s (go (oneRule ipv4 rule) refl ∙ sym (read-first rule (check (isFeasible policy (valueIn rule) originator) 8 ∷ []) [])))
+    (λ s. rw s)
+  where
+    go : (r : Reading) → oneRule ipv4 rule ≡ r → feasibilityTold (judgeRead policy rule originator r)
+        ≡ afterReading r 0 (told (check (isFeasible policy (valueIn rule) originator) 8 ∷ []) [])
+    go (NotRead number place) e = refl
+    go (Rule start size) e =
+        let v = read-value rule start size e in
+        rw (v .0, v .1) (by-test (isFeasible policy (valueIn rule) originator) (λ h. rw h) (λ h. rw h))
+
+-- ---- announcing ----
+
+module _ (policy : Policy) (a : Announcement) (t : List ℕ) where
+  -- what is checked behind the rule
+  abbrev behindRule : ActionsReading → List Check
+  behindRule c =
+      check (isSound c) 13
+      ∷ check (isFeasible policy (valueIn (a .rule)) (a .originator)) 8
+      ∷ check (hasRoom ipv4 t (entryFor (a .originator) (actionsIn c) (valueIn (a .rule)))) 11
+      ∷ []
+
+  pub announce-tells : changeTold (announcing policy a t .answer) ≡ told (announceChecks policy a t) []
+  unfolding announcing asked readWithRoutes changeOf
+  announce-tells =
+      by-test (soundTable ipv4 t)
+      (λ s. by-test (soundRoutes 32 (policy .routes))
+      (λ r. rw (s, r) (go (oneRule ipv4 (a .rule)) refl (actionsOf (a .communities)) ∙ sym (read-first (a .rule) (behindRule (actionsOf (a .communities))) [])))
+      (λ r. rw (s, r)))
+      (λ s. rw s)
+    where
+      go : (r : Reading) → oneRule ipv4 (a .rule) ≡ r → (c : ActionsReading)
+          → changeTold (announcedBy a t (askedBy policy a r c) .answer) ≡ afterReading r 0 (told (behindRule c) [])
+      go (NotRead number place) e c = refl
+      go (Rule start size) e Unsound = refl
+      go (Rule start size) e (Read actions) =
+          let v = read-value (a .rule) start size e in
+          rw (v .0, v .1)
+          (by-test (isFeasible policy (valueIn (a .rule)) (a .originator))
+          (λ f. by-test (hasRoom ipv4 t (entryFor (a .originator) actions (valueIn (a .rule)))) (λ h. rw (f, h)) (λ h. rw (f, h)))
+          (λ f. rw f))
 
 -- ---- withdrawing ----
 

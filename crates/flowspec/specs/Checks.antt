@@ -19,13 +19,18 @@ use Rattle.action.specs.declared.Actions.{Actions}
 use Rattle.action.specs.declared.Reading.{Reading as ActionsReading}
 use Rattle.action.specs.declared.Reading.the-variants.{Read, Unsound}
 use Rattle.action.specs.Actions.{noActions, actionsOf, valuesOf}
+use Rattle.route.specs.Route.{soundRoutes}
 use Rattle.packet.specs.Header.{isUnusable}
 use Rattle.packet.specs.Packet.{fieldsOf}
+use Rattle.entry.specs.Entry.{Entry}
 use Rattle.table.specs.declared.Place.{Place}
 use Rattle.table.specs.Walk.{entries}
 use Rattle.table.specs.Sound.{soundTable}
 use Rattle.table.specs.Lookup.{hit, collected, mergedOnto, firstPlace}
-use Rattle.table.specs.Change.{holds}
+use Rattle.table.specs.Change.{holds, hasRoom}
+use Rattle.flowspec.specs.Input.{Announcement, Policy}
+use Rattle.flowspec.specs.Feasibility.{isFeasible}
+use Rattle.flowspec.specs.Announce.{entryFor}
 use Rattle.flowspec.specs.Told.{Told, done, refused}
 
 -- A check: whether it holds, and the number and the place of the refusal where it does not.
@@ -110,6 +115,31 @@ actionsChecks communities = check (isSound (actionsOf communities)) 13 ∷ []
 -- The values of the actions, in the order of a record.
 abbrev pub actionsValues : List ℕ → List ℕ
 actionsValues communities = valuesOf (actionsIn (actionsOf communities))
+
+-- 01: "feasibility alone 9, 1 to 7, 15, 8".
+abbrev pub judgeChecks : Policy → List ℕ → ℕ → List Check
+judgeChecks policy rule originator =
+    check (soundRoutes 32 (policy .routes)) 9
+    ∷ oneToSeven (checkRule rule)
+    ∷ check (endsThere rule) 15
+    ∷ check (isFeasible policy (valueIn rule) originator) 8
+    ∷ []
+
+-- The entry that an announcement asks for.
+abbrev pub entryIn : Announcement → Entry
+entryIn a = entryFor (a .originator) (actionsIn (actionsOf (a .communities))) (valueIn (a .rule))
+
+-- 01: "Announce checks 10, 9, 1 to 7, 15, 13, 8, 11".
+abbrev pub announceChecks : Policy → Announcement → List ℕ → List Check
+announceChecks policy a table =
+    check (soundTable ipv4 table) 10
+    ∷ check (soundRoutes 32 (policy .routes)) 9
+    ∷ oneToSeven (checkRule (a .rule))
+    ∷ check (endsThere (a .rule)) 15
+    ∷ check (isSound (actionsOf (a .communities))) 13
+    ∷ check (isFeasible policy (valueIn (a .rule)) (a .originator)) 8
+    ∷ check (hasRoom ipv4 table (entryIn a)) 11
+    ∷ []
 
 -- 01: "withdraw 10, 1 to 7, 15, 14".
 abbrev pub withdrawChecks : List ℕ → List ℕ → List Check

@@ -1,6 +1,6 @@
--- What each public call promises, whatever octets it is lent: its answer (`is`), what that answer says in 01's terms (`says`, Told.antt), what each
--- buffer lent to be changed holds at exit (`leaves`), and that what is lent to be read alone is as it was (`keeps`; `kept` is what those
--- slices hold at exit). No call has a `requires`. That no second result satisfies a promise is shown in proofs/Unique.antt.
+-- What each public call promises, whatever octets it is lent: its answer (`is`), the number, place and values of that answer (`tells`), by the
+-- list of 01's checks that the call goes through (Checks.antt), what each buffer lent to be changed holds at exit (`leaves`), and that what is
+-- lent to be read alone is as it was (`keeps`; `kept` is what those slices hold at exit). No call has a `requires`. That no second result satisfies a promise is shown in proofs/Unique.antt.
 use Prim.Native.Nat.{ℕ, _+_, _≤_}
 use mathlib.Core.Path.{_≡_}
 use mathlib.Core.List.{List, [], _∷_}
@@ -24,65 +24,66 @@ use Rattle.rule.specs.Value.{between}
 use Rattle.flowspec.specs.Compare.{compareRules}
 use Rattle.flowspec.specs.Feasibility.{judgement}
 use Rattle.flowspec.specs.Told.{readingTold, writingTold, comparisonTold, feasibilityTold, actionsTold, changeTold, lookupTold, matchPlaceTold}
+use Rattle.flowspec.specs.Checks.{told, readChecks, readValues, writeChecks, writeValues, compareChecks, compareValues, judgeChecks, actionsChecks, actionsValues, announceChecks, withdrawChecks, lookupChecks, lookupValues, firstMatchValues}
 
 -- Reading one rule: refusals 1 to 7, then 15.
 pub record ReadsOne (rule : List ℕ) (answer : Reading) (kept : List (List ℕ)) : Type 0 where
   pub is : answer ≡ oneRule ipv4 rule
-  pub says : readingTold answer ≡ readingTold (oneRule ipv4 rule)
+  pub tells : readingTold answer ≡ told (readChecks rule) (readValues rule)
   pub keeps : kept ≡ rule ∷ []
 
 -- Writing one rule from a value: refusals 1 to 7, then 16; on success the front of the buffer is filled and the rest kept, and a
 -- refusal changes no octet.
 pub record WritesOne (value buffer : List ℕ) (answer : Writing) (exit : List ℕ) (kept : List (List ℕ)) : Type 0 where
   pub is : answer ≡ writing ipv4 value (length buffer)
-  pub says : writingTold answer ≡ writingTold (writing ipv4 value (length buffer))
+  pub tells : writingTold answer ≡ told (writeChecks value buffer) (writeValues value)
   pub leaves : exit ≡ afterWriting ipv4 value buffer
   pub keeps : kept ≡ value ∷ []
 
 -- Comparing two rules: refusals 1 to 7 and 15 of the first, then of the second.
 pub record ComparesTwo (first second : List ℕ) (answer : Comparison) (kept : List (List ℕ)) : Type 0 where
   pub is : answer ≡ compareRules first second
-  pub says : comparisonTold answer ≡ comparisonTold (compareRules first second)
+  pub tells : comparisonTold answer ≡ told (compareChecks first second) (compareValues first second)
   pub keeps : kept ≡ first ∷ second ∷ []
 
 -- Judging one rule: refusals 9, 1 to 7, 15, 8.
 pub record JudgesOne (policy : Policy) (rule : List ℕ) (originator : ℕ) (answer : Feasibility) (kept : List (List ℕ)) : Type 0 where
   pub is : answer ≡ judgement policy rule originator
-  pub says : feasibilityTold answer ≡ feasibilityTold (judgement policy rule originator)
+  pub tells : feasibilityTold answer ≡ told (judgeChecks policy rule originator) []
   pub keeps : kept ≡ policy .routes ∷ rule ∷ []
 
 -- Reading actions: refusal 13.
 pub record ReadsActions (communities : List ℕ) (answer : ActionsReading) (kept : List (List ℕ)) : Type 0 where
   pub is : answer ≡ actionsOf communities
-  pub says : actionsTold answer ≡ actionsTold (actionsOf communities)
+  pub tells : actionsTold answer ≡ told (actionsChecks communities) (actionsValues communities)
   pub keeps : kept ≡ communities ∷ []
 
 -- Announcing: refusals 10, 9, 1 to 7, 15, 13, 8, 11. The table at exit is the outcome's: changed where done and, at 8, where the rule was
 -- held; every other refusal changes no octet.
 pub record Announces (policy : Policy) (announcement : Announcement) (table : List ℕ) (answer : Change) (exit : List ℕ) (kept : List (List ℕ)) : Type 0 where
   pub is : answer ≡ announcing policy announcement table .answer
-  pub says : changeTold answer ≡ changeTold (announcing policy announcement table .answer)
+  pub tells : changeTold answer ≡ told (announceChecks policy announcement table) []
   pub leaves : exit ≡ announcing policy announcement table .table
   pub keeps : kept ≡ policy .routes ∷ announcement .rule ∷ announcement .communities ∷ []
 
 -- Withdrawing: refusals 10, 1 to 7, 15, 14, none of which changes an octet.
 pub record Withdraws (rule table : List ℕ) (answer : Change) (exit : List ℕ) (kept : List (List ℕ)) : Type 0 where
   pub is : answer ≡ withdrawing rule table .answer
-  pub says : changeTold answer ≡ changeTold (withdrawing rule table .answer)
+  pub tells : changeTold answer ≡ told (withdrawChecks rule table) []
   pub leaves : exit ≡ withdrawing rule table .table
   pub keeps : kept ≡ rule ∷ []
 
 -- Looking up: refusals 10, 12.
 pub record LooksUp (table packet : List ℕ) (answer : Looked) (kept : List (List ℕ)) : Type 0 where
   pub is : answer ≡ lookingUp table packet
-  pub says : lookupTold answer ≡ lookupTold (lookingUp table packet)
+  pub tells : lookupTold answer ≡ told (lookupChecks table packet) (lookupValues table packet)
   pub keeps : kept ≡ table ∷ packet ∷ []
 
 -- The first match's place with the lookup's number, refusals 10, 12: a part of the table, 0 and 0 where nothing matches or the lookup is
 -- refused.
 pub record LocatesFirst (table packet : List ℕ) (answer : MatchPlace) (kept : List (List ℕ)) : Type 0 where
   pub is : answer ≡ matchPlace table packet
-  pub says : matchPlaceTold answer ≡ matchPlaceTold (matchPlace table packet)
+  pub tells : matchPlaceTold answer ≡ told (lookupChecks table packet) (firstMatchValues table packet)
   pub ordered : answer .start ≤ answer .end
   pub inside : answer .end ≤ length table
   pub keeps : kept ≡ table ∷ packet ∷ []

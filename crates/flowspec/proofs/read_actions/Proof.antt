@@ -1,6 +1,7 @@
 -- The answer is the action crate's.
-use mathlib.Core.Path.{refl, ap}
+use mathlib.Core.Path.{refl, ap, _∙_}
 use Rattle.flowspec.specs.Told.{actionsTold}
+use Rattle.flowspec.proofs.ToldLaws.{actions-tells}
 use borrow.Author.Needs.{needs}
 use Rattle.flowspec.proofs.read_actions.Statement.{statement}
 use Rattle.flowspec.proofs.read_actions.Tie as tie
@@ -9,7 +10,7 @@ actions-of-requires : tie.Need-actions-of-requires
 actions-of-requires c κs = search needs
 
 returns : tie.Need-returns
-returns c = record { is = c .actions-of .ensures; says = ap actionsTold (c .actions-of .ensures); keeps = refl }
+returns c = record { is = c .actions-of .ensures; tells = ap actionsTold (c .actions-of .ensures) ∙ actions-tells _; keeps = refl }
 
 pub read-actions-spec : {M : Type 1} → statement M
 read-actions-spec = tie.close (tie.spec actions-of-requires returns)
