@@ -15,6 +15,7 @@ use Rattle.rule.specs.declared.Checked.{Checked}
 use Rattle.rule.specs.declared.Checked.the-variants.{Accepted, Refused}
 use Rattle.flowspec.specs.Told.{Told}
 use Rattle.flowspec.specs.Checks.{Check, oneToSeven, told}
+use Rattle.flowspec.specs.Numbers.{AllHold}
 
 -- so many checks of a list hold, and then a claim
 abbrev pub Until : List Check → ℕ → (Check → Type 0) → Type 0
@@ -26,18 +27,19 @@ Until (c ∷ cs) (suc i) P = (c .holds ≡ true) × Until cs i P
 abbrev pub RefusedAt : List Check → ℕ → Type 0
 RefusedAt cs i = Until cs i (λ c. c .holds ≡ false)
 
--- all of them hold
-abbrev pub AllHold : List Check → Type 0
-AllHold = Each (λ c. c .holds ≡ true)
-
--- no check of a list has a number; and none but the one at a place
+-- no check of a list has a number; the one at a place has it and no other; and that one is a value's, which alone may have it
 abbrev Without : ℕ → List Check → Type 0
 Without n = Each (λ c. eqb (c .number) n ≡ false)
 
-abbrev Alone : ℕ → List Check → ℕ → Type 0
-Alone n [] i = Unit {0}
-Alone n (c ∷ cs) zero = Without n cs
-Alone n (c ∷ cs) (suc i) = (eqb (c .number) n ≡ false) × Alone n cs i
+abbrev pub Only : ℕ → List Check → ℕ → Type 0
+Only n [] i = ⊥
+Only n (c ∷ cs) zero = (c .number ≡ n) × Without n cs
+Only n (c ∷ cs) (suc i) = (eqb (c .number) n ≡ false) × Only n cs i
+
+abbrev pub OnlyValue : Checked → ℕ → List Check → ℕ → Type 0
+OnlyValue v n [] i = ⊥
+OnlyValue v n (c ∷ cs) zero = (c ≡ oneToSeven v) × Without n cs
+OnlyValue v n (c ∷ cs) (suc i) = (eqb (c .number) n ≡ false) × OnlyValue v n cs i
 
 module _ (values : List ℕ) (n : ℕ) (given : n ≡ 0 → ⊥) where
   -- a number that no check has is not told
@@ -46,19 +48,36 @@ module _ (values : List ℕ) (n : ℕ) (given : n ≡ 0 → ⊥) where
   not-told (c ∷ cs) w e =
       by-test (c .holds) (λ h. not-told cs (w .1) (rw h at e)) (λ h. eqb-false (c .number) n (w .0) (rw h at e))
 
-  -- a number that is told is that of a check which does not hold, at a place
-  module _ (place : ℕ) where
-    abbrev Gives : Check → Type 0
-    Gives c = (c .holds ≡ false) × ((c .number ≡ n) × (c .place ≡ place))
+  -- **a number is told exactly where its check refuses**
+  pub number-at : (cs : List Check) (i : ℕ) → Only n cs i → (told cs values .number ≡ n) ↔ RefusedAt cs i
+  number-at [] i a = absurd a
+  number-at (c ∷ cs) zero a =
+      by-test (c .holds)
+      (λ h. rw h ((λ e. absurd (not-told cs (a .1) e)), (λ b. let z : true ≡ false = b in apart (cc))))
+      (λ h. rw h ((λ e. refl), (λ b. a .0)))
+  number-at (c ∷ cs) (suc i) a =
+      by-test (c .holds)
+      (λ h. let rest = number-at cs i (a .1) in rw h ((λ e. (refl, rest .0 e)), (λ b. rest .1 (b .1))))
+      (λ h. rw h ((λ e. absurd (eqb-false (c .number) n (a .0) e)), (λ b. let z : false ≡ true = b .0 in apart (cc))))
 
-    pub at-check : (cs : List Check) (i : ℕ) → Alone n cs i
-        → ((told cs values .number ≡ n) × (told cs values .place ≡ place)) ↔ Until cs i Gives
-    at-check [] i a = ((λ e. absurd (given (sym (e .0)))), (λ b. absurd b))
-    at-check (c ∷ cs) zero a =
-        by-test (c .holds)
-        (λ h. rw h ((λ e. absurd (not-told cs a (e .0))), (λ b. let z : true ≡ false = b .0 in apart (cc))))
-        (λ h. rw h ((λ e. (refl, e)), (λ b. b .1)))
-    at-check (c ∷ cs) (suc i) a =
-        by-test (c .holds)
-        (λ h. let rest = at-check cs i (a .1) in rw h ((λ e. (refl, rest .0 e)), (λ b. rest .1 (b .1))))
-        (λ h. rw h ((λ e. absurd (eqb-false (c .number) n (a .0) (e .0))), (λ b. let z : false ≡ true = b .0 in apart (cc))))
+  -- **a refusal of a value is told, with its place, exactly where the value's check refuses so**
+  pub value-at : (v : Checked) (place : ℕ) (cs : List Check) (i : ℕ) → OnlyValue v n cs i
+      → ((told cs values .number ≡ n) × (told cs values .place ≡ place)) ↔ Until cs i (λ c. v ≡ Refused n place)
+  value-at v place [] i a = absurd a
+  value-at v place (c ∷ cs) zero a = rw (a .0) (go v)
+    where
+      go : (w : Checked) → ((told (oneToSeven w ∷ cs) values .number ≡ n) × (told (oneToSeven w ∷ cs) values .place ≡ place)) ↔ (w ≡ Refused n place)
+      go Accepted = ((λ e. absurd (not-told cs (a .1) (e .0))), (λ b. apart (cc)))
+      go (Refused m p) = ((λ e. rw (e .0, e .1)), (λ b. (cc, cc)))
+  value-at v place (c ∷ cs) (suc i) a =
+      by-test (c .holds)
+      (λ h. let rest = value-at v place cs i (a .1) in rw h ((λ e. (refl, rest .0 e)), (λ b. rest .1 (b .1))))
+      (λ h. rw h ((λ e. absurd (eqb-false (c .number) n (a .0) (e .0))), (λ b. let z : false ≡ true = b .0 in apart (cc))))
+
+-- **0 is told exactly where all checks hold**
+pub all-hold : (values : List ℕ) (cs : List Check) → Each (λ c. c .holds ≡ false → 1 ≤ c .number) cs → (told cs values .number ≡ 0) ↔ AllHold cs
+all-hold values [] a = ((λ e. tt), (λ b. refl))
+all-hold values (c ∷ cs) a =
+    by-test (c .holds)
+    (λ h. let rest = all-hold values cs (a .1) in rw h ((λ e. (refl, rest .0 e)), (λ b. rest .1 (b .1))))
+    (λ h. let some = a .0 h in rw h ((λ e. absurd (omega arith)), (λ b. let z : false ≡ true = b .0 in apart (cc))))

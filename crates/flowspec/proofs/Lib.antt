@@ -15,3 +15,4 @@ pub mod RoomLaws
 pub mod OperatorTheorems
 pub mod PlainLaws
 pub mod ComparisonTheorems
+pub mod Numbers

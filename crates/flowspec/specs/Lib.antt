@@ -7,5 +7,6 @@ pub mod Told
 pub mod Look
 pub mod Checks
 pub mod Promise
+pub mod Numbers
 pub mod Examples
 pub mod History

@@ -1,0 +1,223 @@
+-- **Each number is given exactly when 01's table says**, of the calls by their promises: which checks of a call's list held, and which did not, is
+-- read off its number. Assumes nothing.
+use mathlib.Core.Path.{_≡_, refl, sym, ap, subst, _∙_}
+use mathlib.Core.Bool.{Bool, true, false, not}
+use mathlib.Core.List.{List, [], _∷_}
+use mathlib.Core.Logic.{_↔_, _⊎_, inl, inr, ⊎-elim}
+use Prim.Native.Nat.{ℕ, _<_, _≤_}
+use native.Mathlib.Omega.{arith}
+use lib.Dec.{ltb, eqb}
+use lib.ListN.{length}
+use borrow.Author.Tests.{ne-eqb, ltb-false, not-true, not-false}
+use Rattle.octets.proofs.Cases.{by-test, apart}
+use Rattle.rule.specs.declared.Checked.{Checked}
+use Rattle.rule.specs.declared.Checked.the-variants.{Accepted, Refused}
+use Rattle.rule.specs.declared.Reading.{Reading}
+use Rattle.rule.specs.declared.Writing.{Writing}
+use Rattle.rule.specs.Family.{ipv4}
+use Rattle.rule.specs.Value.{checkValue}
+use Rattle.rule.proofs.ValueLaws.{accepts, components-ind, was-refused}
+use Rattle.action.specs.declared.Reading.{Reading as ActionsReading}
+use Rattle.packet.specs.Header.{isUnusable}
+use Rattle.flowspec.specs.declared.Comparison.{Comparison}
+use Rattle.flowspec.specs.declared.Feasibility.{Feasibility}
+use Rattle.flowspec.specs.declared.Change.{Change}
+use Rattle.flowspec.specs.declared.Looked.{Looked}
+use Rattle.flowspec.specs.declared.MatchPlace.{MatchPlace}
+use Rattle.flowspec.specs.Input.{Announcement, Policy}
+use Rattle.flowspec.specs.Told.{Told, readingTold, writingTold, comparisonTold, feasibilityTold, actionsTold, changeTold, lookupTold, matchPlaceTold}
+use Rattle.flowspec.specs.Checks.{Check, check, oneToSeven, told, ruleEnd, valueIn, checkRule, endsThere, readChecks, writeChecks, compareChecks, compareValues, judgeChecks, actionsChecks, announceChecks, withdrawChecks, lookupChecks, lookupValues, firstMatchValues}
+use Rattle.flowspec.specs.Numbers.{Yes, No, Accepts, OneToSeven, ReadNumbers, WriteNumbers, CompareNumbers, JudgeNumbers, ActionsNumbers, AnnounceNumbers, WithdrawNumbers, LookupNumbers}
+use Rattle.flowspec.specs.Promise.{ReadsOne, WritesOne, ComparesTwo, JudgesOne, ReadsActions, Announces, Withdraws, LooksUp, LocatesFirst}
+use Rattle.flowspec.proofs.ChecksLaws.{number-at, value-at, all-hold}
+
+-- a value is refused with a number from 1 to 7
+abbrev Numbered : Checked → Type 0
+Numbered Accepted = Unit {0}
+Numbered (Refused number place) = (1 ≤ number) × (number ≤ 7)
+
+value-numbered : (v : List ℕ) → Numbered (checkValue ipv4 v)
+unfolding checkValue
+value-numbered v =
+    by-test (ltb 4095 (length v)) (λ t. rw t (omega arith, omega arith))
+    (λ t. by-test (eqb (length v) 0) (λ u. rw (t, u) (omega arith, omega arith)) (λ u. rw (t, u) walked))
+  where
+    walked : Numbered (accepts ipv4 v 0 0)
+    walked =
+        components-ind ipv4 v (λ at previous w. Numbered (w .ending)) (λ at previous e. tt)
+        (λ at previous number place e. let m = was-refused ipv4 v at previous number place e in (omega arith, omega arith))
+        (λ at previous kind next w e rest. rest) 0 0
+
+rule-numbered : (rule : List ℕ) → Numbered (checkRule rule)
+rule-numbered rule =
+    by-test (ltb (length rule) (ruleEnd rule)) (λ t. rw t (omega arith, omega arith)) (λ t. rw t (value-numbered (valueIn rule)))
+
+-- so that no other check has its number, and it is not 0
+other : (c : Checked) → Numbered c → (n : ℕ) → 7 < n → eqb (oneToSeven c .number) n ≡ false
+other Accepted h n k = ne-eqb 0 n (λ e. omega arith)
+other (Refused number place) h n k = ne-eqb number n (λ e. omega arith)
+
+given : (c : Checked) → Numbered c → oneToSeven c .holds ≡ false → 1 ≤ oneToSeven c .number
+given Accepted h e = apart (cc)
+given (Refused number place) h e = h .0
+
+-- a number from 1 to 7 is none of the others
+far : (m n : ℕ) → n ≤ 7 → 7 < m → eqb m n ≡ false
+far m n h k = ne-eqb m n (λ e. omega arith)
+
+module _ (rule : List ℕ) where
+  apart-from : (n : ℕ) → 7 < n → eqb (oneToSeven (checkRule rule) .number) n ≡ false
+  apart-from = other (checkRule rule) (rule-numbered rule)
+
+  named : oneToSeven (checkRule rule) .holds ≡ false → 1 ≤ oneToSeven (checkRule rule) .number
+  named = given (checkRule rule) (rule-numbered rule)
+
+-- ---- actions ----
+
+pub actions-numbers : {communities : List ℕ} {answer : ActionsReading} {kept : List (List ℕ)} → ReadsActions communities answer kept
+    → ActionsNumbers communities (actionsTold answer)
+actions-numbers {communities} p =
+    rw (p .tells) (record {
+      thirteen = number-at _ 13 (λ e. omega arith) (actionsChecks communities) 0 (refl, tt);
+      zero = all-hold _ (actionsChecks communities) ((λ h. omega arith), tt);
+    })
+
+-- ---- reading ----
+
+pub read-numbers : {rule : List ℕ} {answer : Reading} {kept : List (List ℕ)} → ReadsOne rule answer kept → ReadNumbers rule (readingTold answer)
+read-numbers {rule} p =
+    rw (p .tells) (record {
+      one-to-seven = λ number place h k. value-at _ number (λ e. omega arith) (checkRule rule) place (readChecks rule) 0 (refl, (far 15 number k (omega arith), tt));
+      fifteen = number-at _ 15 (λ e. omega arith) (readChecks rule) 1 (apart-from rule 15 (omega arith), (refl, tt));
+      zero = all-hold _ (readChecks rule) (named rule, ((λ h. omega arith), tt));
+    })
+
+-- ---- writing ----
+
+pub write-numbers : {value buffer : List ℕ} {answer : Writing} {exit : List ℕ} {kept : List (List ℕ)} → WritesOne value buffer answer exit kept
+    → WriteNumbers value buffer (writingTold answer)
+write-numbers {value} {buffer} p =
+    let n = value-numbered value in
+    rw (p .tells) (record {
+      one-to-seven = λ number place h k. value-at _ number (λ e. omega arith) (checkValue ipv4 value) place (writeChecks value buffer) 0 (refl, (far 16 number k (omega arith), tt));
+      sixteen = number-at _ 16 (λ e. omega arith) (writeChecks value buffer) 1 (other (checkValue ipv4 value) n 16 (omega arith), (refl, tt));
+      zero = all-hold _ (writeChecks value buffer) (given (checkValue ipv4 value) n, ((λ h. omega arith), tt));
+    })
+
+-- ---- comparing ----
+
+-- the checks of two rules, by what each comes to
+module _ (values : List ℕ) (d : Checked) (y : Bool) (right : Numbered d) where
+  abbrev both : Checked → Bool → List Check
+  both c x = oneToSeven c ∷ check x 15 ∷ oneToSeven d ∷ check y 15 ∷ []
+
+  both-seven : (c : Checked) (x : Bool) → Numbered c → OneToSeven (told (both c x) values) (λ number place. (c ≡ Refused number place)
+      ⊎ (Accepts c × (Yes x × (d ≡ Refused number place))))
+  both-seven Accepted true left number place h k =
+      let rest = value-at values number (λ e. omega arith) d place (oneToSeven d ∷ check y 15 ∷ []) 0 (refl, (far 15 number k (omega arith), tt)) in
+      ((λ e. inr (refl, (refl, rest .0 e))), ⊎-elim (λ b. apart (cc)) (λ b. rest .1 (b .1 .1)))
+  both-seven Accepted false left number place h k =
+      ((λ e. let z = e .0 in absurd (omega arith)), ⊎-elim (λ b. apart (cc)) (λ b. let z : false ≡ true = b .1 .0 in apart (cc)))
+  both-seven (Refused n p) x left number place h k =
+      ((λ e. inl (rw (e .0, e .1))), ⊎-elim (λ b. (cc, cc)) (λ b. let z : false ≡ true = b .0 in apart (cc)))
+
+  both-fifteen : (c : Checked) (x : Bool) → Numbered c
+      → (told (both c x) values .number ≡ 15) ↔ ((Accepts c × No x) ⊎ (Accepts c × (Yes x × (Accepts d × No y))))
+  both-fifteen Accepted true left =
+      let rest = number-at values 15 (λ e. omega arith) (oneToSeven d ∷ check y 15 ∷ []) 1 (other d right 15 (omega arith), (refl, tt)) in
+      ((λ e. inr (refl, (refl, rest .0 e))), ⊎-elim (λ b. let z : true ≡ false = b .1 in apart (cc)) (λ b. rest .1 (b .1 .1)))
+  both-fifteen Accepted false left = ((λ e. inl (refl, refl)), (λ b. refl))
+  both-fifteen (Refused n p) x left =
+      ((λ e. absurd (omega arith)), ⊎-elim (λ b. let z : false ≡ true = b .0 in apart (cc)) (λ b. let z : false ≡ true = b .0 in apart (cc)))
+
+pub compare-numbers : {first second : List ℕ} {answer : Comparison} {kept : List (List ℕ)} → ComparesTwo first second answer kept
+    → CompareNumbers first second (comparisonTold answer)
+compare-numbers {first} {second} p =
+    let left = rule-numbered first in
+    let right = rule-numbered second in
+    rw (p .tells) (record {
+      one-to-seven = both-seven (compareValues first second) (checkRule second) (endsThere second) right (checkRule first) (endsThere first) left;
+      fifteen = both-fifteen (compareValues first second) (checkRule second) (endsThere second) right (checkRule first) (endsThere first) left;
+      zero = all-hold _ (compareChecks first second) (named first, ((λ h. omega arith), (named second, ((λ h. omega arith), tt))));
+    })
+
+-- ---- judging ----
+
+pub judge-numbers : {policy : Policy} {rule : List ℕ} {originator : ℕ} {answer : Feasibility} {kept : List (List ℕ)}
+    → JudgesOne policy rule originator answer kept → JudgeNumbers policy rule originator (feasibilityTold answer)
+judge-numbers {policy} {rule} {originator} p =
+    let cs = judgeChecks policy rule originator in
+    let fifteen = apart-from rule 15 (omega arith) in
+    rw (p .tells) (record {
+      nine = number-at _ 9 (λ e. omega arith) cs 0 (refl, (apart-from rule 9 (omega arith), (refl, (refl, tt))));
+      one-to-seven = λ number place h k.
+          value-at _ number (λ e. omega arith) (checkRule rule) place cs 1 (far 9 number k (omega arith), (refl, (far 15 number k (omega arith), (far 8 number k (omega arith), tt))));
+      fifteen = number-at _ 15 (λ e. omega arith) cs 2 (refl, (fifteen, (refl, (refl, tt))));
+      eight = number-at _ 8 (λ e. omega arith) cs 3 (refl, (apart-from rule 8 (omega arith), (refl, (refl, tt))));
+      zero = all-hold _ cs ((λ h. omega arith), (named rule, ((λ h. omega arith), ((λ h. omega arith), tt))));
+    })
+
+-- ---- announcing ----
+
+pub announce-numbers : {policy : Policy} {a : Announcement} {table : List ℕ} {answer : Change} {exit : List ℕ} {kept : List (List ℕ)}
+    → Announces policy a table answer exit kept → AnnounceNumbers policy a table (changeTold answer)
+announce-numbers {policy} {a} {table} p =
+    let cs = announceChecks policy a table in
+    rw (p .tells) (record {
+      ten = number-at _ 10 (λ e. omega arith) cs 0 (refl, (refl, (apart-from (a .rule) 10 (omega arith), (refl, (refl, (refl, (refl, tt)))))));
+      nine = number-at _ 9 (λ e. omega arith) cs 1 (refl, (refl, (apart-from (a .rule) 9 (omega arith), (refl, (refl, (refl, (refl, tt)))))));
+      one-to-seven = λ number place h k.
+          value-at _ number (λ e. omega arith) (checkRule (a .rule)) place cs 2 (
+            far 10 number k (omega arith),
+            (
+              far 9 number k (omega arith),
+              (
+                refl,
+                (
+                  far 15 number k (omega arith),
+                  (far 13 number k (omega arith), (far 8 number k (omega arith), (far 11 number k (omega arith), tt))),
+                ),
+              ),
+            ),
+          );
+      fifteen = number-at _ 15 (λ e. omega arith) cs 3 (refl, (refl, (apart-from (a .rule) 15 (omega arith), (refl, (refl, (refl, (refl, tt)))))));
+      thirteen = number-at _ 13 (λ e. omega arith) cs 4 (refl, (refl, (apart-from (a .rule) 13 (omega arith), (refl, (refl, (refl, (refl, tt)))))));
+      eight = number-at _ 8 (λ e. omega arith) cs 5 (refl, (refl, (apart-from (a .rule) 8 (omega arith), (refl, (refl, (refl, (refl, tt)))))));
+      eleven = number-at _ 11 (λ e. omega arith) cs 6 (refl, (refl, (apart-from (a .rule) 11 (omega arith), (refl, (refl, (refl, (refl, tt)))))));
+      zero = all-hold _ cs ((λ h. omega arith), ((λ h. omega arith), (named (a .rule), ((λ h. omega arith), ((λ h. omega arith), ((λ h. omega arith), ((λ h. omega arith), tt)))))));
+    })
+
+-- ---- withdrawing ----
+
+pub withdraw-numbers : {rule table : List ℕ} {answer : Change} {exit : List ℕ} {kept : List (List ℕ)} → Withdraws rule table answer exit kept
+    → WithdrawNumbers rule table (changeTold answer)
+withdraw-numbers {rule} {table} p =
+    let cs = withdrawChecks rule table in
+    rw (p .tells) (record {
+      ten = number-at _ 10 (λ e. omega arith) cs 0 (refl, (apart-from rule 10 (omega arith), (refl, (refl, tt))));
+      one-to-seven = λ number place h k.
+          value-at _ number (λ e. omega arith) (checkRule rule) place cs 1 (far 10 number k (omega arith), (refl, (far 15 number k (omega arith), (far 14 number k (omega arith), tt))));
+      fifteen = number-at _ 15 (λ e. omega arith) cs 2 (refl, (apart-from rule 15 (omega arith), (refl, (refl, tt))));
+      fourteen = number-at _ 14 (λ e. omega arith) cs 3 (refl, (apart-from rule 14 (omega arith), (refl, (refl, tt))));
+      zero = all-hold _ cs ((λ h. omega arith), (named rule, ((λ h. omega arith), ((λ h. omega arith), tt))));
+    })
+
+-- ---- looking up ----
+
+lookup-numbers-of : (table packet values : List ℕ) → LookupNumbers table packet (told (lookupChecks table packet) values)
+lookup-numbers-of table packet values =
+    let cs = lookupChecks table packet in
+    let unusable = number-at values 12 (λ e. omega arith) cs 1 (refl, (refl, tt)) in
+    record {
+      ten = number-at values 10 (λ e. omega arith) cs 0 (refl, (refl, tt));
+      twelve = ((λ e. (unusable .0 e .0, not-false (isUnusable packet) (unusable .0 e .1))), (λ b. unusable .1 (b .0, rw (b .1))));
+      zero = all-hold values cs ((λ h. omega arith), ((λ h. omega arith), tt));
+    }
+
+pub lookup-numbers : {table packet : List ℕ} {answer : Looked} {kept : List (List ℕ)} → LooksUp table packet answer kept
+    → LookupNumbers table packet (lookupTold answer)
+lookup-numbers {table} {packet} p = rw (p .tells) (lookup-numbers-of table packet (lookupValues table packet))
+
+pub first-match-numbers : {table packet : List ℕ} {answer : MatchPlace} {kept : List (List ℕ)} → LocatesFirst table packet answer kept
+    → LookupNumbers table packet (matchPlaceTold answer)
+first-match-numbers {table} {packet} p = rw (p .tells) (lookup-numbers-of table packet (firstMatchValues table packet))

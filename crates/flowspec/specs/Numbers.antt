@@ -1,0 +1,115 @@
+-- 01's table of refusals, "given exactly when", call by call: where an answer has each number, and where it has the number 0. That the answers
+-- of the calls are such is shown in proofs/Numbers.antt, from their promises; what a value's own refusals 1 to 7 are is in ValueNumbers.antt.
+use Prim.Native.Nat.{ℕ, _≤_}
+use mathlib.Core.Path.{_≡_}
+use mathlib.Core.Bool.{Bool, true, false}
+use mathlib.Core.List.{List}
+use mathlib.Core.Logic.{_↔_, _⊎_}
+use lib.Dec.{leb}
+use lib.ListN.{length}
+use Rattle.octets.specs.Test.{Each}
+use Rattle.rule.specs.declared.Checked.{Checked}
+use Rattle.rule.specs.declared.Checked.the-variants.{Accepted, Refused}
+use Rattle.rule.specs.Family.{ipv4}
+use Rattle.rule.specs.Plain.{plain}
+use Rattle.rule.specs.Value.{checkValue}
+use Rattle.rule.specs.Writing.{ruleFor}
+use Rattle.order.specs.Key.{keysOf}
+use Rattle.route.specs.Route.{soundRoutes}
+use Rattle.action.specs.Actions.{actionsOf}
+use Rattle.packet.specs.Header.{isUnusable}
+use Rattle.table.specs.Sound.{soundTable}
+use Rattle.table.specs.Change.{holds, hasRoom}
+use Rattle.flowspec.specs.Input.{Announcement, Policy}
+use Rattle.flowspec.specs.Feasibility.{isFeasible}
+use Rattle.flowspec.specs.Told.{Told}
+use Rattle.flowspec.specs.Checks.{Check, oneToSeven, valueIn, checkRule, endsThere, isSound, entryIn, readChecks, writeChecks, compareChecks, judgeChecks, actionsChecks, announceChecks, withdrawChecks, lookupChecks}
+
+-- A test holds; it does not.
+abbrev pub Yes : Bool → Type 0
+Yes test = test ≡ true
+
+abbrev pub No : Bool → Type 0
+No test = test ≡ false
+
+-- None of the refusals 1 to 7.
+abbrev pub Accepts : Checked → Type 0
+Accepts checked = oneToSeven checked .holds ≡ true
+
+-- All checks of a list hold.
+abbrev pub AllHold : List Check → Type 0
+AllHold = Each (λ c. c .holds ≡ true)
+
+-- Refusals 1 to 7, each with its place: told exactly where a value is refused so, and what is checked before it holds.
+abbrev pub OneToSeven : Told → (ℕ → ℕ → Type 0) → Type 0
+OneToSeven answer exactly = (number place : ℕ) → 1 ≤ number → number ≤ 7 → ((answer .number ≡ number) × (answer .place ≡ place)) ↔ exactly number place
+
+-- Reading one rule.
+pub record ReadNumbers (rule : List ℕ) (answer : Told) : Type 0 where
+  pub one-to-seven : OneToSeven answer (λ number place. checkRule rule ≡ Refused number place)
+  pub fifteen : (answer .number ≡ 15) ↔ (Accepts (checkRule rule) × No (endsThere rule))
+  pub zero : (answer .number ≡ 0) ↔ AllHold (readChecks rule)
+
+-- Writing one rule.
+pub record WriteNumbers (value buffer : List ℕ) (answer : Told) : Type 0 where
+  pub one-to-seven : OneToSeven answer (λ number place. checkValue ipv4 value ≡ Refused number place)
+  pub sixteen : (answer .number ≡ 16) ↔ (Accepts (checkValue ipv4 value) × No (leb (length (ruleFor value)) (length buffer)))
+  pub zero : (answer .number ≡ 0) ↔ AllHold (writeChecks value buffer)
+
+-- Comparing two rules.
+pub record CompareNumbers (first second : List ℕ) (answer : Told) : Type 0 where
+  pub one-to-seven : OneToSeven answer (λ number place. (checkRule first ≡ Refused number place)
+      ⊎ (Accepts (checkRule first) × (Yes (endsThere first) × (checkRule second ≡ Refused number place))))
+  pub fifteen : (answer .number ≡ 15) ↔ ((Accepts (checkRule first) × No (endsThere first))
+      ⊎ (Accepts (checkRule first) × (Yes (endsThere first) × (Accepts (checkRule second) × No (endsThere second)))))
+  pub zero : (answer .number ≡ 0) ↔ AllHold (compareChecks first second)
+
+-- Judging one rule.
+pub record JudgeNumbers (policy : Policy) (rule : List ℕ) (originator : ℕ) (answer : Told) : Type 0 where
+  pub nine : (answer .number ≡ 9) ↔ No (soundRoutes 32 (policy .routes))
+  pub one-to-seven : OneToSeven answer (λ number place. Yes (soundRoutes 32 (policy .routes)) × (checkRule rule ≡ Refused number place))
+  pub fifteen : (answer .number ≡ 15) ↔ (Yes (soundRoutes 32 (policy .routes)) × (Accepts (checkRule rule) × No (endsThere rule)))
+  pub eight : (answer .number ≡ 8)
+      ↔ (Yes (soundRoutes 32 (policy .routes)) × (Accepts (checkRule rule) × (Yes (endsThere rule) × No (isFeasible policy (valueIn rule) originator))))
+  pub zero : (answer .number ≡ 0) ↔ AllHold (judgeChecks policy rule originator)
+
+-- Reading actions.
+pub record ActionsNumbers (communities : List ℕ) (answer : Told) : Type 0 where
+  pub thirteen : (answer .number ≡ 13) ↔ No (isSound (actionsOf communities))
+  pub zero : (answer .number ≡ 0) ↔ AllHold (actionsChecks communities)
+
+-- What an announcement has passed where the table, the routes and then its rule are in order.
+abbrev pub SoundBoth : Policy → List ℕ → Type 0 → Type 0
+SoundBoth policy table then = Yes (soundTable ipv4 table) × (Yes (soundRoutes 32 (policy .routes)) × then)
+
+abbrev pub OneRule : List ℕ → Type 0 → Type 0
+OneRule rule then = Accepts (checkRule rule) × (Yes (endsThere rule) × then)
+
+-- Announcing.
+pub record AnnounceNumbers (policy : Policy) (a : Announcement) (table : List ℕ) (answer : Told) : Type 0 where
+  pub ten : (answer .number ≡ 10) ↔ No (soundTable ipv4 table)
+  pub nine : (answer .number ≡ 9) ↔ (Yes (soundTable ipv4 table) × No (soundRoutes 32 (policy .routes)))
+  pub one-to-seven : OneToSeven answer (λ number place. SoundBoth policy table (checkRule (a .rule) ≡ Refused number place))
+  pub fifteen : (answer .number ≡ 15) ↔ SoundBoth policy table (Accepts (checkRule (a .rule)) × No (endsThere (a .rule)))
+  pub thirteen : (answer .number ≡ 13) ↔ SoundBoth policy table (OneRule (a .rule) (No (isSound (actionsOf (a .communities)))))
+  pub eight : (answer .number ≡ 8)
+      ↔ SoundBoth policy table (OneRule (a .rule) (Yes (isSound (actionsOf (a .communities))) × No (isFeasible policy (valueIn (a .rule)) (a .originator))))
+  pub eleven : (answer .number ≡ 11)
+      ↔ SoundBoth policy table (OneRule (a .rule) (Yes (isSound (actionsOf (a .communities)))
+      × (Yes (isFeasible policy (valueIn (a .rule)) (a .originator)) × No (hasRoom ipv4 table (entryIn a)))))
+  pub zero : (answer .number ≡ 0) ↔ AllHold (announceChecks policy a table)
+
+-- Withdrawing.
+pub record WithdrawNumbers (rule table : List ℕ) (answer : Told) : Type 0 where
+  pub ten : (answer .number ≡ 10) ↔ No (soundTable ipv4 table)
+  pub one-to-seven : OneToSeven answer (λ number place. Yes (soundTable ipv4 table) × (checkRule rule ≡ Refused number place))
+  pub fifteen : (answer .number ≡ 15) ↔ (Yes (soundTable ipv4 table) × (Accepts (checkRule rule) × No (endsThere rule)))
+  pub fourteen : (answer .number ≡ 14)
+      ↔ (Yes (soundTable ipv4 table) × OneRule rule (No (holds ipv4 table (keysOf ipv4 (plain (valueIn rule))))))
+  pub zero : (answer .number ≡ 0) ↔ AllHold (withdrawChecks rule table)
+
+-- Looking up, and finding the first match.
+pub record LookupNumbers (table packet : List ℕ) (answer : Told) : Type 0 where
+  pub ten : (answer .number ≡ 10) ↔ No (soundTable ipv4 table)
+  pub twelve : (answer .number ≡ 12) ↔ (Yes (soundTable ipv4 table) × Yes (isUnusable packet))
+  pub zero : (answer .number ≡ 0) ↔ AllHold (lookupChecks table packet)
