@@ -127,11 +127,16 @@ fn answer_actions(line: &[u8], octets: &mut [u8]) {
 
 // feasible SETTING ROUTES RULE ORIGINATOR: the setting is 00 or 01, and a route is four words.
 fn answer_feasible(line: &[u8], octets: &mut [u8], words: &mut [u32]) {
-    let setting = fields::number_of(line, 1) != 0;
+    let allows_no_destination = fields::number_of(line, 1) != 0;
     let count = fields::put_words(line, 2, octets, words);
     let end = put_octets(line, 3, octets);
     let originator = fields::number_of(line, 4);
-    match flowspec::judge_rule(setting, &words[..count], &octets[..end], originator) {
+    match flowspec::judge_rule(
+        allows_no_destination,
+        &words[..count],
+        &octets[..end],
+        originator,
+    ) {
         Feasibility::Feasible => print_refusal(0, 0),
         Feasibility::Refused { number, place } => print_refusal(number, place),
     }
@@ -201,11 +206,11 @@ fn answer_announce(line: &[u8], octets: &mut [u8], words: &mut [u32], table: &mu
 fn announce(line: &[u8], routes: &[u32], octets: &[u8], middle: usize, end: usize, table: &mut [u8])
     requires { ⌜ (middle ≤ end) × (end ≤ length (now octets)) ⌝ }
 {
-    let setting = fields::number_of(line, 1) != 0;
+    let allows_no_destination = fields::number_of(line, 1) != 0;
     let originator = fields::number_of(line, 4);
     let change = flowspec::announce(
         table,
-        setting,
+        allows_no_destination,
         routes,
         &octets[0..middle],
         originator,
