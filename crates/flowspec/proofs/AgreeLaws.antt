@@ -1,11 +1,11 @@
--- **Two histories** from equal empty tables that agree on each rule's last counted call, by its kind, originator and actions as read,
--- end in equal octets, and every packet has one verdict and one first match in both. Of what the calls were given only what their types
--- say is assumed (`EachCanBe`), and a buffer of at most 65,536 octets.
+-- **Demand 3, of two histories** (`EndAlike`): from equal empty buffers, if they agree on each rule's last counted call, by its kind,
+-- originator and actions as read, they end in equal octets, and every packet has one verdict and one first match in both. Of what the
+-- calls were given only what their types say is assumed (`FromEmpty`).
 use mathlib.Core.Path.{_≡_, refl, sym, _∙_}
 use mathlib.Core.Bool.{true, cond}
 use mathlib.Core.List.{List, [], _∷_}
 use mathlib.Core.Option.{Option, none, some}
-use Prim.Native.Nat.{ℕ, _-_, _≤_, Ordering, Ordering·lt, Ordering·eq, Ordering·gt}
+use Prim.Native.Nat.{ℕ, Ordering, Ordering·lt, Ordering·eq, Ordering·gt}
 use lib.Dec.{isEq}
 use Rattle.octets.proofs.Cases.{by-test, apart, both}
 use Rattle.octets.proofs.Facts.{Octets}
@@ -21,18 +21,25 @@ use Rattle.order.proofs.KeyLaws.{key-order, keys-only, keys-plain}
 use Rattle.action.specs.declared.Reading.the-variants.{Read}
 use Rattle.action.specs.Actions.{actionsOf}
 use Rattle.entry.specs.Entry.{entryKey}
-use Rattle.table.specs.Sound.{mostOctets}
-use Rattle.flowspec.specs.declared.Looked.{Looked}
 use Rattle.flowspec.specs.declared.Request.{Request}
 use Rattle.flowspec.specs.declared.Request.the-variants.{Announce, Refused as NotAsked}
 use Rattle.flowspec.specs.Input.{Announcement, Policy}
 use Rattle.flowspec.specs.Announce.{asked}
-use Rattle.flowspec.specs.Promise.{LooksUp, FirstMatches}
-use Rattle.flowspec.specs.History.{Call, announcement, withdrawal, Made, CanBe, EachCanBe, deed, deedOf, asksToAnnounce, asksToWithdraw, asks, Happened, askedOf, numberOf, lastCounted, Agree, endOf, emptyTable}
+use Rattle.flowspec.specs.History.{Call, announcement, withdrawal, Made, CanBe, EachCanBe, deed, deedOf, asksToAnnounce, asksToWithdraw, asks, askedOf, numberOf, lastCounted, Agree, endOf, emptyTable, FromEmpty, EndAlike}
 use Rattle.flowspec.proofs.AskLaws.{asked-from}
 use Rattle.flowspec.proofs.HistoryLaws.{octets-value, histories-agree}
 use Rattle.flowspec.proofs.PlainLaws.{feasible-alone}
 use Rattle.flowspec.proofs.Unique.{one-lookup, one-first-match}
+
+-- equal octets judge every packet alike
+end-alike : (table other : List ℕ) → table ≡ other → EndAlike table other
+end-alike table other e =
+    record {
+      octets = e;
+      verdicts = λ packet a b k l x y. one-lookup k l other packet a b (rw e at x) y .0;
+      matches = λ packet part rest lent stands stood k l x y.
+          let one = one-first-match k l other packet lent part rest stands stood (rw e at x) y in (one .0, one .1 .0);
+    }
 
 tie : (o : Ordering) → isEq o ≡ true → o ≡ Ordering·eq
 tie Ordering·lt e = apart (cc)
@@ -105,23 +112,12 @@ module _ (policy : Policy) where
       let deeds : deed (m .call) ≡ deed (l .call) = cc in
       same-in-force k (m .call) (l .call) s z deeds
 
-  module _ (n : ℕ) (fits : n ≤ mostOctets) (h g : List Made) (can : EachCanBe h) (also : EachCanBe g)
-      (made : Happened policy (emptyTable n) h) (too : Happened policy (emptyTable n) g) (agree : Agree policy h g) where
-    -- **equal octets**
-    pub equal-octets : endOf (emptyTable n) h ≡ endOf (emptyTable n) g
-    equal-octets =
-        histories-agree policy n fits h g can also made too
-        (λ k.
-        same-last k (lastCounted policy k h) (lastCounted policy k g) (last-settled k h none can tt) (last-settled k g none also tt) (agree k))
-
-    -- **one verdict**, with one count and one set of merged actions, on every packet
-    pub equal-verdicts : (packet : List ℕ) (a b : Looked) (k l : List (List ℕ)) → LooksUp (endOf (emptyTable n) h) packet a k
-        → LooksUp (endOf (emptyTable n) g) packet b l → a ≡ b
-    equal-verdicts packet a b k l x y = one-lookup k l (endOf (emptyTable n) g) packet a b (rw equal-octets at x) y .0
-
-    -- **one first match**: the octets given back are equal too, and stand at one place of tables that stand at one place
-    pub equal-matches : (packet part other : List ℕ) (lent stands stood : ℕ × ℕ) (k l : List (List ℕ))
-        → FirstMatches (endOf (emptyTable n) h) packet lent part stands k → FirstMatches (endOf (emptyTable n) g) packet lent other stood l
-        → (part ≡ other) × (stands ≡ stood)
-    equal-matches packet part other lent stands stood k l x y =
-        let one = one-first-match k l (endOf (emptyTable n) g) packet lent part other stands stood (rw equal-octets at x) y in (one .0, one .1 .0)
+  -- **two histories** from equal empty buffers that agree on each rule's last counted call end alike
+  pub histories-alike : (n : ℕ) (h g : List Made) → FromEmpty policy n h → FromEmpty policy n g → Agree policy h g
+      → EndAlike (endOf (emptyTable n) h) (endOf (emptyTable n) g)
+  histories-alike n h g made also agree =
+      end-alike (endOf (emptyTable n) h) (endOf (emptyTable n) g)
+      (histories-agree policy n h g made also
+      (λ k.
+      same-last k (lastCounted policy k h) (lastCounted policy k g) (last-settled k h none (made .given) tt) (last-settled k g none (also .given) tt)
+      (agree k)))

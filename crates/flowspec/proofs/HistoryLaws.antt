@@ -1,12 +1,11 @@
--- **Demand 3.** From an all-zero buffer of at most 65,536 octets that only these calls write: after any history the table holds exactly the entries that each
--- rule's last counted call left in force, once, in precedence order; so that two histories which leave the same in force end in equal
--- octets, and judge every packet alike. A call that is answered 11 changes nothing and does not count, so that nothing is asked of those.
+-- **Demand 3** (`HoldsExactly`): from an all-zero buffer of at most 65,536 octets that only these calls write, after any history the table
+-- holds exactly the entries that each rule's last counted call left in force, once, in precedence order; so that two histories which
+-- leave the same in force end in equal octets. A call that is answered 11 changes nothing and does not count, so that nothing is asked
+-- of those.
 use mathlib.Core.Path.{_≡_, refl, sym, ap, ap₂, subst, _∙_}
 use mathlib.Core.Bool.{Bool, true, false}
-use mathlib.Core.List.{List, [], _∷_, List·Memᴰ}
-use mathlib.Core.Logic.{_↔_}
-use mathlib.Core.Option.{some}
-use Prim.Native.Nat.{ℕ, _+_, _-_, _^_, _<_, _≤_}
+use mathlib.Core.List.{List, [], _∷_}
+use Prim.Native.Nat.{ℕ, _+_, _^_, _<_, _≤_}
 use native.Mathlib.Nat.{add-sub-cancel-left, sub-zero}
 use native.Mathlib.Omega.{arith}
 use lib.Dec.{leb}
@@ -44,7 +43,7 @@ use Rattle.flowspec.specs.declared.Request.{Request}
 use Rattle.flowspec.specs.declared.Request.the-variants.{Announce, Refused as NotAsked}
 use Rattle.flowspec.specs.Input.{Announcement, Policy}
 use Rattle.flowspec.specs.Announce.{announcedEntry, Outcome, changeOf, outcome, asked, announcedBy, announcing, withdrawnBy, withdrawing}
-use Rattle.flowspec.specs.History.{Call, announcement, withdrawal, Made, CanBe, EachCanBe, asksToAnnounce, asksToWithdraw, asks, Promised, Happened, askedOf, numberOf, inForceAfter, endOf, emptyTable}
+use Rattle.flowspec.specs.History.{Call, announcement, withdrawal, Made, CanBe, EachCanBe, asksToAnnounce, asksToWithdraw, asks, Promised, Happened, askedOf, numberOf, inForceAfter, endOf, emptyTable, FromEmpty, HoldsExactly}
 use Rattle.flowspec.specs.Told.{changeTold}
 use Rattle.flowspec.proofs.AskLaws.{asked-from}
 
@@ -195,35 +194,34 @@ empty-encodes n h =
     let long = long-empty n in
     record { short = omega arith; room = omega arith; each = refl; rising = tt; is = rw (long, sub-zero n) }
 
-module _ (policy : Policy) (n : ℕ) (fits : n ≤ mostOctets) where
+module _ (policy : Policy) (n : ℕ) where
   -- the table after a history that began at an empty table
   abbrev pub after : List Made → List ℕ
   after h = endOf (emptyTable n) h
 
-  module _ (h : List Made) (can : EachCanBe h) (made : Happened policy (emptyTable n) h) where
+  module _ (h : List Made) (made : FromEmpty policy n h) where
     abbrev left : List Entry
     left = run keyOrder (entryKey ipv4) cost n (askedOf policy) h []
 
     followed : Follows policy n h (emptyTable n) []
-    followed = follows policy n h (emptyTable n) [] (empty-encodes n fits) (long-empty n) can made
+    followed = follows policy n h (emptyTable n) [] (empty-encodes n (made .fits)) (long-empty n) (made .given) (made .happened)
 
     entries-left : entries (after h) ≡ left
     entries-left = encodes-entries ipv4 (after h) left (followed .encodes)
 
-    -- **the table is sound**: its octets are the records of its entries, which stand once each, in precedence order, and zeros
-    pub history-sound : Encodes ipv4 (after h) (entries (after h))
-    history-sound = rw entries-left (followed .encodes)
-
-    -- **the table holds exactly what is in force**: an entry stands in it where it is what its rule's last counted call left in force
-    pub history-holds : (e : Entry) → List·Memᴰ e (entries (after h)) ↔ (inForceAfter policy h (entryKey ipv4 e) ≡ some e)
-    history-holds e =
-        rw entries-left (run-holds keyOrder (entryKey ipv4) cost n (askedOf policy) numberOf key-order h (followed .ran) e)
+    -- **the table holds exactly what is in force**
+    pub history-holds : HoldsExactly policy h (after h)
+    history-holds =
+        record {
+          exactly = λ e. rw entries-left (run-holds keyOrder (entryKey ipv4) cost n (askedOf policy) numberOf key-order h (followed .ran) e);
+          sound = rw entries-left (followed .encodes);
+        }
 
   -- **two histories** that leave the same in force for every rule end in equal octets
-  pub histories-agree : (h g : List Made) → EachCanBe h → EachCanBe g → Happened policy (emptyTable n) h → Happened policy (emptyTable n) g
+  pub histories-agree : (h g : List Made) → FromEmpty policy n h → FromEmpty policy n g
       → ((k : RuleKey) → inForceAfter policy h k ≡ inForceAfter policy g k) → after h ≡ after g
-  histories-agree h g can also made too agree =
-      let first = followed h can made in
-      let second = followed g also too in
+  histories-agree h g made also agree =
+      let first = followed h made in
+      let second = followed g also in
       let same = run-agree keyOrder (entryKey ipv4) cost n (askedOf policy) numberOf key-order h g (first .ran) (second .ran) agree in
       first .encodes .is ∙ ap₂ tableOf (first .long ∙ sym (second .long)) same ∙ sym (second .encodes .is)

@@ -11,6 +11,7 @@ pub mod Refusals
 pub mod Examples
 pub mod HistoryLaws
 pub mod AgreeLaws
+pub mod Happens
 pub mod RoomLaws
 pub mod OperatorTheorems
 pub mod PlainLaws

@@ -2,7 +2,7 @@
 -- withdrawing after it is done, and leaves what withdrawing alone would have left; and two announcements of different rules, done in
 -- either order, leave equal octets. Of what a call is given only what its types say is assumed (`CanBe`).
 use mathlib.Core.Path.{_≡_, refl, sym, ap, ap₂, _∙_}
-use mathlib.Core.Bool.{Bool, true, false}
+use mathlib.Core.Bool.{true, false}
 use mathlib.Core.List.{List}
 use Prim.Native.Nat.{ℕ, _^_, _<_, Ordering·eq}
 use lib.ListN.{length}

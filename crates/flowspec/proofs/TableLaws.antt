@@ -67,7 +67,7 @@ module _ (t : List ℕ) (s : Soundness) (is : s ≡ soundness ipv4 t) where
 
 module _ (policy : Policy) (a : Announcement) (t : List ℕ) where
   -- a promise from the equation for the outcome
-  announce-kept : (o : Outcome) (answer : Change) (exit : List ℕ) → announcing policy a t ≡ o → answer ≡ o .answer → exit ≡ o .table
+  pub announce-kept : (o : Outcome) (answer : Change) (exit : List ℕ) → announcing policy a t ≡ o → answer ≡ o .answer → exit ≡ o .table
       → Announces policy a t answer exit (policy .routes ∷ a .rule ∷ a .communities ∷ [])
   announce-kept o answer exit e h x =
       let q : answer ≡ announcing policy a t .answer = rw e h in
@@ -105,7 +105,7 @@ module _ (policy : Policy) (a : Announcement) (t : List ℕ) where
 -- ---- withdrawing ----
 
 module _ (rule t : List ℕ) where
-  withdraw-kept : (o : Outcome) (answer : Change) (exit : List ℕ) → withdrawing rule t ≡ o → answer ≡ o .answer → exit ≡ o .table → Withdraws rule t answer exit (rule ∷ [])
+  pub withdraw-kept : (o : Outcome) (answer : Change) (exit : List ℕ) → withdrawing rule t ≡ o → answer ≡ o .answer → exit ≡ o .table → Withdraws rule t answer exit (rule ∷ [])
   withdraw-kept o answer exit e a x =
       let q : answer ≡ withdrawing rule t .answer = rw e a in
       record { is = q; tells = ap changeTold q ∙ withdraw-tells rule t; leaves = rw e x; keeps = refl }

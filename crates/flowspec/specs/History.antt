@@ -1,8 +1,9 @@
 -- Histories: calls that change one table, each with its answer and the octets it left. A rule is known by its key: two rules have one key
 -- exactly when their plain spellings are equal (crate order, KeyLaws: `keys-only` and `keys-same`).
-use Prim.Native.Nat.{ℕ, _^_, _<_}
+use Prim.Native.Nat.{ℕ, _^_, _<_, _≤_}
 use mathlib.Core.Path.{_≡_}
-use mathlib.Core.List.{List, [], _∷_}
+use mathlib.Core.List.{List, [], _∷_, List·Memᴰ}
+use mathlib.Core.Logic.{_↔_}
 use mathlib.Core.Option.{Option, none, some}
 use lib.ListN.{replicate}
 use Rattle.octets.specs.Number.{Octets}
@@ -18,13 +19,16 @@ use Rattle.order.specs.Key.{RuleKey, keysOf, keyOrder}
 use Rattle.action.specs.declared.Reading.{Reading as ActionsReading}
 use Rattle.action.specs.Actions.{actionsOf}
 use Rattle.entry.specs.Entry.{Entry, entryKey}
+use Rattle.table.specs.Walk.{entries}
+use Rattle.table.specs.Sound.{Encodes, mostOctets}
 use Rattle.flowspec.specs.declared.Change.{Change}
+use Rattle.flowspec.specs.declared.Looked.{Looked}
 use Rattle.flowspec.specs.declared.Request.{Request}
 use Rattle.flowspec.specs.declared.Request.the-variants.{Announce, Refused as NotAsked}
 use Rattle.flowspec.specs.Input.{Announcement, Policy}
-use Rattle.flowspec.specs.Announce.{announcedEntry, asked}
+use Rattle.flowspec.specs.Announce.{announcedEntry, asked, Outcome, announcing, withdrawing}
 use Rattle.flowspec.specs.Told.{changeTold}
-use Rattle.flowspec.specs.Promise.{Announces, Withdraws}
+use Rattle.flowspec.specs.Promise.{Announces, Withdraws, LooksUp, FirstMatches}
 
 -- An empty table: a buffer of n octets, all zero.
 abbrev pub emptyTable : ℕ → List ℕ
@@ -81,6 +85,11 @@ abbrev pub deedOf : Option Made → Option Deed
 deedOf none = none
 deedOf (some m) = some (deed (m .call))
 
+-- The table at the end of a history.
+abbrev pub endOf : List ℕ → List Made → List ℕ
+endOf table [] = table
+endOf table (m ∷ h) = endOf (m .left) h
+
 module _ (policy : Policy) where
   -- What a call asks of a table, by its kind.
   abbrev pub asks : Call → Op RuleKey Entry
@@ -96,6 +105,20 @@ module _ (policy : Policy) where
   abbrev pub Happened : List ℕ → List Made → Type 0
   Happened table [] = Unit {0}
   Happened table (m ∷ h) = Promised (m .call) table (m .answer) (m .left) × Happened (m .left) h
+
+  -- What a call answers and leaves on a table.
+  abbrev pub outcomeOf : Call → List ℕ → Outcome
+  outcomeOf (announcement a) table = announcing policy a table
+  outcomeOf (withdrawal rule) table = withdrawing rule table
+
+  -- A call as it is made on a table.
+  abbrev pub madeOn : Call → List ℕ → Made
+  madeOn call table = record { call = call; answer = outcomeOf call table .answer; left = outcomeOf call table .table }
+
+  -- The history of calls that are made one after the other, from a table on.
+  abbrev pub historyOf : List ℕ → List Call → List Made
+  historyOf table [] = []
+  historyOf table (call ∷ calls) = madeOn call table ∷ historyOf (outcomeOf call table .table) calls
 
   -- What a call that was made asked of its table.
   abbrev pub askedOf : Made → Op RuleKey Entry
@@ -114,7 +137,23 @@ module _ (policy : Policy) where
   abbrev pub Agree : List Made → List Made → Type 0
   Agree h g = (k : RuleKey) → deedOf (lastCounted k h) ≡ deedOf (lastCounted k g)
 
--- The table at the end of a history.
-abbrev pub endOf : List ℕ → List Made → List ℕ
-endOf table [] = table
-endOf table (m ∷ h) = endOf (m .left) h
+  -- A history that began at an empty table, in a buffer of n octets that only its calls wrote.
+  pub record FromEmpty (n : ℕ) (h : List Made) : Type 0 where
+    pub fits : n ≤ mostOctets
+    pub given : EachCanBe h
+    pub happened : Happened (emptyTable n) h
+
+  -- **Demand 3**, of a table after a history: it "holds exactly the rules whose last counted call was a feasible announcement, each with
+  -- that call's actions" (`exactly`), "once, in precedence order" (`sound`: its octets are the records of its entries, whose keys rise
+  -- strictly, and zeros).
+  pub record HoldsExactly (h : List Made) (table : List ℕ) : Type 0 where
+    pub exactly : (e : Entry) → List·Memᴰ e (entries table) ↔ (inForceAfter h (entryKey ipv4 e) ≡ some e)
+    pub sound : Encodes ipv4 table (entries table)
+
+-- **Demand 3**, of two tables: they are "equal bytes and judge every packet alike", with one verdict, which has one count and one set of
+-- actions, and one first match, which stands at one place of tables that stand at one place.
+pub record EndAlike (table other : List ℕ) : Type 0 where
+  pub octets : table ≡ other
+  pub verdicts : (packet : List ℕ) (a b : Looked) (k l : List (List ℕ)) → LooksUp table packet a k → LooksUp other packet b l → a ≡ b
+  pub matches : (packet part rest : List ℕ) (lent stands stood : ℕ × ℕ) (k l : List (List ℕ)) → FirstMatches table packet lent part stands k
+      → FirstMatches other packet lent rest stood l → (part ≡ rest) × (stands ≡ stood)
