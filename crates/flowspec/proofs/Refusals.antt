@@ -1,32 +1,62 @@
--- **No refusal but 8 changes an octet** of a table: an announcement or a withdrawal that answers another number than 0 and 8 leaves
--- the table as it was. Assumes nothing.
-use mathlib.Core.Path.{_≡_, refl, sym, _∙_}
+-- **No refusal but 8 changes an octet** of a table: a withdrawal that is refused, and an announcement that is refused with another number than 8,
+-- leave the table as it was; and **8 changes nothing else** than that it removes a held equal rule. Assumes nothing.
+use mathlib.Core.Path.{_≡_, refl, sym, ap, _∙_}
 use mathlib.Core.Bool.{Bool, true, false}
-use mathlib.Core.List.{List}
+use mathlib.Core.List.{List, [], _∷_, _++_, List·Memᴰ}
+use mathlib.Core.Logic.{_⊎_, inl, inr}
+use mathlib.Core.Option.{Option, none, some}
 use Prim.Native.Nat.{ℕ}
+use native.Mathlib.Omega.{arith}
+use lib.ListN.{length}
 use Rattle.octets.proofs.Cases.{by-test, apart}
+use Rattle.octets.proofs.Facts.{Octets}
+use Rattle.sorted.specs.Table.{lookup}
+use Rattle.sorted.proofs.SplitLaws.{front, rear, skip, front-rear, held-split, remove-split}
+use Rattle.sorted.proofs.MemberLaws.{every-in, found-in, in-found}
+use Rattle.rule.specs.declared.Checked.the-variants.{Accepted}
 use Rattle.rule.specs.declared.Reading.{Reading}
 use Rattle.rule.specs.declared.Reading.the-variants.{Rule, Refused as NotRead}
 use Rattle.rule.specs.Family.{ipv4}
 use Rattle.rule.specs.Plain.{plain}
-use Rattle.rule.specs.Reading.{valueOf, oneRule}
-use Rattle.order.specs.Key.{keysOf}
-use Rattle.entry.specs.Entry.{Entry}
-use Rattle.table.specs.Sound.{soundTable}
-use Rattle.table.specs.Change.{holds, hasRoom, announced, withdrawn}
+use Rattle.rule.specs.Value.{checkValue}
+use Rattle.rule.specs.Reading.{fieldSize, fieldLength, valueOf, oneRule}
+use Rattle.rule.proofs.ClearedLaws.{octets-plain, plain-again}
+use Rattle.rule.proofs.SpellingLaws.{check-plain}
+use Rattle.rule.proofs.ReadingLaws.{one-read, one-refused}
+use Rattle.order.specs.Key.{RuleKey, keysOf, keyOrder}
+use Rattle.order.proofs.KeyLaws.{key-order, keys-only}
+use Rattle.action.specs.declared.Reading.{Reading as ActionsReading}
+use Rattle.action.specs.declared.Reading.the-variants.{Read, Unsound}
+use Rattle.action.specs.Actions.{actionsOf}
+use Rattle.entry.specs.Entry.{Entry, entryKey, possible}
+use Rattle.entry.proofs.ValueLaws.{is-possible}
+use Rattle.table.specs.Walk.{entries}
+use Rattle.table.specs.Sound.{tableOf, soundTable, Encodes}
+use Rattle.table.specs.Change.{holds, removed, hasRoom, announced, withdrawn}
+use Rattle.table.proofs.ChangeLaws.{encoded, removed-none, value-octets}
 use Rattle.flowspec.specs.declared.Request.{Request}
 use Rattle.flowspec.specs.declared.Request.the-variants.{Announce, Refused as NotAsked}
 use Rattle.flowspec.specs.declared.Change.{Change}
 use Rattle.flowspec.specs.declared.Change.the-variants.{Done, Refused}
 use Rattle.flowspec.specs.Input.{Announcement, Policy}
-use Rattle.flowspec.specs.Announce.{announcedEntry, Outcome, changeOf, outcome, asked, announcedBy, announcing, withdrawnBy, withdrawing}
+use Rattle.flowspec.specs.Feasibility.{readWithRoutes, isFeasible}
+use Rattle.flowspec.specs.Announce.{announcedEntry, Outcome, changeOf, outcome, askedBy, asked, announcedBy, announcing, withdrawnBy, withdrawing}
+use Rattle.flowspec.specs.Told.{Told, done, refused, changeTold}
+use Rattle.flowspec.specs.Checks.{valueIn, checkRule, endsThere, isSound}
+use Rattle.flowspec.specs.Numbers.{Yes, No, Accepts, SoundBoth, OneRule}
 use Rattle.flowspec.specs.Promise.{Announces, Withdraws}
+use Rattle.flowspec.proofs.ToldLaws.{read-first}
+use Rattle.flowspec.proofs.Numbers.{announce-numbers}
+use Rattle.flowspec.proofs.HistoryLaws.{octets-value}
 
--- an outcome leaves the table as it was, unless it is done or 8
-abbrev Unchanged : List ℕ → Outcome → Type 0
-Unchanged t o = (number place : ℕ) → o .answer ≡ Refused number place → (number ≡ 8 → ⊥) → o .table ≡ t
+-- an outcome leaves the table as it was where it is refused; where it is refused with another number than 8
+abbrev Keeps : List ℕ → Outcome → Type 0
+Keeps t o = (number place : ℕ) → o .answer ≡ Refused number place → o .table ≡ t
 
-changed : (t : List ℕ) (e : Entry) (feasible : Bool) → Unchanged t (outcome (announced ipv4 t e feasible))
+abbrev KeepsButAt8 : List ℕ → Outcome → Type 0
+KeepsButAt8 t o = (number place : ℕ) → o .answer ≡ Refused number place → (number ≡ 8 → ⊥) → o .table ≡ t
+
+changed : (t : List ℕ) (e : Entry) (feasible : Bool) → KeepsButAt8 t (outcome (announced ipv4 t e feasible))
 unfolding changeOf
 changed t e true number place h n =
     by-test (hasRoom ipv4 t e) (λ r. let z : Done ≡ Refused number place = rw r at h in apart (cc)) (λ r. rw r)
@@ -35,35 +65,125 @@ changed t e false number place h n =
     let eight : number ≡ 8 = cc in
     absurd (n eight)
 
-withdrew : (t : List ℕ) (k : List (List ℕ)) → Unchanged t (outcome (withdrawn ipv4 t k))
+withdrew : (t : List ℕ) (k : RuleKey) → Keeps t (outcome (withdrawn ipv4 t k))
 unfolding changeOf withdrawn
-withdrew t k number place h n =
+withdrew t k number place h =
     by-test (holds ipv4 t k) (λ r. let z : Done ≡ Refused number place = rw r at h in apart (cc)) (λ r. rw r)
 
-pub announce-keeps : (policy : Policy) (a : Announcement) (t : List ℕ) → Unchanged t (announcing policy a t)
+announce-keeps : (policy : Policy) (a : Announcement) (t : List ℕ) → KeepsButAt8 t (announcing policy a t)
 unfolding announcing
 announce-keeps policy a t =
     by-test (soundTable ipv4 t) (λ s. rw s (go (asked policy a))) (λ s. rw s (λ number place h n. refl))
   where
-    go : (r : Request) → Unchanged t (announcedBy a t r)
+    go : (r : Request) → KeepsButAt8 t (announcedBy a t r)
     go (Announce start size actions feasible) = changed t (announcedEntry a start size actions) feasible
     go (NotAsked number place) = λ m p h n. refl
 
-pub withdraw-keeps : (rule t : List ℕ) → Unchanged t (withdrawing rule t)
+withdraw-keeps : (rule t : List ℕ) → Keeps t (withdrawing rule t)
 unfolding withdrawing
-withdraw-keeps rule t = by-test (soundTable ipv4 t) (λ s. rw s (go (oneRule ipv4 rule))) (λ s. rw s (λ number place h n. refl))
+withdraw-keeps rule t = by-test (soundTable ipv4 t) (λ s. rw s (go (oneRule ipv4 rule))) (λ s. rw s (λ number place h. refl))
   where
-    go : (r : Reading) → Unchanged t (withdrawnBy t rule r)
+    go : (r : Reading) → Keeps t (withdrawnBy t rule r)
     go (Rule start size) = withdrew t (keysOf ipv4 (plain (valueOf rule start size)))
-    go (NotRead number place) = λ m p h n. refl
+    go (NotRead number place) = λ m p h. refl
 
--- the same of the calls, by their promises
+-- **No refusal but 8 changes an octet**, of the calls by their promises.
 pub refused-announcement : (policy : Policy) (a : Announcement) (t : List ℕ) (answer : Change) (exit : List ℕ) (kept : List (List ℕ))
-    → Announces policy a t answer exit kept → (number place : ℕ) → answer ≡ Refused number place → (number ≡ 8 → ⊥)
-    → exit ≡ t
+    → Announces policy a t answer exit kept → (number place : ℕ) → answer ≡ Refused number place → (number ≡ 8 → ⊥) → exit ≡ t
 refused-announcement policy a t answer exit kept p number place e n =
     p .leaves ∙ announce-keeps policy a t number place (sym (p .is) ∙ e) n
 
 pub refused-withdrawal : (rule t : List ℕ) (answer : Change) (exit : List ℕ) (kept : List (List ℕ)) → Withdraws rule t answer exit kept
-    → (number place : ℕ) → answer ≡ Refused number place → (number ≡ 8 → ⊥) → exit ≡ t
-refused-withdrawal rule t answer exit kept p number place e n = p .leaves ∙ withdraw-keeps rule t number place (sym (p .is) ∙ e) n
+    → (number place : ℕ) → answer ≡ Refused number place → exit ≡ t
+refused-withdrawal rule t answer exit kept p number place e = p .leaves ∙ withdraw-keeps rule t number place (sym (p .is) ∙ e)
+
+-- ---- 8 ----
+
+-- no entry of a table has a value
+abbrev pub NotHeld : List ℕ → List ℕ → Type 0
+NotHeld t value = (e : Entry) → List·Memᴰ e (entries t) → e .value ≡ value → ⊥
+
+-- a table has an entry of a value, and another table is the same without that entry's record
+pub record Without (t value exit : List ℕ) : Type 0 where
+  pub before : List Entry
+  pub held : Entry
+  pub behind : List Entry
+  pub equal : held .value ≡ value
+  pub had : entries t ≡ before ++ held ∷ behind
+  pub was : t ≡ tableOf (length t) (before ++ held ∷ behind)
+  pub is : exit ≡ tableOf (length t) (before ++ behind)
+
+-- what taking a value's rule out of a table leaves
+module _ (t : List ℕ) (octets : Octets t) (sound : soundTable ipv4 t ≡ true) (v : List ℕ) (o : Octets v) (ok : checkValue ipv4 v ≡ Accepted) where
+  abbrev key : RuleKey
+  key = keysOf ipv4 (plain v)
+
+  taken-out : (NotHeld t (plain v) × (removed ipv4 t key ≡ t)) ⊎ Without t (plain v) (removed ipv4 t key)
+  unfolding holds removed
+  taken-out = go (lookup keyOrder (entryKey ipv4) key (entries t)) refl
+    where
+      here : Encodes ipv4 t (entries t)
+      here = encoded t octets sound
+
+      absent : lookup keyOrder (entryKey ipv4) key (entries t) ≡ none → NotHeld t (plain v)
+      absent e x m q =
+          let f = in-found keyOrder (entryKey ipv4) key-order x (entries t) (here .rising) m in
+          let z : some x ≡ none = sym f ∙ rw q e in
+          apart (cc)
+
+      go : (l : Option Entry) → lookup keyOrder (entryKey ipv4) key (entries t) ≡ l
+          → (NotHeld t (plain v) × (removed ipv4 t key ≡ t)) ⊎ Without t (plain v) (removed ipv4 t key)
+      go none e = inl (absent e, removed-none t octets sound key (rw e))
+      go (some y) e =
+          let found = found-in keyOrder (entryKey ipv4) key-order key y (entries t) e in
+          let old = is-possible ipv4 y (every-in (possible ipv4) (entries t) (here .each) y (found .0)) .value in
+          let split = held-split keyOrder (entryKey ipv4) key (entries t) y e in
+          let all : entries t ≡ front keyOrder (entryKey ipv4) key (entries t) ++ y ∷ skip keyOrder (entryKey ipv4) key (rear keyOrder (entryKey ipv4) key (entries t))
+          = sym (rw (← split) (front-rear keyOrder (entryKey ipv4) key (entries t))) in
+          let same = keys-only ipv4 4 refl (y .value) (plain v) (value-octets t (entries t) here key y e octets) (octets-plain v o) (old .accepted) (check-plain ipv4 v o ∙ ok) (found .1) in
+          inr (record {
+            before = front keyOrder (entryKey ipv4) key (entries t);
+            held = y;
+            behind = skip keyOrder (entryKey ipv4) key (rear keyOrder (entryKey ipv4) key (entries t));
+            equal = sym (old .spelled) ∙ same ∙ plain-again v o;
+            had = all;
+            was = here .is ∙ ap (tableOf (length t)) all;
+            is = ap (tableOf (length t)) (remove-split keyOrder (entryKey ipv4) key (entries t));
+          })
+
+-- a rule that is accepted and ends there is read
+one-rule-is : (rule : List ℕ) → Accepts (checkRule rule) → Yes (endsThere rule) → oneRule ipv4 rule ≡ Rule (fieldSize rule) (fieldLength rule)
+one-rule-is rule accepts ends = go (oneRule ipv4 rule) refl
+  where
+    go : (r : Reading) → oneRule ipv4 rule ≡ r → oneRule ipv4 rule ≡ Rule (fieldSize rule) (fieldLength rule)
+    go (Rule start size) e = let r = one-read ipv4 rule start size e in e ∙ rw (r .field, r .tells)
+    go (NotRead number place) e =
+        let first = rw e at (read-first rule [] []) in
+        let told : done [] ≡ refused number place 0 = rw (accepts, ends) at first in
+        let z : 0 ≡ number = ap (λ (x : Told). x .number) told in
+        let listed = one-refused ipv4 rule number place e in
+        absurd (omega arith)
+
+module _ (policy : Policy) (a : Announcement) (t : List ℕ) where
+  -- what 8 leaves is the table without the rule
+  eight-leaves : SoundBoth policy t (OneRule (a .rule) (Yes (isSound (actionsOf (a .communities))) × No (isFeasible policy (valueIn (a .rule)) (a .originator))))
+      → announcing policy a t .table ≡ removed ipv4 t (keysOf ipv4 (plain (valueIn (a .rule))))
+  unfolding announcing asked readWithRoutes
+  eight-leaves (sound, (routes, (accepts, (ends, (acts, not))))) =
+      rw (sound, routes, one-rule-is (a .rule) accepts ends) (go (actionsOf (a .communities)) acts)
+    where
+      go : (c : ActionsReading) → isSound c ≡ true
+          → announcedBy a t (askedBy policy a (Rule (fieldSize (a .rule)) (fieldLength (a .rule))) c) .table ≡ removed ipv4 t (keysOf ipv4 (plain (valueIn (a .rule))))
+      go (Read actions) e = rw not
+      go Unsound e = apart (cc)
+
+  -- **8 changes nothing else.** 01: "Refusals change nothing, except that 8 removes a held equal rule": a rule that is not held leaves the table as
+  -- it was, and a held one leaves it exactly without that record.
+  pub eight-removes : Octets t → Octets (a .rule) → (answer : Change) (exit : List ℕ) (kept : List (List ℕ)) → Announces policy a t answer exit kept
+      → changeTold answer .number ≡ 8
+      → (NotHeld t (plain (valueIn (a .rule))) × (exit ≡ t)) ⊎ Without t (plain (valueIn (a .rule))) exit
+  eight-removes octets o answer exit kept p e =
+      let passed = announce-numbers p .eight .0 e in
+      let rule = one-rule-is (a .rule) (passed .1 .1 .0) (passed .1 .1 .1 .0) in
+      let accepted = one-read ipv4 (a .rule) (fieldSize (a .rule)) (fieldLength (a .rule)) rule .accepted in
+      rw (p .leaves, eight-leaves passed) (taken-out t octets (passed .0) (valueIn (a .rule)) (octets-value (a .rule) (fieldSize (a .rule)) (fieldLength (a .rule)) o) accepted)
