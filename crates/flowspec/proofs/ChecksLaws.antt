@@ -1,19 +1,17 @@
 -- Which check of a list refuses, read off what is told: a number that one check alone of the list has is told exactly where that check is the
 -- first that does not hold, and 0 exactly where all hold. Assumes nothing.
-use mathlib.Core.Path.{_≡_, refl, sym, ap, subst, _∙_}
-use mathlib.Core.Bool.{Bool, true, false}
+use mathlib.Core.Path.{_≡_, refl, sym}
+use mathlib.Core.Bool.{true, false}
 use mathlib.Core.Logic.{_↔_}
 use mathlib.Core.List.{List, [], _∷_}
-use Prim.Native.Nat.{ℕ, zero, suc, _<_, _≤_}
+use Prim.Native.Nat.{ℕ, zero, suc, _≤_}
 use native.Mathlib.Omega.{arith}
 use lib.Dec.{eqb}
-use lib.ListN.{length}
-use borrow.Author.Tests.{eqb-false, ne-eqb}
+use borrow.Author.Tests.{eqb-false}
 use Rattle.octets.specs.Test.{Each}
 use Rattle.octets.proofs.Cases.{by-test, apart}
 use Rattle.rule.specs.declared.Checked.{Checked}
 use Rattle.rule.specs.declared.Checked.the-variants.{Accepted, Refused}
-use Rattle.flowspec.specs.Told.{Told}
 use Rattle.flowspec.specs.Checks.{Check, oneToSeven, told}
 use Rattle.flowspec.specs.Numbers.{AllHold}
 

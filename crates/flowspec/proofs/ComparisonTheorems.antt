@@ -11,7 +11,6 @@ use Rattle.octets.proofs.OrderLaws.{swap}
 use Rattle.rule.specs.declared.Reading.{Reading}
 use Rattle.rule.specs.declared.Reading.the-variants.{Rule, Refused as NotRead}
 use Rattle.rule.specs.Family.{ipv4}
-use Rattle.rule.specs.Plain.{plain}
 use Rattle.rule.specs.Reading.{valueOf, oneRule}
 use Rattle.rule.proofs.ReadingLaws.{one-read}
 use Rattle.order.specs.Precedence.{precedence}

@@ -17,3 +17,5 @@ pub mod OperatorTheorems
 pub mod PlainLaws
 pub mod ComparisonTheorems
 pub mod Numbers
+pub mod ValueNumbers
+pub mod Pinned

@@ -1,14 +1,14 @@
 -- **Each number is given exactly when 01's table says**, of the calls by their promises: which checks of a call's list held, and which did not, is
 -- read off its number. Assumes nothing.
-use mathlib.Core.Path.{_≡_, refl, sym, ap, subst, _∙_}
-use mathlib.Core.Bool.{Bool, true, false, not}
+use mathlib.Core.Path.{_≡_, refl}
+use mathlib.Core.Bool.{Bool, true, false}
 use mathlib.Core.List.{List, [], _∷_}
 use mathlib.Core.Logic.{_↔_, _⊎_, inl, inr, ⊎-elim}
 use Prim.Native.Nat.{ℕ, _<_, _≤_}
 use native.Mathlib.Omega.{arith}
 use lib.Dec.{ltb, eqb}
 use lib.ListN.{length}
-use borrow.Author.Tests.{ne-eqb, ltb-false, not-true, not-false}
+use borrow.Author.Tests.{ne-eqb, not-false}
 use Rattle.octets.proofs.Cases.{by-test, apart}
 use Rattle.rule.specs.declared.Checked.{Checked}
 use Rattle.rule.specs.declared.Checked.the-variants.{Accepted, Refused}
@@ -25,7 +25,7 @@ use Rattle.flowspec.specs.declared.Change.{Change}
 use Rattle.flowspec.specs.declared.Looked.{Looked}
 use Rattle.flowspec.specs.declared.MatchPlace.{MatchPlace}
 use Rattle.flowspec.specs.Input.{Announcement, Policy}
-use Rattle.flowspec.specs.Told.{Told, readingTold, writingTold, comparisonTold, feasibilityTold, actionsTold, changeTold, lookupTold, matchPlaceTold}
+use Rattle.flowspec.specs.Told.{readingTold, writingTold, comparisonTold, feasibilityTold, actionsTold, changeTold, lookupTold, matchPlaceTold}
 use Rattle.flowspec.specs.Checks.{Check, check, oneToSeven, told, ruleEnd, valueIn, checkRule, endsThere, readChecks, writeChecks, compareChecks, compareValues, judgeChecks, actionsChecks, announceChecks, withdrawChecks, lookupChecks, lookupValues, firstMatchValues}
 use Rattle.flowspec.specs.Numbers.{Yes, No, Accepts, OneToSeven, ReadNumbers, WriteNumbers, CompareNumbers, JudgeNumbers, ActionsNumbers, AnnounceNumbers, WithdrawNumbers, LookupNumbers}
 use Rattle.flowspec.specs.Promise.{ReadsOne, WritesOne, ComparesTwo, JudgesOne, ReadsActions, Announces, Withdraws, LooksUp, LocatesFirst}

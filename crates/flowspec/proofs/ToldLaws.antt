@@ -1,14 +1,13 @@
 -- What each answer says is what 01's checks come to, in their order: one law for each call. Assumes nothing.
 use mathlib.Core.Path.{_≡_, refl, sym, ap, _∙_}
-use mathlib.Core.Bool.{Bool, true, false, cond, not}
 use mathlib.Core.List.{List, [], _∷_}
-use Prim.Native.Nat.{ℕ, _+_, _-_, _<_, _≤_, Ordering, Ordering·lt, Ordering·eq, Ordering·gt}
+use Prim.Native.Nat.{ℕ, _-_, _≤_, Ordering, Ordering·lt, Ordering·eq, Ordering·gt}
 use native.Mathlib.Omega.{arith}
 use lib.Dec.{leb, ltb, eqb}
 use lib.ListN.{length}
 use borrow.Author.Tests.{lt-ltb, le-ltb, le-leb, lt-leb, ltb-true, ltb-false, eqb-true, eqb-false, ne-eqb}
 use Rattle.octets.specs.Order.{ordered}
-use Rattle.octets.proofs.Cases.{by-test, apart}
+use Rattle.octets.proofs.Cases.{by-test}
 use Rattle.sorted.specs.Table.{byOrder}
 use Rattle.rule.specs.declared.Checked.{Checked}
 use Rattle.rule.specs.declared.Checked.the-variants.{Accepted, Refused as RefusedValue}
@@ -17,9 +16,9 @@ use Rattle.rule.specs.declared.Reading.the-variants.{Rule, Refused as NotRead}
 use Rattle.rule.specs.Family.{ipv4}
 use Rattle.rule.specs.Plain.{plain}
 use Rattle.rule.specs.Value.{checkValue}
-use Rattle.rule.specs.Reading.{fieldSize, fieldLength, valueOf, readAs, alone, firstRule, oneRule}
+use Rattle.rule.specs.Reading.{fieldSize, fieldLength, readAs, alone, firstRule, oneRule}
 use Rattle.rule.specs.Writing.{ruleFor, intoRoom, writing}
-use Rattle.rule.proofs.ReadingLaws.{ReadRule, one-read}
+use Rattle.rule.proofs.ReadingLaws.{one-read}
 use Rattle.order.specs.Key.{keysOf}
 use Rattle.order.specs.Precedence.{precedence}
 use Rattle.action.specs.declared.Reading.{Reading as ActionsReading}
@@ -40,7 +39,7 @@ use Rattle.flowspec.specs.Compare.{comparisonOf, compareRead, compareRul
 use Rattle.flowspec.specs.Input.{Announcement, Policy}
 use Rattle.flowspec.specs.Feasibility.{readWithRoutes, isFeasible, judgeRead, judgement}
 use Rattle.flowspec.specs.Announce.{changeOf, askedBy, asked, entryFor, announcedBy, announcing, withdrawnBy, withdrawing}
-use Rattle.flowspec.specs.Look.{shown, seen, lookedUp, lookingUp, firstIn, firstMatch, matchPlace}
+use Rattle.flowspec.specs.Look.{seen, lookingUp, firstMatch, matchPlace}
 use Rattle.flowspec.specs.Told.{Told, done, refused, readingTold, writingTold, comparisonTold, feasibilityTold, actionsTold, changeTold, verdictTold, lookupTold, matchPlaceTold}
 use Rattle.flowspec.specs.Checks.{judgeChecks, announceChecks, Check, check, oneToSeven, told, ruleEnd, valueIn, checkRule, endsThere, readChecks, readValues, writeChecks, writeValues, compareChecks, compareValues, actionsChecks, actionsValues, withdrawChecks, lookupChecks, lookupValues, firstMatchValues, isSound, actionsIn}
 

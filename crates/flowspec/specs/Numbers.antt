@@ -9,7 +9,7 @@ use lib.Dec.{leb}
 use lib.ListN.{length}
 use Rattle.octets.specs.Test.{Each}
 use Rattle.rule.specs.declared.Checked.{Checked}
-use Rattle.rule.specs.declared.Checked.the-variants.{Accepted, Refused}
+use Rattle.rule.specs.declared.Checked.the-variants.{Refused}
 use Rattle.rule.specs.Family.{ipv4}
 use Rattle.rule.specs.Plain.{plain}
 use Rattle.rule.specs.Value.{checkValue}
