@@ -1,10 +1,12 @@
 -- What an announcement asks: one law for each way in which the code comes to it. Assumes nothing.
 use mathlib.Core.Path.{_≡_, refl, sym, _∙_}
 use mathlib.Core.Bool.{Bool}
+use mathlib.Core.List.{List}
 use Prim.Native.Nat.{ℕ, _+_, _-_}
 use native.Mathlib.Nat.{add-sub-cancel-left}
 use borrow.Author.Tests.{eq-eqb, ne-eqb}
 use Rattle.octets.proofs.Cases.{apart}
+use Rattle.octets.proofs.Facts.{Octets}
 use Rattle.rule.specs.declared.Reading.{Reading}
 use Rattle.rule.specs.declared.Reading.the-variants.{Rule, Refused as NotRead}
 use Rattle.rule.specs.Family.{ipv4}
@@ -14,12 +16,17 @@ use Rattle.action.specs.declared.Actions.{Actions}
 use Rattle.action.specs.declared.Reading.{Reading as ActionsReading}
 use Rattle.action.specs.declared.Reading.the-variants.{Read, Unsound}
 use Rattle.action.specs.Actions.{actionsOf}
+use Rattle.table.proofs.EntryLaws.{octets-between}
 use Rattle.flowspec.specs.declared.Request.the-variants.{Announce, Refused}
 use Rattle.flowspec.specs.declared.Change.the-variants.{Done, Refused as NotChanged}
 use Rattle.flowspec.specs.Input.{Announcement, Policy}
 use Rattle.flowspec.specs.Feasibility.{readWithRoutes, isFeasible}
 use Rattle.flowspec.specs.Announce.{changeOf, askedBy, asked}
 use Rattle.flowspec.proofs.FeasibilityLaws.{with-routes}
+
+-- a rule's value is octets
+pub octets-value : (rule : List ℕ) (start size : ℕ) → Octets rule → Octets (valueOf rule start size)
+octets-value rule start size o = rw (add-sub-cancel-left start size) at (octets-between rule start (start + size) o)
 
 -- how `change_of` comes to its answers
 pub change-done : (number : ℕ) → number ≡ 0 → Done ≡ changeOf number

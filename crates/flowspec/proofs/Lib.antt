@@ -9,11 +9,7 @@ pub mod TableLaws
 pub mod Unique
 pub mod Refusals
 pub mod Examples
-pub mod HistoryLaws
-pub mod AgreeLaws
-pub mod Happens
 pub mod RoomLaws
-pub mod OperatorTheorems
 pub mod PlainLaws
 pub mod ComparisonTheorems
 pub mod Numbers

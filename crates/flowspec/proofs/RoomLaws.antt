@@ -28,7 +28,7 @@ use Rattle.flowspec.specs.Input.{Announcement, Policy}
 use Rattle.flowspec.specs.Announce.{announcedEntry, changeOf, askedBy, asked, announcedBy, announcing}
 use Rattle.flowspec.specs.Feasibility.{readWithRoutes, isFeasible}
 use Rattle.flowspec.specs.Promise.{Announces}
-use Rattle.flowspec.proofs.HistoryLaws.{octets-value}
+use Rattle.flowspec.proofs.AskLaws.{octets-value}
 
 -- an answer is not 11
 abbrev Not11 : Change → Type 0

@@ -10,4 +10,3 @@ pub mod Promise
 pub mod Numbers
 pub mod ValueNumbers
 pub mod Examples
-pub mod History

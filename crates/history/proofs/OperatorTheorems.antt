@@ -28,17 +28,17 @@ use Rattle.table.specs.Sound.{cost, tableOf, soundTable, Encodes}
 use Rattle.table.specs.Change.{holds, removed, hasRoom, inserted, withdrawn}
 use Rattle.table.proofs.SpliceLaws.{length-table}
 use Rattle.table.proofs.SoundLaws.{sound-encodes, encodes-sound, encodes-entries}
 use Rattle.flowspec.specs.declared.Change.{Change}
 use Rattle.flowspec.specs.declared.Change.the-variants.{Done, Refused}
 use Rattle.flowspec.specs.declared.Comparison.the-variants.{Same}
 use Rattle.flowspec.specs.declared.Request.{Request}
 use Rattle.flowspec.specs.declared.Request.the-variants.{Announce, Refused as NotAsked}
 use Rattle.flowspec.specs.Input.{Announcement, Policy}
 use Rattle.flowspec.specs.Announce.{announcedEntry, Outcome, changeOf, asked, announcedBy, announcing, withdrawing}
 use Rattle.flowspec.specs.Compare.{compareRules}
 use Rattle.flowspec.specs.Promise.{Announces, Withdraws}
-use Rattle.flowspec.proofs.AskLaws.{asked-from}
-use Rattle.flowspec.proofs.HistoryLaws.{encoding, octets-value, asked-could}
+use Rattle.flowspec.proofs.AskLaws.{octets-value, asked-from}
+use Rattle.history.proofs.HistoryLaws.{encoding, asked-could}
 
 module _ (t : List ℕ) (c : Encodes ipv4 t (entries t)) where
   -- the table with an entry encodes its entries with that one, in a buffer of the same length

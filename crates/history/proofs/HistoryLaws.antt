@@ -5,8 +5,8 @@
 use mathlib.Core.Path.{_≡_, refl, sym, ap, ap₂, subst, _∙_}
 use mathlib.Core.Bool.{Bool, true, false}
 use mathlib.Core.List.{List, [], _∷_}
-use Prim.Native.Nat.{ℕ, _+_, _^_, _<_, _≤_}
-use native.Mathlib.Nat.{add-sub-cancel-left, sub-zero}
+use Prim.Native.Nat.{ℕ, _^_, _<_, _≤_}
+use native.Mathlib.Nat.{sub-zero}
 use native.Mathlib.Omega.{arith}
 use lib.Dec.{leb}
 use lib.ListN.{length, length-replicate}
@@ -35,17 +35,16 @@ use Rattle.table.specs.Walk.{entries}
 use Rattle.table.specs.Sound.{cost, tableOf, joined, Encodes, mostOctets}
 use Rattle.table.specs.Change.{holds, removed, hasRoom, inserted, announced, withdrawn}
 use Rattle.table.proofs.SpliceLaws.{length-table}
-use Rattle.table.proofs.EntryLaws.{octets-between}
 use Rattle.table.proofs.SoundLaws.{encodes-sound, encodes-entries}
 use Rattle.table.proofs.CallLaws.{plain-held}
 use Rattle.flowspec.specs.declared.Change.{Change}
 use Rattle.flowspec.specs.declared.Request.{Request}
 use Rattle.flowspec.specs.declared.Request.the-variants.{Announce, Refused as NotAsked}
 use Rattle.flowspec.specs.Input.{Announcement, Policy}
 use Rattle.flowspec.specs.Announce.{announcedEntry, Outcome, changeOf, outcome, asked, announcedBy, announcing, withdrawnBy, withdrawing}
-use Rattle.flowspec.specs.History.{Call, announcement, withdrawal, Made, CanBe, EachCanBe, asksToAnnounce, asksToWithdraw, asks, Promised, Happened, askedOf, numberOf, inForceAfter, endOf, emptyTable, FromEmpty, HoldsExactly}
+use Rattle.history.specs.History.{Call, announcement, withdrawal, Made, CanBe, EachCanBe, asksToAnnounce, asksToWithdraw, asks, Promised, Happened, askedOf, numberOf, inForceAfter, endOf, emptyTable, FromEmpty, HoldsExactly}
 use Rattle.flowspec.specs.Told.{changeTold}
-use Rattle.flowspec.proofs.AskLaws.{asked-from}
+use Rattle.flowspec.proofs.AskLaws.{octets-value, asked-from}
 
 -- an outcome on octets is one on entries: the same answer, and the entries' encoding in a buffer of the same length
 record Same (n : ℕ) (o : Outcome) (a : S.Outcome Entry) : Type 0 where
@@ -109,10 +108,6 @@ module _ (t : List ℕ) (es : List Entry) (c : Encodes ipv4 t es) where
       (by-test (isHeld (lookup keyOrder (entryKey ipv4) k es))
       (λ h. rw h (record { answers = refl; encodes = out; long = long }))
       (λ h. rw h (record { answers = refl; encodes = c; long = refl })))
-
--- a rule's value is octets
-pub octets-value : (rule : List ℕ) (start size : ℕ) → Octets rule → Octets (valueOf rule start size)
-octets-value rule start size o = rw (add-sub-cancel-left start size) at (octets-between rule start (start + size) o)
 
 -- what is asked to be announced could be
 abbrev pub Could : Announcement → Request → Type 0

@@ -6,12 +6,12 @@ use Prim.Native.Nat.{ℕ, _^_, _<_, _≤_}
 use Rattle.octets.specs.Test.{Each}
 use Rattle.octets.proofs.Facts.{Octets}
 use Rattle.table.specs.Sound.{mostOctets}
 use Rattle.flowspec.specs.declared.Change.{Change}
 use Rattle.flowspec.specs.Input.{Announcement, Policy}
 use Rattle.flowspec.specs.Announce.{announcing, withdrawing}
 use Rattle.flowspec.specs.Promise.{Announces, Withdraws}
-use Rattle.flowspec.specs.History.{Call, announcement, withdrawal, Made, CanBe, EachCanBe, Promised, Happened, outcomeOf, madeOn, historyOf, emptyTable, FromEmpty}
+use Rattle.history.specs.History.{Call, announcement, withdrawal, Made, CanBe, EachCanBe, Promised, Happened, outcomeOf, madeOn, historyOf, emptyTable, FromEmpty}
 use Rattle.flowspec.proofs.TableLaws.{announce-kept, withdraw-kept}
 
 -- what a call is lent by its types is what it can be given
 pub announcement-given : (a : Announcement) → Octets (a .rule) → a .originator < 2 ^ 32 → CanBe (announcement a)

@@ -21,15 +21,15 @@ use Rattle.order.proofs.KeyLaws.{key-order, keys-only, keys-plain}
 use Rattle.action.specs.declared.Reading.the-variants.{Read}
 use Rattle.action.specs.Actions.{actionsOf}
 use Rattle.entry.specs.Entry.{entryKey}
 use Rattle.flowspec.specs.declared.Request.{Request}
 use Rattle.flowspec.specs.declared.Request.the-variants.{Announce, Refused as NotAsked}
 use Rattle.flowspec.specs.Input.{Announcement, Policy}
 use Rattle.flowspec.specs.Announce.{asked}
-use Rattle.flowspec.specs.History.{Call, announcement, withdrawal, Made, CanBe, EachCanBe, deed, deedOf, asksToAnnounce, asksToWithdraw, asks, askedOf, numberOf, lastCounted, Agree, endOf, emptyTable, FromEmpty, EndAlike}
-use Rattle.flowspec.proofs.AskLaws.{asked-from}
-use Rattle.flowspec.proofs.HistoryLaws.{octets-value, histories-agree}
+use Rattle.history.specs.History.{Call, announcement, withdrawal, Made, CanBe, EachCanBe, deed, deedOf, asksToAnnounce, asksToWithdraw, asks, askedOf, numberOf, lastCounted, Agree, endOf, emptyTable, FromEmpty, EndAlike}
+use Rattle.flowspec.proofs.AskLaws.{octets-value, asked-from}
+use Rattle.history.proofs.HistoryLaws.{histories-agree}
 use Rattle.flowspec.proofs.PlainLaws.{feasible-alone}
 use Rattle.flowspec.proofs.Unique.{one-lookup, one-first-match}
 
 -- equal octets judge every packet alike
 end-alike : (table other : List ℕ) → table ≡ other → EndAlike table other

@@ -1,0 +1,5 @@
+-- The laws of this crate.
+pub mod HistoryLaws
+pub mod AgreeLaws
+pub mod Happens
+pub mod OperatorTheorems
