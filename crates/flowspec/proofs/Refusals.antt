@@ -47,7 +47,7 @@ use Rattle.flowspec.specs.Numbers.{Yes, No, Accepts, SoundBoth, OneRule}
 use Rattle.flowspec.specs.Promise.{Announces, Withdraws}
 use Rattle.flowspec.proofs.ToldLaws.{read-first}
 use Rattle.flowspec.proofs.Numbers.{announce-numbers}
-use Rattle.flowspec.proofs.HistoryLaws.{octets-value}
+use Rattle.flowspec.proofs.AskLaws.{octets-value}
 
 -- an outcome leaves the table as it was where it is refused; where it is refused with another number than 8
 abbrev Keeps : List ℕ → Outcome → Type 0
