@@ -11,57 +11,61 @@ use Rattle.octets.specs.Walk.{more, last, stop, Walk, before}
 use Rattle.octets.proofs.Cases.{by-test, apart}
 use Rattle.octets.proofs.WalkLaws.{walk-stop, walk-last, walk-more, walk-ind}
 use Rattle.rule.specs.declared.Family.{Family}
+use Rattle.rule.specs.declared.Shape.{Shape}
 use Rattle.rule.specs.declared.NextPair.{NextPair}
 use Rattle.rule.specs.declared.NextPair.the-variants.{More, Last, Refused as RefusedPair}
 use Rattle.rule.specs.declared.BodyEnd.{BodyEnd}
 use Rattle.rule.specs.declared.BodyEnd.the-variants.{At, Refused as RefusedBody}
 use Rattle.rule.specs.declared.Next.{Next}
 use Rattle.rule.specs.declared.Next.the-variants.{Nothing, Another, Refused}
-use Rattle.rule.specs.Operator.{endsList, sizeOf, isPrefix, sizeAllowed}
+use Rattle.rule.specs.Shape.{shapeOf}
+use Rattle.rule.specs.Operator.{endsList, sizeOf}
 use Rattle.rule.specs.Component.{pairAt, Pair, pairOf, pairStep, pairsFrom, prefixEnd, bodyEnd, found, componentAt}
 
 -- how `pair_at` comes to each of its answers
-module _ (kind : ℕ) (v : List ℕ) (at : ℕ) where
-  pub pair-missing : length v ≤ at → RefusedPair 6 (length v) ≡ pairAt kind v at
+module _ (largest : ℕ) (v : List ℕ) (at : ℕ) where
+  pub pair-missing : length v ≤ at → RefusedPair 6 (length v) ≡ pairAt largest v at
   unfolding pairAt
   pair-missing h = rw (le-leb _ _ h)
 
-  module _ (size : ℕ) (allowed : Bool) (is : size ≡ sizeOf (getD v at 0)) (says : allowed ≡ sizeAllowed kind size) (within : at < length v) where
-    pub pair-size : not allowed ≡ true → RefusedPair 7 at ≡ pairAt kind v at
+  module _ (size : ℕ) (is : size ≡ sizeOf (getD v at 0)) (within : at < length v) where
+    pub pair-size : largest < size → RefusedPair 7 at ≡ pairAt largest v at
     unfolding pairAt
-    pair-size h = rw (lt-leb _ _ within, ← is, ← says, not-true allowed h)
+    pair-size h = rw (lt-leb _ _ within, ← is, lt-ltb _ _ h)
 
-    pub pair-short : not allowed ≡ false → length v - (at + 1) < size → RefusedPair 6 (length v) ≡ pairAt kind v at
-    unfolding pairAt
-    pair-short h k = rw (lt-leb _ _ within, ← is, ← says, not-false allowed h, lt-ltb _ _ k)
-
-    module _ (ends : Bool) (tells : ends ≡ endsList (getD v at 0)) (fits : size ≤ length v - (at + 1)) where
-      pub pair-last : not allowed ≡ false → ends ≡ true → Last (at + 1 + size) ≡ pairAt kind v at
+    module _ (allowed : size ≤ largest) where
+      pub pair-short : length v - (at + 1) < size → RefusedPair 6 (length v) ≡ pairAt largest v at
       unfolding pairAt
-      pair-last h k = rw (lt-leb _ _ within, ← is, ← says, not-false allowed h, le-ltb _ _ fits, ← tells, k)
+      pair-short h = rw (lt-leb _ _ within, ← is, le-ltb _ _ allowed, lt-ltb _ _ h)
 
-      pub pair-more : not allowed ≡ false → ends ≡ false → More (at + 1 + size) ≡ pairAt kind v at
-      unfolding pairAt
-      pair-more h k = rw (lt-leb _ _ within, ← is, ← says, not-false allowed h, le-ltb _ _ fits, ← tells, k)
+      module _ (ends : Bool) (tells : ends ≡ endsList (getD v at 0)) (fits : size ≤ length v - (at + 1)) where
+        pub pair-last : ends ≡ true → Last (at + 1 + size) ≡ pairAt largest v at
+        unfolding pairAt
+        pair-last h = rw (lt-leb _ _ within, ← is, le-ltb _ _ allowed, le-ltb _ _ fits, ← tells, h)
+
+        pub pair-more : ends ≡ false → More (at + 1 + size) ≡ pairAt largest v at
+        unfolding pairAt
+        pair-more h = rw (lt-leb _ _ within, ← is, le-ltb _ _ allowed, le-ltb _ _ fits, ← tells, h)
 
 -- what holds of each answer that a list's cursor can give holds of the one that it gives
-pub pair-cases : (kind : ℕ) (v : List ℕ) (at : ℕ) (P : NextPair → Type 0) → let operator = getD v at 0 in let size = sizeOf operator in
+pub pair-cases : (largest : ℕ) (v : List ℕ) (at : ℕ) (P : NextPair → Type 0) → let operator = getD v at 0 in let size = sizeOf operator in
     P (RefusedPair 6 (length v)) → (at < length v → P (RefusedPair 7 at))
-    → (at + 1 + size ≤ length v → sizeAllowed kind size ≡ true → endsList operator ≡ true → P (Last (at + 1 + size)))
-    → (at + 1 + size ≤ length v → sizeAllowed kind size ≡ true → endsList operator ≡ false → P (More (at + 1 + size)))
-    → P (pairAt kind v at)
+    → (at + 1 + size ≤ length v → size ≤ largest → endsList operator ≡ true → P (Last (at + 1 + size)))
+    → (at + 1 + size ≤ length v → size ≤ largest → endsList operator ≡ false → P (More (at + 1 + size)))
+    → P (pairAt largest v at)
 unfolding pairAt
-pair-cases kind v at P cut sized ends goes =
+pair-cases largest v at P cut sized ends goes =
     let operator = getD v at 0 in
     by-test (leb (length v) at) (λ t. rw t cut)
     (λ t.
     let inside = leb-false (length v) at t in
-    by-test (sizeAllowed kind (sizeOf operator))
-    (λ u. by-test (ltb (length v - (at + 1)) (sizeOf operator)) (λ w. rw (t, u, w) cut)
+    by-test (ltb (largest) (sizeOf operator)) (λ u. rw (t, u) (sized inside))
+    (λ u.
+    let allowed = ltb-false (largest) (sizeOf operator) u in
+    by-test (ltb (length v - (at + 1)) (sizeOf operator)) (λ w. rw (t, u, w) cut)
     (λ w.
     let fits = ltb-false (length v - (at + 1)) (sizeOf operator) w in
-    by-test (endsList operator) (λ x. rw (t, u, w, x) (ends (omega arith) u x)) (λ x. rw (t, u, w, x) (goes (omega arith) u x))))
-    (λ u. rw (t, u) (sized inside)))
+    by-test (endsList operator) (λ x. rw (t, u, w, x) (ends (omega arith) allowed x)) (λ x. rw (t, u, w, x) (goes (omega arith) allowed x)))))
 
 -- and likewise of where a prefix ends
 pub prefix-cases : (family : Family) (v : List ℕ) (at : ℕ) (P : BodyEnd → Type 0) → let octets = (getD v at 0 + 7) / 8 in
@@ -110,68 +114,68 @@ PairWithin v at (More next) = Within v at next
 PairWithin v at (Last next) = Within v at next
 PairWithin v at (RefusedPair number place) = Met v number place
 
-module _ (kind : ℕ) (v : List ℕ) where
-  pub pair-within : (at : ℕ) → PairWithin v at (pairAt kind v at)
+module _ (largest : ℕ) (v : List ℕ) where
+  pub pair-within : (at : ℕ) → PairWithin v at (pairAt largest v at)
   pair-within at =
-      pair-cases kind v at (PairWithin v at) (short v) (λ h. (omega arith, (omega arith, omega arith)))
+      pair-cases largest v at (PairWithin v at) (short v) (λ h. (omega arith, (omega arith, omega arith)))
       (λ h u e. (omega arith, omega arith)) (λ h u e. (omega arith, omega arith))
 
-  pub more-within : (at next : ℕ) → pairAt kind v at ≡ More next → Within v at next
+  pub more-within : (at next : ℕ) → pairAt largest v at ≡ More next → Within v at next
   more-within at next e = subst (PairWithin v at) e (pair-within at)
 
-  pub last-within : (at next : ℕ) → pairAt kind v at ≡ Last next → Within v at next
+  pub last-within : (at next : ℕ) → pairAt largest v at ≡ Last next → Within v at next
   last-within at next e = subst (PairWithin v at) e (pair-within at)
 
-  pub refused-within : (at number place : ℕ) → pairAt kind v at ≡ RefusedPair number place → Met v number place
+  pub refused-within : (at number place : ℕ) → pairAt largest v at ≡ RefusedPair number place → Met v number place
   refused-within at number place e = subst (PairWithin v at) e (pair-within at)
 
   -- a step on along a list goes towards the value's end
-  falls : (i j : ℕ) (a : Pair) → pairStep v i (pairAt kind v i) ≡ more a j → length v - j < length v - i
-  falls i j a = go (pairAt kind v i) refl
+  falls : (i j : ℕ) (a : Pair) → pairStep v i (pairAt largest v i) ≡ more a j → length v - j < length v - i
+  falls i j a = go (pairAt largest v i) refl
     where
-      go : (x : NextPair) → pairAt kind v i ≡ x → pairStep v i x ≡ more a j → length v - j < length v - i
+      go : (x : NextPair) → pairAt largest v i ≡ x → pairStep v i x ≡ more a j → length v - j < length v - i
       go (More next) e q = let w = more-within i next e in let s : next ≡ j = cc in omega arith
       go (Last next) e q = apart (cc)
       go (RefusedPair number place) e q = apart (cc)
 
   -- the pairs from a place on: one more and the rest, the last, or none
-  pub pairs-more : (at next : ℕ) → pairAt kind v at ≡ More next → pairsFrom kind v at ≡ before (pairOf v at next) (pairsFrom kind v next)
+  pub pairs-more : (at next : ℕ) → pairAt largest v at ≡ More next → pairsFrom largest v at ≡ before (pairOf v at next) (pairsFrom largest v next)
   unfolding pairsFrom
   pairs-more at next e =
-      walk-more (RefusedBody 6 (length v)) (λ i. pairStep v i (pairAt kind v i)) (λ i. length v - i) falls (length v + 1) at next (pairOf v at next) (omega arith)
+      walk-more (RefusedBody 6 (length v)) (λ i. pairStep v i (pairAt largest v i)) (λ i. length v - i) falls (length v + 1) at next (pairOf v at next) (omega arith)
       (ap (pairStep v at) e)
 
-  pub pairs-last : (at next : ℕ) → pairAt kind v at ≡ Last next → pairsFrom kind v at ≡ record { items = pairOf v at next ∷ []; ending = At next }
+  pub pairs-last : (at next : ℕ) → pairAt largest v at ≡ Last next → pairsFrom largest v at ≡ record { items = pairOf v at next ∷ []; ending = At next }
   unfolding pairsFrom
   pairs-last at next e =
-      walk-last (RefusedBody 6 (length v)) (λ i. pairStep v i (pairAt kind v i)) (length v + 1) at (pairOf v at next) (At next) (omega arith) (ap (pairStep v at) e)
+      walk-last (RefusedBody 6 (length v)) (λ i. pairStep v i (pairAt largest v i)) (length v + 1) at (pairOf v at next) (At next) (omega arith) (ap (pairStep v at) e)
 
-  pub pairs-refused : (at number place : ℕ) → pairAt kind v at ≡ RefusedPair number place
-      → pairsFrom kind v at ≡ record { items = []; ending = RefusedBody number place }
+  pub pairs-refused : (at number place : ℕ) → pairAt largest v at ≡ RefusedPair number place
+      → pairsFrom largest v at ≡ record { items = []; ending = RefusedBody number place }
   unfolding pairsFrom
   pairs-refused at number place e =
-      walk-stop (RefusedBody 6 (length v)) (λ i. pairStep v i (pairAt kind v i)) (length v + 1) at (RefusedBody number place) (omega arith) (ap (pairStep v at) e)
+      walk-stop (RefusedBody 6 (length v)) (λ i. pairStep v i (pairAt largest v i)) (length v + 1) at (RefusedBody number place) (omega arith) (ap (pairStep v at) e)
 
   -- what holds of the last pair and of a refusal, and before a pair where it holds behind it, holds of every list of pairs
   pub pairs-ind : (P : ℕ → Walk Pair BodyEnd → Type 0)
-      → ((at number place : ℕ) → pairAt kind v at ≡ RefusedPair number place → P at (record { items = []; ending = RefusedBody number place }))
-      → ((at next : ℕ) → pairAt kind v at ≡ Last next → P at (record { items = pairOf v at next ∷ []; ending = At next }))
-      → ((at next : ℕ) (w : Walk Pair BodyEnd) → pairAt kind v at ≡ More next → P next w → P at (before (pairOf v at next) w))
-      → (at : ℕ) → P at (pairsFrom kind v at)
+      → ((at number place : ℕ) → pairAt largest v at ≡ RefusedPair number place → P at (record { items = []; ending = RefusedBody number place }))
+      → ((at next : ℕ) → pairAt largest v at ≡ Last next → P at (record { items = pairOf v at next ∷ []; ending = At next }))
+      → ((at next : ℕ) (w : Walk Pair BodyEnd) → pairAt largest v at ≡ More next → P next w → P at (before (pairOf v at next) w))
+      → (at : ℕ) → P at (pairsFrom largest v at)
   unfolding pairsFrom
   pairs-ind P refused ends goes at =
-      walk-ind (RefusedBody 6 (length v)) (λ i. pairStep v i (pairAt kind v i)) (λ i. length v - i) falls P
-      (λ i e q. stops i e (pairAt kind v i) refl q)
-      (λ i a e q. lasts i a e (pairAt kind v i) refl q)
-      (λ i j a w q h. mores i j a w (pairAt kind v i) refl q h)
+      walk-ind (RefusedBody 6 (length v)) (λ i. pairStep v i (pairAt largest v i)) (λ i. length v - i) falls P
+      (λ i e q. stops i e (pairAt largest v i) refl q)
+      (λ i a e q. lasts i a e (pairAt largest v i) refl q)
+      (λ i j a w q h. mores i j a w (pairAt largest v i) refl q h)
       (length v + 1) at (omega arith)
     where
-      stops : (i : ℕ) (e : BodyEnd) (x : NextPair) → pairAt kind v i ≡ x → pairStep v i x ≡ stop e → P i (record { items = []; ending = e })
+      stops : (i : ℕ) (e : BodyEnd) (x : NextPair) → pairAt largest v i ≡ x → pairStep v i x ≡ stop e → P i (record { items = []; ending = e })
       stops i e (More next) f q = apart (cc)
       stops i e (Last next) f q = apart (cc)
       stops i e (RefusedPair number place) f q = let s : RefusedBody number place ≡ e = cc in rw (← s) (refused i number place f)
 
-      lasts : (i : ℕ) (a : Pair) (e : BodyEnd) (x : NextPair) → pairAt kind v i ≡ x → pairStep v i x ≡ last a e → P i (record { items = a ∷ []; ending = e })
+      lasts : (i : ℕ) (a : Pair) (e : BodyEnd) (x : NextPair) → pairAt largest v i ≡ x → pairStep v i x ≡ last a e → P i (record { items = a ∷ []; ending = e })
       lasts i a e (More next) f q = apart (cc)
       lasts i a e (Last next) f q =
           let s : At next ≡ e = cc in
@@ -179,7 +183,7 @@ module _ (kind : ℕ) (v : List ℕ) where
           rw (← s, ← u) (ends i next f)
       lasts i a e (RefusedPair number place) f q = apart (cc)
 
-      mores : (i j : ℕ) (a : Pair) (w : Walk Pair BodyEnd) (x : NextPair) → pairAt kind v i ≡ x → pairStep v i x ≡ more a j → P j w → P i (before a w)
+      mores : (i j : ℕ) (a : Pair) (w : Walk Pair BodyEnd) (x : NextPair) → pairAt largest v i ≡ x → pairStep v i x ≡ more a j → P j w → P i (before a w)
       mores i j a w (More next) f q h =
           let s : next ≡ j = cc in
           let u : pairOf v i next ≡ a = cc in
@@ -188,16 +192,16 @@ module _ (kind : ℕ) (v : List ℕ) where
       mores i j a w (RefusedPair number place) f q h = apart (cc)
 
 -- how `list_end` goes on and comes to each of its answers
-module _ (kind : ℕ) (v : List ℕ) (start at : ℕ) (pair : NextPair) (is : pair ≡ pairAt kind v at)
-    (so-far : pairsFrom kind v start .ending ≡ pairsFrom kind v at .ending) where
-  pub list-on : (next : ℕ) → pair ≡ More next → pairsFrom kind v start .ending ≡ pairsFrom kind v next .ending
-  list-on next e = so-far ∙ rw (pairs-more kind v at next (sym is ∙ e))
+module _ (largest : ℕ) (v : List ℕ) (start at : ℕ) (pair : NextPair) (is : pair ≡ pairAt largest v at)
+    (so-far : pairsFrom largest v start .ending ≡ pairsFrom largest v at .ending) where
+  pub list-on : (next : ℕ) → pair ≡ More next → pairsFrom largest v start .ending ≡ pairsFrom largest v next .ending
+  list-on next e = so-far ∙ rw (pairs-more largest v at next (sym is ∙ e))
 
-  pub list-last : (next : ℕ) → pair ≡ Last next → At next ≡ pairsFrom kind v start .ending
-  list-last next e = sym (so-far ∙ rw (pairs-last kind v at next (sym is ∙ e)))
+  pub list-last : (next : ℕ) → pair ≡ Last next → At next ≡ pairsFrom largest v start .ending
+  list-last next e = sym (so-far ∙ rw (pairs-last largest v at next (sym is ∙ e)))
 
-  pub list-refused : (number place : ℕ) → pair ≡ RefusedPair number place → RefusedBody number place ≡ pairsFrom kind v start .ending
-  list-refused number place e = sym (so-far ∙ rw (pairs-refused kind v at number place (sym is ∙ e)))
+  pub list-refused : (number place : ℕ) → pair ≡ RefusedPair number place → RefusedBody number place ≡ pairsFrom largest v start .ending
+  list-refused number place e = sym (so-far ∙ rw (pairs-refused largest v at number place (sym is ∙ e)))
 
 -- an end of a body lies behind the body's start and in the value, and so does a refusal
 abbrev pub EndWithin : List ℕ → ℕ → BodyEnd → Type 0
@@ -205,10 +209,10 @@ EndWithin v at (At next) = Within v at next
 EndWithin v at (RefusedBody number place) = Met v number place
 
 module _ (v : List ℕ) where
-  pub list-within : (kind at : ℕ) → EndWithin v at (pairsFrom kind v at .ending)
-  list-within kind at =
-      pairs-ind kind v (λ i w. EndWithin v i (w .ending)) (λ i number place e. refused-within kind v i number place e) (λ i next e. last-within kind v i next e)
-      (λ i next w e h. further i next (w .ending) (more-within kind v i next e) h) at
+  pub list-within : (largest at : ℕ) → EndWithin v at (pairsFrom largest v at .ending)
+  list-within largest at =
+      pairs-ind largest v (λ i w. EndWithin v i (w .ending)) (λ i number place e. refused-within largest v i number place e) (λ i next e. last-within largest v i next e)
+      (λ i next w e h. further i next (w .ending) (more-within largest v i next e) h) at
     where
       further : (i next : ℕ) (e : BodyEnd) → Within v i next → EndWithin v next e → EndWithin v i e
       further i next (At j) h k = (omega arith, k .1)
@@ -220,7 +224,9 @@ module _ (v : List ℕ) where
 
   pub body-within : (family : Family) (kind at : ℕ) → EndWithin v at (bodyEnd family kind v at)
   unfolding bodyEnd
-  body-within family kind at = by-test (isPrefix kind) (λ t. rw t (prefix-within family at)) (λ t. rw t (list-within kind at))
+  body-within family kind at =
+      let shape = shapeOf family kind in
+      by-test (shape .prefix) (λ t. rw t (prefix-within family at)) (λ t. rw t (list-within (shape .largest) at))
 
 -- how `prefix_end` comes to each of its answers
 module _ (family : Family) (v : List ℕ) (at : ℕ) where
@@ -242,12 +248,12 @@ module _ (family : Family) (v : List ℕ) (at : ℕ) where
   prefix-whole h k l = rw (lt-leb _ _ h, le-ltb _ _ k, le-ltb _ _ l)
 
 -- how `body_end` comes to each of its answers
-module _ (family : Family) (kind : ℕ) (v : List ℕ) (at : ℕ) (end : BodyEnd) (says : Bool) (is : says ≡ isPrefix kind) where
-  pub body-prefix : says ≡ true → end ≡ prefixEnd family v at → end ≡ bodyEnd family kind v at
+module _ (family : Family) (kind : ℕ) (v : List ℕ) (at : ℕ) (end : BodyEnd) (shape : Shape) (is : shape ≡ shapeOf family kind) where
+  pub body-prefix : shape .prefix ≡ true → end ≡ prefixEnd family v at → end ≡ bodyEnd family kind v at
   unfolding bodyEnd
   body-prefix h e = rw (← is, h) e
 
-  pub body-list : says ≡ false → end ≡ pairsFrom kind v at .ending → end ≡ bodyEnd family kind v at
+  pub body-list : shape .prefix ≡ false → end ≡ pairsFrom (shape .largest) v at .ending → end ≡ bodyEnd family kind v at
   unfolding bodyEnd
   body-list h e = rw (← is, h) e
 

@@ -16,7 +16,7 @@ use Rattle.rule.specs.declared.Family.{Family}
 use Rattle.rule.specs.declared.BodyEnd.{BodyEnd}
 use Rattle.rule.specs.declared.BodyEnd.the-variants.{At, Refused as RefusedBody}
 use Rattle.rule.specs.declared.Checked.the-variants.{Accepted}
-use Rattle.rule.specs.Operator.{isPrefix}
+use Rattle.rule.specs.Shape.{shapeOf}
 use Rattle.rule.specs.Component.{prefixEnd, bodyEnd}
 use Rattle.rule.specs.Value.{Component, spelled, between, componentsFrom, components, checkValue}
 use Rattle.rule.proofs.ComponentLaws.{prefix-cases}
@@ -77,7 +77,7 @@ pub record PrefixBody (family : Family) (body : List ℕ) : Type 0 where
 pub record SoundComponent (family : Family) (p : Component) : Type 0 where
   pub given : 1 ≤ p .kind
   pub had : p .kind ≤ family .highest
-  pub prefix : isPrefix (p .kind) ≡ true → PrefixBody family (p .body)
+  pub prefix : shapeOf family (p .kind) .prefix ≡ true → PrefixBody family (p .body)
 
 -- where a prefix that begins at a place ends
 PrefixEnds : Family → List ℕ → ℕ → BodyEnd → Type 0
@@ -96,7 +96,7 @@ module _ (family : Family) (v : List ℕ) where
     body-first : getD (between v at next) 0 0 ≡ getD v at 0
     body-first = getD-take (next - at) (drop at v) 0 0 (omega arith) ∙ getD-drop at v 0 0 ∙ ap (λ n. getD v n 0) (add-zero at)
 
-    prefix-body : (kind : ℕ) → isPrefix kind ≡ true → bodyEnd family kind v at ≡ At next → PrefixBody family (between v at next)
+    prefix-body : (kind : ℕ) → shapeOf family kind .prefix ≡ true → bodyEnd family kind v at ≡ At next → PrefixBody family (between v at next)
     unfolding bodyEnd PrefixEnds
     prefix-body kind t e =
         let ends = subst (PrefixEnds family v at) (rw t at e) (prefix-ends at) in

@@ -1,5 +1,6 @@
 -- The laws of this crate.
 pub mod FamilyLaws
+pub mod ShapeLaws
 pub mod OperatorLaws
 pub mod Refusal
 pub mod ComponentLaws

@@ -5,14 +5,15 @@ use mathlib.Core.List.{List, [], _∷_}
 use Prim.Native.Nat.{ℕ, suc, _+_, _-_, _*_, _/_, _%_, _^_, _<_, _≤_}
 use native.Mathlib.Omega.{arith}
 use native.Mathlib.Nat.{mul-assoc, mod-eq-of-lt}
-use lib.Bits.{bitAnd, and-le-l}
-use lib.Dec.{eqb}
+use lib.Bits.{bitAnd, and-zero-r}
 use lib.ListN.{length, getD}
 use lib.Pow.{pow-add, split}
 use borrow.Author.Tests.{eq-eqb, ne-eqb, le-leb, lt-leb}
-use Rattle.octets.proofs.Cases.{by-test}
+use Rattle.rule.specs.declared.Family.{Family}
+use Rattle.rule.specs.declared.Shape.{Shape}
 use Rattle.rule.specs.declared.Expected.{Expected}
 use Rattle.rule.specs.declared.Expected.the-variants.{Kind, Length, Address, Operator, Operand}
+use Rattle.rule.specs.Shape.{shapeOf}
 use Rattle.rule.specs.Operator.{endsList, sizeOf}
 use Rattle.rule.specs.Plain.{bodyOf, operandAfter, after, plainOperator, plainOperand, plainAddress, clearedOctet, plainFrom, plain}
 
@@ -28,12 +29,14 @@ unfolding plainAddress
 whole-octet left x h = let z : 8 - left ≡ 0 = omega arith in rw z (omega arith)
 
 -- an octet of a value stays an octet
-pub operand-small : (kind x r : ℕ) → r ≡ plainOperand kind x → x < 256 → r < 256
+pub operand-small : (ignored x r : ℕ) → r ≡ plainOperand ignored x → x < 256 → r < 256
 unfolding plainOperand
-operand-small kind x r e h =
-    rw e
-    (by-test (eqb kind 11) (λ t. rw t (omega (arith, and-le-l x 0x3f)))
-    (λ t. by-test (eqb kind 12) (λ u. rw (t, u) (omega (arith, and-le-l x 0x0f))) (λ u. rw (t, u) h)))
+operand-small ignored x r e h = rw e (omega arith)
+
+-- and is kept whole where no bit is to be ignored
+pub whole-operand : (ignored x : ℕ) → ignored ≡ 0 → plainOperand ignored x ≡ x
+unfolding plainOperand
+whole-operand ignored x e = rw (e, and-zero-r x) (omega arith)
 
 -- an address's first octet above the n octets behind it: the bits still to come and the rest
 pub above : (n left x : ℕ) → 8 < left → left ≤ 8 * suc n → x * 2 ^ (8 * n) ≡ x * 2 ^ (left - 8) * 2 ^ (8 * n - (left - 8))
@@ -41,74 +44,72 @@ above n left x h l =
     let e : 8 * n ≡ left - 8 + (8 * n - (left - 8)) = omega arith in
     ap (λ m. x * 2 ^ m) e ∙ rw (pow-add 2 (left - 8) (8 * n - (left - 8))) (sym (mul-assoc x (2 ^ (left - 8)) (2 ^ (8 * n - (left - 8)))))
 
--- the length never changes
-pub length-plain-from : (e : Expected) (v : List ℕ) → length (plainFrom e v) ≡ length v
-unfolding plainFrom
-length-plain-from e [] = refl
-length-plain-from e (x ∷ xs) = ap suc (length-plain-from (after e x) xs)
+module _ (family : Family) where
+  -- the length never changes
+  pub length-plain-from : (e : Expected) (v : List ℕ) → length (plainFrom family e v) ≡ length v
+  unfolding plainFrom
+  length-plain-from e [] = refl
+  length-plain-from e (x ∷ xs) = ap suc (length-plain-from (after family e x) xs)
 
-pub length-plain : (v : List ℕ) → length (plain v) ≡ length v
-unfolding plain
-length-plain v = length-plain-from Kind v
+  pub length-plain : (v : List ℕ) → length (plain family v) ≡ length v
+  unfolding plain
+  length-plain v = length-plain-from Kind v
 
--- a prefix's length octet is kept
-pub length-kept : (body : List ℕ) → getD (plainFrom Length body) 0 0 ≡ getD body 0 0
-unfolding plainFrom clearedOctet
-length-kept [] = refl
-length-kept (x ∷ r) = refl
+  -- a prefix's length octet is kept
+  pub length-kept : (body : List ℕ) → getD (plainFrom family Length body) 0 0 ≡ getD body 0 0
+  unfolding plainFrom clearedOctet
+  length-kept [] = refl
+  length-kept (x ∷ r) = refl
 
 -- how `expected_after` comes to each of its answers
-module _ (e : Expected) (x : ℕ) where
-  pub after-kind : (r : Expected) → e ≡ Kind → r ≡ bodyOf x → r ≡ after e x
+module _ (family : Family) (e : Expected) (x : ℕ) where
+  pub after-kind : (r : Expected) → e ≡ Kind → r ≡ bodyOf family x → r ≡ after family e x
   unfolding after
   after-kind r h k = rw h k
 
-  pub after-length-zero : e ≡ Length → x ≡ 0 → Kind ≡ after e x
+  pub after-length-zero : e ≡ Length → x ≡ 0 → Kind ≡ after family e x
   unfolding after
   after-length-zero h z = rw (h, eq-eqb x 0 z)
 
-  pub after-length : e ≡ Length → (x ≡ 0 → ⊥) → Address x ≡ after e x
+  pub after-length : e ≡ Length → (x ≡ 0 → ⊥) → Address x ≡ after family e x
   unfolding after
   after-length h z = rw (h, ne-eqb x 0 z)
 
-  pub after-address-last : (left : ℕ) → e ≡ Address left → left ≤ 8 → Kind ≡ after e x
+  pub after-address-last : (left : ℕ) → e ≡ Address left → left ≤ 8 → Kind ≡ after family e x
   unfolding after
   after-address-last left h k = rw (h, le-leb left 8 k)
 
-  pub after-address : (left : ℕ) → e ≡ Address left → 8 < left → Address (left - 8) ≡ after e x
+  pub after-address : (left : ℕ) → e ≡ Address left → 8 < left → Address (left - 8) ≡ after family e x
   unfolding after
   after-address left h k = rw (h, lt-leb left 8 k)
 
   pub after-operator : (kind size : ℕ) (first ends : Bool) → e ≡ Operator kind first → size ≡ sizeOf x → ends ≡ endsList x
-      → Operand kind size ends ≡ after e x
+      → Operand kind size ends ≡ after family e x
   unfolding after
   after-operator kind size first ends h s t = rw (h, s, t)
 
-  pub after-operand : (kind left : ℕ) (last : Bool) (r : Expected) → e ≡ Operand kind left last → r ≡ operandAfter kind left last → r ≡ after e x
+  pub after-operand : (kind left : ℕ) (last : Bool) (r : Expected) → e ≡ Operand kind left last → r ≡ operandAfter kind left last → r ≡ after family e x
   unfolding after
   after-operand kind left last r h k = rw h k
 
   -- how `cleared_octet` comes to each of its answers
-  pub cleared-kind : e ≡ Kind → x ≡ clearedOctet e x
+  pub cleared-kind : e ≡ Kind → x ≡ clearedOctet family e x
   unfolding clearedOctet
   cleared-kind h = rw h
 
-  pub cleared-length : e ≡ Length → x ≡ clearedOctet e x
+  pub cleared-length : e ≡ Length → x ≡ clearedOctet family e x
   unfolding clearedOctet
   cleared-length h = rw h
 
-  pub cleared-address : (left r : ℕ) → e ≡ Address left → r ≡ plainAddress left x → r ≡ clearedOctet e x
+  pub cleared-address : (left r : ℕ) → e ≡ Address left → r ≡ plainAddress left x → r ≡ clearedOctet family e x
   unfolding clearedOctet
   cleared-address left r h k = rw h k
 
-  pub cleared-first : (kind r : ℕ) (first : Bool) → e ≡ Operator kind first → first ≡ true → r ≡ plainOperator kind x → bitAnd r 0xbf ≡ clearedOctet e x
-  unfolding clearedOctet
-  cleared-first kind r first h f k = rw (h, f, k)
+  module _ (shape : Shape) (kind : ℕ) (is : shape ≡ shapeOf family kind) where
+    pub cleared-operator : (r : ℕ) (first : Bool) → e ≡ Operator kind first → r ≡ plainOperator (shape .bitmask) first x → r ≡ clearedOctet family e x
+    unfolding clearedOctet
+    cleared-operator r first h k = rw (h, ← is) k
 
-  pub cleared-later : (kind r : ℕ) (first : Bool) → e ≡ Operator kind first → first ≡ false → r ≡ plainOperator kind x → r ≡ clearedOctet e x
-  unfolding clearedOctet
-  cleared-later kind r first h f k = rw (h, f) k
-
-  pub cleared-operand : (kind left r : ℕ) (last : Bool) → e ≡ Operand kind left last → r ≡ plainOperand kind x → r ≡ clearedOctet e x
-  unfolding clearedOctet
-  cleared-operand kind left r last h k = rw h k
+    pub cleared-operand : (left r : ℕ) (last : Bool) → e ≡ Operand kind left last → r ≡ plainOperand (shape .ignored) x → r ≡ clearedOctet family e x
+    unfolding clearedOctet
+    cleared-operand left r last h k = rw (h, ← is) k

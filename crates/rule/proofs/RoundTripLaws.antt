@@ -54,33 +54,33 @@ module _ (size : ℕ) (rest : List ℕ) where
       ]
 
 -- the rule of the plain spelling is the rule
-pub rule-for-plain : (v : List ℕ) → Octets v → ruleFor (plain v) ≡ ruleFor v
+pub rule-for-plain : (family : Family) (v : List ℕ) → Octets v → ruleFor family (plain family v) ≡ ruleFor family v
 unfolding ruleFor
-rule-for-plain v o = rw (length-plain v, plain-again v o)
+rule-for-plain family v o = rw (length-plain family v, plain-again family v o)
 
 -- behind the length field stands the plain value
-pub value-back : (v : List ℕ) → take (length v) (drop (length (lengthField (length v))) (ruleFor v)) ≡ plain v
+pub value-back : (family : Family) (v : List ℕ) → take (length v) (drop (length (lengthField (length v))) (ruleFor family v)) ≡ plain family v
 unfolding ruleFor
-value-back v =
-    let l = length-plain v in
-    rw (drop-at (lengthField (length v)) (plain v) (length (lengthField (length v))) refl) (take-all (length v) (plain v) (omega arith))
+value-back family v =
+    let l = length-plain family v in
+    rw (drop-at (lengthField (length v)) (plain family v) (length (lengthField (length v))) refl) (take-all (length v) (plain family v) (omega arith))
 
 -- Reading what was written gives the plain value back.
 pub read-written : (family : Family) (v : List ℕ) → checkValue family v ≡ Accepted → Octets v
-    → (oneRule family (ruleFor v) ≡ Rule (length (lengthField (length v))) (length v))
-    × (take (length v) (drop (length (lengthField (length v))) (ruleFor v)) ≡ plain v)
+    → (oneRule family (ruleFor family v) ≡ Rule (length (lengthField (length v))) (length v))
+    × (take (length v) (drop (length (lengthField (length v))) (ruleFor family v)) ≡ plain family v)
 unfolding ruleFor
 read-written family v ok o =
-    let s = ruleFor v in
+    let s = ruleFor family v in
     let start = length (lengthField (length v)) in
     let size = length v in
-    let whole = length-rule v in
+    let whole = length-rule family v in
     let value : checkValue family (take (start + size - start) (drop start s)) ≡ Accepted
-    = rw (add-sub-cancel-left start size, value-back v, check-plain family v o) ok in
+    = rw (add-sub-cancel-left start size, value-back family v, check-plain family v o) ok in
     let read : Rule start size ≡ firstRule family s
-    = read-accepted family s start size (sym (field-size-back size (plain v))) (sym (field-length-back size (plain v) (accepted-small family v ok)))
+    = read-accepted family s start size (sym (field-size-back size (plain family v))) (sym (field-length-back size (plain family v) (accepted-small family v ok)))
     (checkValue family (take (start + size - start) (drop start s))) refl (omega arith) (omega arith) value in
-    (sym (alone-whole family s (firstRule family s) refl start size (sym read) (sym whole)), value-back v)
+    (sym (alone-whole family s (firstRule family s) refl start size (sym read) (sym whole)), value-back family v)
 
 -- the one rule that octets are is all of them
 pub one-whole : (family : Family) (s : List ℕ) (start size : ℕ) → oneRule family s ≡ Rule start size → start + size ≡ length s
@@ -99,43 +99,43 @@ one-whole family s start size e = go (firstRule family s) e
     go (Refused number place) q = apart (cc)
 
 -- an accepted value is written wherever there is room
-pub accepted-written : (family : Family) (v b : List ℕ) → checkValue family v ≡ Accepted → length (ruleFor v) ≤ length b
-    → (writing family v (length b) ≡ Written (length (ruleFor v))) × (afterWriting family v b ≡ ruleFor v ++ drop (length (ruleFor v)) b)
+pub accepted-written : (family : Family) (v b : List ℕ) → checkValue family v ≡ Accepted → length (ruleFor family v) ≤ length b
+    → (writing family v (length b) ≡ Written (length (ruleFor family v))) × (afterWriting family v b ≡ ruleFor family v ++ drop (length (ruleFor family v)) b)
 unfolding writing afterWriting
 accepted-written family v b ok room =
-    let fits = le-ltb (length b) (length (ruleFor v)) room in
+    let fits = le-ltb (length b) (length (ruleFor family v)) room in
     (rw (ok, fits), rw (ok, fits))
 
 module _ (family : Family) (s : List ℕ) (start size : ℕ) (read : oneRule family s ≡ Rule start size) where
   -- Writing what was read gives the plain rule, in every buffer that has room.
-  pub write-read : (b : List ℕ) → length (ruleFor (take size (drop start s))) ≤ length b
-      → (writing family (take size (drop start s)) (length b) ≡ Written (length (ruleFor (take size (drop start s)))))
+  pub write-read : (b : List ℕ) → length (ruleFor family (take size (drop start s))) ≤ length b
+      → (writing family (take size (drop start s)) (length b) ≡ Written (length (ruleFor family (take size (drop start s)))))
       × (afterWriting family (take size (drop start s)) b
-      ≡ ruleFor (take size (drop start s)) ++ drop (length (ruleFor (take size (drop start s)))) b)
+      ≡ ruleFor family (take size (drop start s)) ++ drop (length (ruleFor family (take size (drop start s)))) b)
   write-read b room = accepted-written family (take size (drop start s)) b (one-read family s start size read .accepted) room
 
   -- What was written is written again as it was.
-  pub write-again : (v : List ℕ) → checkValue family v ≡ Accepted → Octets v → s ≡ ruleFor v → ruleFor (take size (drop start s)) ≡ s
+  pub write-again : (v : List ℕ) → checkValue family v ≡ Accepted → Octets v → s ≡ ruleFor family v → ruleFor family (take size (drop start s)) ≡ s
   write-again v ok o e =
       let back = read-written family v ok o in
       let same : Rule (length (lengthField (length v))) (length v) ≡ Rule start size = sym (back .0) ∙ rw e at read in
       let p : start ≡ length (lengthField (length v)) = cc in
       let q : size ≡ length v = cc in
-      rw (p, q, e) (ap ruleFor (back .1) ∙ rule-for-plain v o)
+      rw (p, q, e) (ap (ruleFor family) (back .1) ∙ rule-for-plain family v o)
 
 -- Two accepted values that are written alike have one plain spelling.
-pub rule-only : (family : Family) (v w : List ℕ) → checkValue family v ≡ Accepted → checkValue family w ≡ Accepted → ruleFor v ≡ ruleFor w
-    → plain v ≡ plain w
+pub rule-only : (family : Family) (v w : List ℕ) → checkValue family v ≡ Accepted → checkValue family w ≡ Accepted → ruleFor family v ≡ ruleFor family w
+    → plain family v ≡ plain family w
 unfolding ruleFor
 rule-only family v w ok also e =
     let size : length v ≡ length w
-    = sym (field-length-back (length v) (plain v) (accepted-small family v ok)) ∙ ap fieldLength e
-    ∙ field-length-back (length w) (plain w) (accepted-small family w also) in
-    sym (value-back v) ∙ (λ i. take (size i) (drop (length (lengthField (size i))) (e i))) ∙ value-back w
+    = sym (field-length-back (length v) (plain family v) (accepted-small family v ok)) ∙ ap fieldLength e
+    ∙ field-length-back (length w) (plain family w) (accepted-small family w also) in
+    sym (value-back family v) ∙ (λ i. take (size i) (drop (length (lengthField (size i))) (e i))) ∙ value-back family w
 
 -- Two values of one plain spelling are written alike.
-pub rule-same : (v w : List ℕ) → plain v ≡ plain w → ruleFor v ≡ ruleFor w
+pub rule-same : (family : Family) (v w : List ℕ) → plain family v ≡ plain family w → ruleFor family v ≡ ruleFor family w
 unfolding ruleFor
-rule-same v w e =
-    let size : length v ≡ length w = sym (length-plain v) ∙ ap length e ∙ length-plain w in
+rule-same family v w e =
+    let size : length v ≡ length w = sym (length-plain family v) ∙ ap length e ∙ length-plain family w in
     λ i. lengthField (size i) ++ e i

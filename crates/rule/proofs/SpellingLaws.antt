@@ -3,6 +3,7 @@
 use mathlib.Core.Path.{_≡_, refl, sym, ap, ap₂, subst, _∙_}
 use mathlib.Core.Bool.{Bool, true, false, cond}
 use mathlib.Core.List.{List, [], _∷_, map}
+use mathlib.Core.Logic.{⊎-elim}
 use Prim.Native.Nat.{ℕ, zero, suc, _+_, _-_, _/_, _<_, _≤_}
 use native.Mathlib.Omega.{arith}
 use native.Mathlib.Numerals.{add-one}
@@ -17,6 +18,7 @@ use Rattle.octets.proofs.Cases.{by-test}
 use Rattle.octets.proofs.Facts.{Octets}
 use Rattle.octets.proofs.NumberLaws.{number-alike, one-octet}
 use Rattle.rule.specs.declared.Family.{Family}
+use Rattle.rule.specs.declared.Shape.{Shape}
 use Rattle.rule.specs.declared.Expected.{Expected}
 use Rattle.rule.specs.declared.Expected.the-variants.{Kind, Length, Address, Operator, Operand}
 use Rattle.rule.specs.declared.NextPair.{NextPair}
@@ -26,47 +28,50 @@ use Rattle.rule.specs.declared.BodyEnd.the-variants.{At, Refused as Refu
 use Rattle.rule.specs.declared.Next.{Next}
 use Rattle.rule.specs.declared.Next.the-variants.{Nothing, Another, Refused as RefusedNext}
 use Rattle.rule.specs.declared.Checked.{Checked}
-use Rattle.rule.specs.Operator.{endsList, sizeOf, isPrefix, sizeAllowed}
+use Rattle.rule.specs.Shape.{shapeOf}
+use Rattle.rule.specs.Operator.{endsList, sizeOf}
 use Rattle.rule.specs.Component.{pairAt, Pair, pairOf, pairsFrom, prefixEnd, bodyEnd, found, componentAt}
 use Rattle.rule.specs.Value.{Component, between, componentsFrom, components, checkValue}
-use Rattle.rule.specs.Plain.{bodyOf, operandAfter, after, plainOperand, clearedOctet, plainFrom, plain}
+use Rattle.rule.specs.Plain.{bodyOf, operandAfter, after, plainOperator, plainOperand, clearedOctet, plainFrom, plain}
+use Rattle.rule.specs.PlainComponent.{plainPair, plainPairs, plainComponent}
+use Rattle.rule.proofs.ShapeLaws.{one-octet-or-whole}
 use Rattle.rule.proofs.OperatorLaws.{size-positive}
 use Rattle.rule.proofs.ComponentLaws.{pair-cases, prefix-cases, component-cases, pairs-more, pairs-last, pairs-refused, pairs-ind}
 use Rattle.rule.proofs.ValueLaws.{was-found, components-more, components-none, components-refused, components-ind}
-use Rattle.rule.proofs.PlainLaws.{length-plain-from}
+use Rattle.rule.proofs.PlainLaws.{length-plain-from, whole-operand}
 use Rattle.rule.proofs.ClearedLaws.{size-kept, end-kept}
 
 -- the octet at a place is as expected, where the first is as `start` says: from there on the spelling is that of what is left
-Expects : Expected → List ℕ → ℕ → Expected → Type 0
-Expects start v i e = drop i (plainFrom start v) ≡ plainFrom e (drop i v)
+Expects : Family → Expected → List ℕ → ℕ → Expected → Type 0
+Expects family start v i e = drop i (plainFrom family start v) ≡ plainFrom family e (drop i v)
 
-module _ (start : Expected) (v : List ℕ) where
-  starts : Expects start v 0 start
+module _ (family : Family) (start : Expected) (v : List ℕ) where
+  starts : Expects family start v 0 start
   unfolding Expects
   starts = refl
 
   -- the octet there, cleared, and what is expected behind it
-  octet-there : (i : ℕ) (e : Expected) → Expects start v i e → i < length v → getD (plainFrom start v) i 0 ≡ clearedOctet e (getD v i 0)
+  octet-there : (i : ℕ) (e : Expected) → Expects family start v i e → i < length v → getD (plainFrom family start v) i 0 ≡ clearedOctet family e (getD v i 0)
   unfolding Expects plainFrom
   octet-there i e x h =
-      let p : getD (drop i (plainFrom start v)) 0 0 ≡ clearedOctet e (getD v i 0) = rw (x, drop-cons v i 0 h) in
-      sym (getD-drop i (plainFrom start v) 0 0 ∙ ap (λ n. getD (plainFrom start v) n 0) (add-zero i)) ∙ p
+      let p : getD (drop i (plainFrom family start v)) 0 0 ≡ clearedOctet family e (getD v i 0) = rw (x, drop-cons v i 0 h) in
+      sym (getD-drop i (plainFrom family start v) 0 0 ∙ ap (λ n. getD (plainFrom family start v) n 0) (add-zero i)) ∙ p
 
-  goes-on : (i : ℕ) (e : Expected) → Expects start v i e → i < length v → Expects start v (i + 1) (after e (getD v i 0))
+  goes-on : (i : ℕ) (e : Expected) → Expects family start v i e → i < length v → Expects family start v (i + 1) (after family e (getD v i 0))
   unfolding Expects plainFrom
-  goes-on i e x h = sym (drop-drop 1 i (plainFrom start v)) ∙ rw (x, drop-cons v i 0 h, add-one)
+  goes-on i e x h = sym (drop-drop 1 i (plainFrom family start v)) ∙ rw (x, drop-cons v i 0 h, add-one)
 
   -- behind a value of n octets stands the next operator, or after the last pair a type
-  value-passed : (n i kind : ℕ) (last : Bool) → Expects start v i (Operand kind n last) → 1 ≤ n → i + n ≤ length v
-      → Expects start v (i + n) (cond last Kind (Operator kind false))
+  value-passed : (n i kind : ℕ) (last : Bool) → Expects family start v i (Operand kind n last) → 1 ≤ n → i + n ≤ length v
+      → Expects family start v (i + n) (cond last Kind (Operator kind false))
   unfolding after operandAfter
   value-passed zero i kind last x h k = absurd (omega arith)
   value-passed (suc n) i kind last x h k =
       let next = goes-on i (Operand kind (suc n) last) x (omega arith) in
       go (value-passed n (i + 1) kind last) (ltb 1 (suc n)) refl next
     where
-      go : (Expects start v (i + 1) (Operand kind n last) → 1 ≤ n → i + 1 + n ≤ length v → Expects start v (i + 1 + n) (cond last Kind (Operator kind false)))
-          → (t : Bool) → ltb 1 (suc n) ≡ t → Expects start v (i + 1) (operandAfter kind (suc n) last) → Expects start v (i + suc n) (cond last Kind (Operator kind false))
+      go : (Expects family start v (i + 1) (Operand kind n last) → 1 ≤ n → i + 1 + n ≤ length v → Expects family start v (i + 1 + n) (cond last Kind (Operator kind false)))
+          → (t : Bool) → ltb 1 (suc n) ≡ t → Expects family start v (i + 1) (operandAfter kind (suc n) last) → Expects family start v (i + suc n) (cond last Kind (Operator kind false))
       go ih true t y =
           let m : suc n - 1 ≡ n = omega arith in
           let e : i + 1 + n ≡ i + suc n = omega arith in
@@ -78,8 +83,8 @@ module _ (start : Expected) (v : List ℕ) where
           rw (← e) (rw t at y)
 
   -- the octets of a value, cleared one by one
-  value-octets : (j n i kind : ℕ) (last : Bool) → Expects start v i (Operand kind n last) → i + n ≤ length v → j < n
-      → getD (plainFrom start v) (i + j) 0 ≡ plainOperand kind (getD v (i + j) 0)
+  value-octets : (j n i kind : ℕ) (last : Bool) → Expects family start v i (Operand kind n last) → i + n ≤ length v → j < n
+      → getD (plainFrom family start v) (i + j) 0 ≡ plainOperand (shapeOf family kind .ignored) (getD v (i + j) 0)
   unfolding after operandAfter clearedOctet
   value-octets zero n i kind last x h k = rw (add-zero i) (octet-there i (Operand kind n last) x (omega arith))
   value-octets (suc j) n i kind last x h k =
@@ -88,107 +93,104 @@ module _ (start : Expected) (v : List ℕ) where
       rw (← e) (value-octets j (n - 1) (i + 1) kind last (rw (lt-ltb 1 n (omega arith)) at next) (omega arith) (omega arith))
 
   -- so is the number that they are: a type that clears bits has values of one octet
-  value-cleared : (n i kind : ℕ) (last : Bool) → Expects start v i (Operand kind n last) → i + n ≤ length v → sizeAllowed kind n ≡ true
-      → numberAt n (plainFrom start v) i ≡ plainOperand kind (numberAt n v i)
-  unfolding sizeAllowed plainOperand
-  value-cleared n i kind last x h allowed =
-      let octets : (j : ℕ) → j < n → getD (plainFrom start v) (i + j) 0 ≡ plainOperand kind (getD v (i + j) 0)
+  value-cleared : (n i kind : ℕ) (last : Bool) → Expects family start v i (Operand kind n last) → 1 ≤ n → i + n ≤ length v → n ≤ shapeOf family kind .largest
+      → numberAt n (plainFrom family start v) i ≡ plainOperand (shapeOf family kind .ignored) (numberAt n v i)
+  value-cleared n i kind last x some h allowed =
+      let shape = shapeOf family kind in
+      let octets : (j : ℕ) → j < n → getD (plainFrom family start v) (i + j) 0 ≡ plainOperand (shape .ignored) (getD v (i + j) 0)
       = λ j k. value-octets j n i kind last x h k in
-      by-test (eqb kind 11) (λ t. let e = eqb-true kind 11 t in of-one n i kind (eqb-true n 1 (rw e at allowed)) octets)
-      (λ t. by-test (eqb kind 12) (λ u. let e = eqb-true kind 12 u in of-one n i kind (eqb-true n 1 (rw e at allowed)) octets)
-      (λ u. rw (t, u) (number-alike n (plainFrom start v) v i (λ j k. rw (t, u) at (octets j k)))))
-    where
-      of-one : (n i kind : ℕ) → n ≡ 1 → ((j : ℕ) → j < n → getD (plainFrom start v) (i + j) 0 ≡ plainOperand kind (getD v (i + j) 0))
-          → numberAt n (plainFrom start v) i ≡ plainOperand kind (numberAt n v i)
-      of-one n i kind e octets = rw (e, one-octet (plainFrom start v) i, one-octet v i) (rw (add-zero i) at (octets 0 (omega arith)))
+      ⊎-elim
+      (λ narrow.
+      let one : n ≡ 1 = omega arith in
+      rw (one, one-octet (plainFrom family start v) i, one-octet v i) (rw (add-zero i) at (octets 0 (omega arith))))
+      (λ none.
+      rw (whole-operand (shape .ignored) (numberAt n v i) none)
+      (number-alike n (plainFrom family start v) v i (λ j k. octets j k ∙ whole-operand (shape .ignored) (getD v (i + j) 0) none)))
+      (one-octet-or-whole family kind)
 
--- a pair in the plain spelling, and a list of them: only the first operator loses its AND
-abbrev pub plainPair : ℕ → Bool → Pair → Pair
-plainPair kind first p = record { operator = clearedOctet (Operator kind first) (p .operator); value = plainOperand kind (p .value) }
-
-abbrev pub plainPairs : ℕ → Bool → List Pair → List Pair
-plainPairs kind first [] = []
-plainPairs kind first (p ∷ ps) = plainPair kind first p ∷ plainPairs kind false ps
-
-abbrev plainList : ℕ → Bool → Walk Pair BodyEnd → Walk Pair BodyEnd
-plainList kind first w = record { items = plainPairs kind first (w .items); ending = w .ending }
+abbrev plainList : Shape → Bool → Walk Pair BodyEnd → Walk Pair BodyEnd
+plainList shape first w = record { items = plainPairs shape first (w .items); ending = w .ending }
 
 -- what a pair is in the plain spelling, and what is expected behind it
-PairExpects : Expected → List ℕ → ℕ → Bool → ℕ → NextPair → Type 0
-PairExpects start v kind first at (More next) =
-    (pairOf (plainFrom start v) at next ≡ plainPair kind first (pairOf v at next)) × Expects start v next (Operator kind false)
-PairExpects start v kind first at (Last next) =
-    (pairOf (plainFrom start v) at next ≡ plainPair kind first (pairOf v at next)) × Expects start v next Kind
-PairExpects start v kind first at (RefusedPair number place) = Unit {0}
+PairExpects : Family → Expected → List ℕ → ℕ → Bool → ℕ → NextPair → Type 0
+PairExpects family start v kind first at (More next) =
+    (pairOf (plainFrom family start v) at next ≡ plainPair (shapeOf family kind) first (pairOf v at next)) × Expects family start v next (Operator kind false)
+PairExpects family start v kind first at (Last next) =
+    (pairOf (plainFrom family start v) at next ≡ plainPair (shapeOf family kind) first (pairOf v at next)) × Expects family start v next Kind
+PairExpects family start v kind first at (RefusedPair number place) = Unit {0}
 
 -- what is expected at the end of a body
-EndExpects : Expected → List ℕ → BodyEnd → Type 0
-EndExpects start v (At next) = Expects start v next Kind
-EndExpects start v (RefusedBody number place) = Unit {0}
+EndExpects : Family → Expected → List ℕ → BodyEnd → Type 0
+EndExpects family start v (At next) = Expects family start v next Kind
+EndExpects family start v (RefusedBody number place) = Unit {0}
 
-module _ (start : Expected) (v : List ℕ) (o : Octets v) (kind : ℕ) where
-  pair-same : (at : ℕ) (first : Bool) → Expects start v at (Operator kind first) → pairAt kind (plainFrom start v) at ≡ pairAt kind v at
-  unfolding pairAt
+module _ (family : Family) (start : Expected) (v : List ℕ) (o : Octets v) (kind : ℕ) where
+  abbrev shape : Shape
+  shape = shapeOf family kind
+
+  pair-same : (at : ℕ) (first : Bool) → Expects family start v at (Operator kind first) → pairAt (shape .largest) (plainFrom family start v) at ≡ pairAt (shape .largest) v at
+  unfolding pairAt clearedOctet
   pair-same at first x =
-      by-test (leb (length v) at) (λ t. rw (length-plain-from start v, t))
+      by-test (leb (length v) at) (λ t. rw (length-plain-from family start v, t))
       (λ t. let h = leb-false (length v) at t in
-      rw (length-plain-from start v, octet-there start v at (Operator kind first) x h, size-kept kind first (getD v at 0) (o at), end-kept kind first (getD v at 0) (o at)))
+      rw (length-plain-from family start v, octet-there family start v at (Operator kind first) x h, size-kept (shape .bitmask) first (getD v at 0) (o at), end-kept (shape .bitmask) first (getD v at 0) (o at)))
 
-  module _ (at : ℕ) (first : Bool) (x : Expects start v at (Operator kind first)) where
+  module _ (at : ℕ) (first : Bool) (x : Expects family start v at (Operator kind first)) where
     abbrev operator : ℕ
     operator = getD v at 0
 
-    behind : at < length v → Expects start v (at + 1) (Operand kind (sizeOf operator) (endsList operator))
+    behind : at < length v → Expects family start v (at + 1) (Operand kind (sizeOf operator) (endsList operator))
     unfolding after
-    behind h = goes-on start v at (Operator kind first) x h
+    behind h = goes-on family start v at (Operator kind first) x h
 
-    same-pair : at + 1 + sizeOf operator ≤ length v → sizeAllowed kind (sizeOf operator) ≡ true
-        → pairOf (plainFrom start v) at (at + 1 + sizeOf operator) ≡ plainPair kind first (pairOf v at (at + 1 + sizeOf operator))
+    same-pair : at + 1 + sizeOf operator ≤ length v → sizeOf operator ≤ shape .largest
+        → pairOf (plainFrom family start v) at (at + 1 + sizeOf operator) ≡ plainPair (shapeOf family kind) first (pairOf v at (at + 1 + sizeOf operator))
+    unfolding clearedOctet
     same-pair h u =
         let size : at + 1 + sizeOf operator - (at + 1) ≡ sizeOf operator = omega arith in
-        let value = value-cleared start v (sizeOf operator) (at + 1) kind (endsList operator) (behind (omega arith)) h u in
-        rw size (λ i. record { operator = octet-there start v at (Operator kind first) x (omega arith) i; value = value i })
+        let value = value-cleared family start v (sizeOf operator) (at + 1) kind (endsList operator) (behind (omega arith)) (size-positive operator (o at)) h u in
+        rw size (λ i. record { operator = octet-there family start v at (Operator kind first) x (omega arith) i; value = value i })
 
-    passed : at + 1 + sizeOf operator ≤ length v → Expects start v (at + 1 + sizeOf operator) (cond (endsList operator) Kind (Operator kind false))
-    passed h = value-passed start v (sizeOf operator) (at + 1) kind (endsList operator) (behind (omega arith)) (size-positive operator (o at)) h
+    passed : at + 1 + sizeOf operator ≤ length v → Expects family start v (at + 1 + sizeOf operator) (cond (endsList operator) Kind (Operator kind false))
+    passed h = value-passed family start v (sizeOf operator) (at + 1) kind (endsList operator) (behind (omega arith)) (size-positive operator (o at)) h
 
-    pair-then : PairExpects start v kind first at (pairAt kind v at)
+    pair-then : PairExpects family start v kind first at (pairAt (shape .largest) v at)
     unfolding PairExpects
-    pair-then = pair-cases kind v at (PairExpects start v kind first at) tt (λ h. tt) (λ h u e. (same-pair h u, rw e at (passed h))) (λ h u e. (same-pair h u, rw e at (passed h)))
+    pair-then = pair-cases (shape .largest) v at (PairExpects family start v kind first at) tt (λ h. tt) (λ h u e. (same-pair h u, rw e at (passed h))) (λ h u e. (same-pair h u, rw e at (passed h)))
 
   -- a list in the plain spelling is the list of its pairs in the plain spelling, and a type is expected behind it
   ListSame : ℕ → Walk Pair BodyEnd → Type 0
-  ListSame at w = (first : Bool) → Expects start v at (Operator kind first)
-      → (pairsFrom kind (plainFrom start v) at ≡ plainList kind first w) × EndExpects start v (w .ending)
+  ListSame at w = (first : Bool) → Expects family start v at (Operator kind first)
+      → (pairsFrom (shape .largest) (plainFrom family start v) at ≡ plainList shape first w) × EndExpects family start v (w .ending)
 
-  list-same : (at : ℕ) → ListSame at (pairsFrom kind v at)
+  list-same : (at : ℕ) → ListSame at (pairsFrom (shape .largest) v at)
   unfolding ListSame EndExpects PairExpects
   list-same =
-      pairs-ind kind v ListSame
-      (λ at number place e first x. (pairs-refused kind (plainFrom start v) at number place (pair-same at first x ∙ e), tt))
+      pairs-ind (shape .largest) v ListSame
+      (λ at number place e first x. (pairs-refused (shape .largest) (plainFrom family start v) at number place (pair-same at first x ∙ e), tt))
       (λ at next e first x.
       let here = at-pair at first (Last next) e x in
-      (pairs-last kind (plainFrom start v) at next (pair-same at first x ∙ e) ∙ ap (λ (p : Pair). record { items = p ∷ []; ending = At next }) (here .0), here .1))
+      (pairs-last (shape .largest) (plainFrom family start v) at next (pair-same at first x ∙ e) ∙ ap (λ (p : Pair). record { items = p ∷ []; ending = At next }) (here .0), here .1))
       (λ at next w e h first x.
       let here = at-pair at first (More next) e x in
       let rest = h false (here .1) in
-      (pairs-more kind (plainFrom start v) at next (pair-same at first x ∙ e) ∙ ap₂ before (here .0) (rest .0), rest .1))
+      (pairs-more (shape .largest) (plainFrom family start v) at next (pair-same at first x ∙ e) ∙ ap₂ before (here .0) (rest .0), rest .1))
     where
-      at-pair : (at : ℕ) (first : Bool) (pair : NextPair) → pairAt kind v at ≡ pair → Expects start v at (Operator kind first)
-          → PairExpects start v kind first at pair
-      at-pair at first pair e x = subst (PairExpects start v kind first at) e (pair-then at first x)
+      at-pair : (at : ℕ) (first : Bool) (pair : NextPair) → pairAt (shape .largest) v at ≡ pair → Expects family start v at (Operator kind first)
+          → PairExpects family start v kind first at pair
+      at-pair at first pair e x = subst (PairExpects family start v kind first at) e (pair-then at first x)
 
-module _ (start : Expected) (v : List ℕ) where
+module _ (family : Family) (start : Expected) (v : List ℕ) where
   -- behind the octets of a prefix stands a type
-  prefix-passed : (m left i : ℕ) → left ≤ m → Expects start v i (Address left) → 1 ≤ left → i + (left + 7) / 8 ≤ length v → Expects start v (i + (left + 7) / 8) Kind
+  prefix-passed : (m left i : ℕ) → left ≤ m → Expects family start v i (Address left) → 1 ≤ left → i + (left + 7) / 8 ≤ length v → Expects family start v (i + (left + 7) / 8) Kind
   unfolding after
   prefix-passed zero left i b x h k = absurd (omega arith)
   prefix-passed (suc m) left i b x h k =
-      go (prefix-passed m (left - 8) (i + 1)) (leb left 8) refl (goes-on start v i (Address left) x (omega arith))
+      go (prefix-passed m (left - 8) (i + 1)) (leb left 8) refl (goes-on family start v i (Address left) x (omega arith))
     where
-      go : (left - 8 ≤ m → Expects start v (i + 1) (Address (left - 8)) → 1 ≤ left - 8 → i + 1 + (left - 8 + 7) / 8 ≤ length v
-          → Expects start v (i + 1 + (left - 8 + 7) / 8) Kind) → (t : Bool) → leb left 8 ≡ t → Expects start v (i + 1) (cond (leb left 8) Kind (Address (left - 8)))
-          → Expects start v (i + (left + 7) / 8) Kind
+      go : (left - 8 ≤ m → Expects family start v (i + 1) (Address (left - 8)) → 1 ≤ left - 8 → i + 1 + (left - 8 + 7) / 8 ≤ length v
+          → Expects family start v (i + 1 + (left - 8 + 7) / 8) Kind) → (t : Bool) → leb left 8 ≡ t → Expects family start v (i + 1) (cond (leb left 8) Kind (Address (left - 8)))
+          → Expects family start v (i + (left + 7) / 8) Kind
       go ih true t y =
           let z = leb-true left 8 t in
           let e : i + 1 ≡ i + (left + 7) / 8 = omega arith in
@@ -198,111 +200,108 @@ module _ (start : Expected) (v : List ℕ) where
           let e : i + 1 + (left - 8 + 7) / 8 ≡ i + (left + 7) / 8 = omega arith in
           rw (← e) (ih (omega arith) (rw t at y) (omega arith) (omega arith))
 
-  module _ (family : Family) (at : ℕ) (x : Expects start v at Length) where
-    prefix-same : prefixEnd family (plainFrom start v) at ≡ prefixEnd family v at
+  module _ (at : ℕ) (x : Expects family start v at Length) where
+    prefix-same : prefixEnd family (plainFrom family start v) at ≡ prefixEnd family v at
     unfolding prefixEnd clearedOctet
     prefix-same =
-        by-test (leb (length v) at) (λ t. rw (length-plain-from start v, t))
-        (λ t. let h = leb-false (length v) at t in rw (length-plain-from start v, octet-there start v at Length x h))
+        by-test (leb (length v) at) (λ t. rw (length-plain-from family start v, t))
+        (λ t. let h = leb-false (length v) at t in rw (length-plain-from family start v, octet-there family start v at Length x h))
 
-    prefix-then : EndExpects start v (prefixEnd family v at)
+    prefix-then : EndExpects family start v (prefixEnd family v at)
     unfolding EndExpects after
     prefix-then =
-        prefix-cases family v at (EndExpects start v) tt (λ h. tt) (λ h k. go (omega arith) h (eqb (getD v at 0) 0) refl)
+        prefix-cases family v at (EndExpects family start v) tt (λ h. tt) (λ h k. go (omega arith) h (eqb (getD v at 0) 0) refl)
       where
-        go : at < length v → at + 1 + (getD v at 0 + 7) / 8 ≤ length v → (t : Bool) → eqb (getD v at 0) 0 ≡ t → Expects start v (at + 1 + (getD v at 0 + 7) / 8) Kind
+        go : at < length v → at + 1 + (getD v at 0 + 7) / 8 ≤ length v → (t : Bool) → eqb (getD v at 0) 0 ≡ t → Expects family start v (at + 1 + (getD v at 0 + 7) / 8) Kind
         go h k true t =
             let z = eqb-true (getD v at 0) 0 t in
             let e : at + 1 ≡ at + 1 + (getD v at 0 + 7) / 8 = omega arith in
-            rw (← e) (rw t at (goes-on start v at Length x h))
+            rw (← e) (rw t at (goes-on family start v at Length x h))
         go h k false t =
             let z = eqb-false (getD v at 0) 0 t in
-            prefix-passed (getD v at 0) (getD v at 0) (at + 1) (omega arith) (rw t at (goes-on start v at Length x h)) (omega arith) (omega arith)
+            prefix-passed (getD v at 0) (getD v at 0) (at + 1) (omega arith) (rw t at (goes-on family start v at Length x h)) (omega arith) (omega arith)
 
 -- what is expected behind a component
-NextExpects : Expected → List ℕ → Next → Type 0
-NextExpects start v Nothing = Unit {0}
-NextExpects start v (Another kind next) = Expects start v next Kind
-NextExpects start v (RefusedNext number place) = Unit {0}
+NextExpects : Family → Expected → List ℕ → Next → Type 0
+NextExpects family start v Nothing = Unit {0}
+NextExpects family start v (Another kind next) = Expects family start v next Kind
+NextExpects family start v (RefusedNext number place) = Unit {0}
 
-module _ (start : Expected) (v : List ℕ) (o : Octets v) (family : Family) where
-  body-same : (kind at : ℕ) → Expects start v at (bodyOf kind) → (bodyEnd family kind (plainFrom start v) at ≡ bodyEnd family kind v at) × EndExpects start v (bodyEnd family kind v at)
+module _ (family : Family) (start : Expected) (v : List ℕ) (o : Octets v) where
+  body-same : (kind at : ℕ) → Expects family start v at (bodyOf family kind) → (bodyEnd family kind (plainFrom family start v) at ≡ bodyEnd family kind v at) × EndExpects family start v (bodyEnd family kind v at)
   unfolding bodyEnd bodyOf ListSame
   body-same kind at x =
-      by-test (isPrefix kind)
-      (λ t. let y = rw t at x in rw t (prefix-same start v family at y, prefix-then start v family at y))
-      (λ t. let same = list-same start v o kind at true (rw t at x) in rw t (ap (λ (w : Walk Pair BodyEnd). w .ending) (same .0), same .1))
+      by-test (shapeOf family kind .prefix)
+      (λ t. let y = rw t at x in rw t (prefix-same family start v at y, prefix-then family start v at y))
+      (λ t. let same = list-same family start v o kind at true (rw t at x) in rw t (ap (λ (w : Walk Pair BodyEnd). w .ending) (same .0), same .1))
 
-  component-same : (at previous : ℕ) → Expects start v at Kind
-      → (componentAt family (plainFrom start v) at previous ≡ componentAt family v at previous) × NextExpects start v (componentAt family v at previous)
+  component-same : (at previous : ℕ) → Expects family start v at Kind
+      → (componentAt family (plainFrom family start v) at previous ≡ componentAt family v at previous) × NextExpects family start v (componentAt family v at previous)
   unfolding componentAt clearedOctet after NextExpects EndExpects
   component-same at previous x =
-      (same, component-cases family v at previous (NextExpects start v) (λ h. tt) (λ h. tt) (λ h. tt) (λ h z k r. then (bodyEnd family (getD v at 0) v (at + 1)) (body h .1)))
+      (same, component-cases family v at previous (NextExpects family start v) (λ h. tt) (λ h. tt) (λ h. tt) (λ h z k r. then (bodyEnd family (getD v at 0) v (at + 1)) (body h .1)))
     where
-      body : (h : at < length v) → (bodyEnd family (getD v at 0) (plainFrom start v) (at + 1) ≡ bodyEnd family (getD v at 0) v (at + 1)) × EndExpects start v (bodyEnd family (getD v at 0) v (at + 1))
-      body h = body-same (getD v at 0) (at + 1) (goes-on start v at Kind x h)
+      body : (h : at < length v) → (bodyEnd family (getD v at 0) (plainFrom family start v) (at + 1) ≡ bodyEnd family (getD v at 0) v (at + 1)) × EndExpects family start v (bodyEnd family (getD v at 0) v (at + 1))
+      body h = body-same (getD v at 0) (at + 1) (goes-on family start v at Kind x h)
 
-      same : componentAt family (plainFrom start v) at previous ≡ componentAt family v at previous
+      same : componentAt family (plainFrom family start v) at previous ≡ componentAt family v at previous
       same =
-          by-test (leb (length v) at) (λ t. rw (length-plain-from start v, t))
-          (λ t. let h = leb-false (length v) at t in rw (length-plain-from start v, t, octet-there start v at Kind x h, body h .0))
+          by-test (leb (length v) at) (λ t. rw (length-plain-from family start v, t))
+          (λ t. let h = leb-false (length v) at t in rw (length-plain-from family start v, t, octet-there family start v at Kind x h, body h .0))
 
-      then : (e : BodyEnd) → EndExpects start v e → NextExpects start v (found (getD v at 0) e)
+      then : (e : BodyEnd) → EndExpects family start v e → NextExpects family start v (found (getD v at 0) e)
       then (At next) y = y
       then (RefusedBody number place) y = tt
 
 -- the pairs of a list in the plain spelling are its pairs in the plain spelling
-pub pairs-plain : (kind : ℕ) (v : List ℕ) → Octets v
-    → pairsFrom kind (plainFrom (Operator kind true) v) 0 .items ≡ plainPairs kind true (pairsFrom kind v 0 .items)
+pub pairs-plain : (family : Family) (kind : ℕ) (v : List ℕ) → Octets v → let shape = shapeOf family kind in
+    pairsFrom (shape .largest) (plainFrom family (Operator kind true) v) 0 .items ≡ plainPairs shape true (pairsFrom (shape .largest) v 0 .items)
 unfolding ListSame
-pairs-plain kind v o =
-    ap (λ (w : Walk Pair BodyEnd). w .items) (list-same (Operator kind true) v o kind 0 true (starts (Operator kind true) v) .0)
+pairs-plain family kind v o =
+    ap (λ (w : Walk Pair BodyEnd). w .items) (list-same family (Operator kind true) v o kind 0 true (starts family (Operator kind true) v) .0)
 
-take-plain : (e : Expected) (n : ℕ) (v : List ℕ) → take n (plainFrom e v) ≡ plainFrom e (take n v)
+take-plain : (family : Family) (e : Expected) (n : ℕ) (v : List ℕ) → take n (plainFrom family e v) ≡ plainFrom family e (take n v)
 unfolding plainFrom
-take-plain e zero v = refl
-take-plain e (suc n) [] = refl
-take-plain e (suc n) (x ∷ xs) = ap (λ (l : List ℕ). clearedOctet e x ∷ l) (take-plain (after e x) n xs)
+take-plain family e zero v = refl
+take-plain family e (suc n) [] = refl
+take-plain family e (suc n) (x ∷ xs) = ap (λ (l : List ℕ). clearedOctet family e x ∷ l) (take-plain family (after family e x) n xs)
 
--- a component in the plain spelling
-abbrev pub plainComponent : Component → Component
-plainComponent p = record { kind = p .kind; body = plainFrom (bodyOf (p .kind)) (p .body) }
+abbrev plainWalk : Family → Walk Component Checked → Walk Component Checked
+plainWalk family w = record { items = map (plainComponent family) (w .items); ending = w .ending }
 
-abbrev plainWalk : Walk Component Checked → Walk Component Checked
-plainWalk w = record { items = map plainComponent (w .items); ending = w .ending }
-
-module _ (family : Family) (v : List ℕ) (o : Octets v) where
+module _ (family : Family) (start : Expected) (v : List ℕ) (o : Octets v) where
   WalkSame : ℕ → ℕ → Walk Component Checked → Type 0
-  WalkSame at previous w = Expects Kind v at Kind → componentsFrom family (plainFrom Kind v) (record { at = at; previous = previous }) ≡ plainWalk w
+  WalkSame at previous w = Expects family start v at Kind → componentsFrom family (plainFrom family start v) (record { at = at; previous = previous }) ≡ plainWalk family w
 
   walk-same : (at previous : ℕ) → WalkSame at previous (componentsFrom family v (record { at = at; previous = previous }))
   unfolding WalkSame NextExpects Expects after
   walk-same =
       components-ind family v WalkSame
-      (λ at previous e x. components-none family (plainFrom Kind v) at previous (component-same Kind v o family at previous x .0 ∙ e))
-      (λ at previous number place e x. components-refused family (plainFrom Kind v) at previous number place (component-same Kind v o family at previous x .0 ∙ e))
+      (λ at previous e x. components-none family (plainFrom family start v) at previous (component-same family start v o at previous x .0 ∙ e))
+      (λ at previous number place e x. components-refused family (plainFrom family start v) at previous number place (component-same family start v o at previous x .0 ∙ e))
       (λ at previous kind next w e h x.
-      components-more family (plainFrom Kind v) at previous kind next (component-same Kind v o family at previous x .0 ∙ e)
-      ∙ ap₂ before (one at previous kind next e x) (h (behind at previous kind next e (component-same Kind v o family at previous x .1))))
+      components-more family (plainFrom family start v) at previous kind next (component-same family start v o at previous x .0 ∙ e)
+      ∙ ap₂ before (one at previous kind next e x) (h (behind at previous kind next e (component-same family start v o at previous x .1))))
     where
-      behind : (at previous kind next : ℕ) → componentAt family v at previous ≡ Another kind next → NextExpects Kind v (componentAt family v at previous) → Expects Kind v next Kind
-      behind at previous kind next e x = subst (NextExpects Kind v) e x
+      behind : (at previous kind next : ℕ) → componentAt family v at previous ≡ Another kind next → NextExpects family start v (componentAt family v at previous) → Expects family start v next Kind
+      behind at previous kind next e x = subst (NextExpects family start v) e x
 
-      one : (at previous kind next : ℕ) → componentAt family v at previous ≡ Another kind next → Expects Kind v at Kind
-          → record { kind = kind; body = between (plainFrom Kind v) (at + 1) next } ≡ plainComponent (record { kind = kind; body = between v (at + 1) next })
+      one : (at previous kind next : ℕ) → componentAt family v at previous ≡ Another kind next → Expects family start v at Kind
+          → record { kind = kind; body = between (plainFrom family start v) (at + 1) next } ≡ plainComponent family (record { kind = kind; body = between v (at + 1) next })
       one at previous kind next e x =
           let f = was-found family v at previous kind next e in
-          let expects : Expects Kind v (at + 1) (bodyOf kind) = rw (← f .is) at (goes-on Kind v at Kind x (f .inside)) in
-          let body : between (plainFrom Kind v) (at + 1) next ≡ plainFrom (bodyOf kind) (between v (at + 1) next)
-          = ap (take (next - (at + 1))) expects ∙ take-plain (bodyOf kind) (next - (at + 1)) (drop (at + 1) v) in
+          let expects : Expects family start v (at + 1) (bodyOf family kind) = rw (← f .is) at (goes-on family start v at Kind x (f .inside)) in
+          let body : between (plainFrom family start v) (at + 1) next ≡ plainFrom family (bodyOf family kind) (between v (at + 1) next)
+          = ap (take (next - (at + 1))) expects ∙ take-plain family (bodyOf family kind) (next - (at + 1)) (drop (at + 1) v) in
           λ i. record { kind = kind; body = body i }
 
+module _ (family : Family) (v : List ℕ) (o : Octets v) where
   -- the components of the plain spelling are the components in the plain spelling
-  pub components-plain : components family (plain v) ≡ map plainComponent (components family v)
+  pub components-plain : components family (plain family v) ≡ map (plainComponent family) (components family v)
   unfolding components WalkSame plain
-  components-plain = ap (λ (w : Walk Component Checked). w .items) (walk-same 0 0 (starts Kind v))
+  components-plain = ap (λ (w : Walk Component Checked). w .items) (walk-same family Kind v o 0 0 (starts family Kind v))
 
   -- a value is accepted exactly when its plain spelling is, and refused with the same number and place
-  pub check-plain : checkValue family (plain v) ≡ checkValue family v
+  pub check-plain : checkValue family (plain family v) ≡ checkValue family v
   unfolding checkValue WalkSame plain
-  check-plain = rw (length-plain-from Kind v, walk-same 0 0 (starts Kind v))
+  check-plain = rw (length-plain-from family Kind v, walk-same family Kind v o 0 0 (starts family Kind v))

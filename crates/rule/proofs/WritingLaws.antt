@@ -56,9 +56,9 @@ module _ (b : List ℕ) (size : ℕ) (room : length (lengthField size) ≤ lengt
   pub write-long : 240 ≤ size → set (set b 0 (240 + size / 256)) 1 (size % 256) ≡ stored b 0 (lengthField size)
   write-long h = store-two b (240 + size / 256) (size % 256) (room-long h) ∙ ap (stored b 0) (sym (two-octet-field size h))
 
-pub length-rule : (v : List ℕ) → length (ruleFor v) ≡ length (lengthField (length v)) + length v
+pub length-rule : (family : Family) (v : List ℕ) → length (ruleFor family v) ≡ length (lengthField (length v)) + length v
 unfolding ruleFor
-length-rule v = rw (length-append, length-plain)
+length-rule family v = rw (length-append, length-plain)
 
 -- two stores in a row at the front of a buffer
 stored-twice : (b s t : List ℕ) (n : ℕ) → n ≡ length s → n + length t ≤ length b → stored (stored b 0 s) n t ≡ (s ++ t) ++ drop (n + length t) b
@@ -70,34 +70,34 @@ stored-twice b s t n e h =
     rw (first, behind)
 
 -- the front of the working array is the plain spelling
-pub front-plain : (v zeros work : List ℕ) → work ≡ plain v ++ drop (length v) zeros → take (length v) work ≡ plain v
-front-plain v zeros work w = rw w (take-at (plain v) (drop (length v) zeros) (length v) (length-plain v))
+pub front-plain : (family : Family) (v zeros work : List ℕ) → work ≡ plain family v ++ drop (length v) zeros → take (length v) work ≡ plain family v
+front-plain family v zeros work w = rw w (take-at (plain family v) (drop (length v) zeros) (length v) (length-plain family v))
 
-pub front-length : (v zeros work : List ℕ) → work ≡ plain v ++ drop (length v) zeros → length v ≡ length (take (length v) work)
-front-length v zeros work w = sym (ap length (front-plain v zeros work w) ∙ length-plain v)
+pub front-length : (family : Family) (v zeros work : List ℕ) → work ≡ plain family v ++ drop (length v) zeros → length v ≡ length (take (length v) work)
+front-length family v zeros work w = sym (ap length (front-plain family v zeros work w) ∙ length-plain family v)
 
-module _ (v b : List ℕ) where
-  pub no-room : (field : ℕ) → field ≡ length (lengthField (length v)) → length b < field + length v → Refused 16 0 ≡ intoRoom v (length b) Accepted
+module _ (family : Family) (v b : List ℕ) where
+  pub no-room : (field : ℕ) → field ≡ length (lengthField (length v)) → length b < field + length v → Refused 16 0 ≡ intoRoom family v (length b) Accepted
   no-room field is h =
-      let e = length-rule v in
-      rw (lt-ltb (length b) (length (ruleFor v)) (omega arith))
+      let e = length-rule family v in
+      rw (lt-ltb (length b) (length (ruleFor family v)) (omega arith))
 
   module _ (field : ℕ) (is : field ≡ length (lengthField (length v))) (room : field + length v ≤ length b) where
-    pub room-left : Written (field + length v) ≡ intoRoom v (length b) Accepted
+    pub room-left : Written (field + length v) ≡ intoRoom family v (length b) Accepted
     room-left =
-        let e = length-rule v in
-        let n : length (ruleFor v) ≡ field + length v = omega arith in
-        rw (le-ltb (length b) (length (ruleFor v)) (omega arith), n)
+        let e = length-rule family v in
+        let n : length (ruleFor family v) ≡ field + length v = omega arith in
+        rw (le-ltb (length b) (length (ruleFor family v)) (omega arith), n)
 
-    pub write-in-a-row : (zeros work first last : List ℕ) → work ≡ plain v ++ drop (length v) zeros → first ≡ stored b 0 (lengthField (length v))
-        → last ≡ stored first field (take (length v) work) → last ≡ filled v b (Written (field + length v))
+    pub write-in-a-row : (zeros work first last : List ℕ) → work ≡ plain family v ++ drop (length v) zeros → first ≡ stored b 0 (lengthField (length v))
+        → last ≡ stored first field (take (length v) work) → last ≡ filled family v b (Written (field + length v))
     unfolding ruleFor
     write-in-a-row zeros work first last w f l =
-        l ∙ rw (front-plain v zeros work w, f, stored-twice b (lengthField (length v)) (plain v) field is (rw (length-plain v) room), length-plain v)
+        l ∙ rw (front-plain family v zeros work w, f, stored-twice b (lengthField (length v)) (plain family v) field is (rw (length-plain family v) room), length-plain family v)
 
 -- the writer's answers
 module _ (family : Family) (v b : List ℕ) (checked : Checked) (is : checked ≡ checkValue family v) where
-  pub write-accepted : (answer : Writing) (after : List ℕ) → checked ≡ Accepted → answer ≡ intoRoom v (length b) Accepted → after ≡ filled v b answer
+  pub write-accepted : (answer : Writing) (after : List ℕ) → checked ≡ Accepted → answer ≡ intoRoom family v (length b) Accepted → after ≡ filled family v b answer
       → (answer ≡ writing family v (length b)) × (after ≡ afterWriting family v b)
   unfolding writing afterWriting
   write-accepted answer after e f g = (rw (← is, e) f, rw (← is, e, ← f) g)
@@ -117,6 +117,6 @@ module _ (family : Family) (v : List ℕ) (room : ℕ) where
   unfolding writing
   not-written number place e = subst Writes e (go (checkValue family v) (value-checks family v))
     where
-      go : (c : Checked) → Checks c → Writes (intoRoom v room c)
-      go Accepted h = by-test (ltb room (length (ruleFor v))) (λ t. rw t (placeless 16 (omega arith) (omega arith))) (λ t. rw t tt)
+      go : (c : Checked) → Checks c → Writes (intoRoom family v room c)
+      go Accepted h = by-test (ltb room (length (ruleFor family v))) (λ t. rw t (placeless 16 (omega arith) (omega arith))) (λ t. rw t tt)
       go (RefusedValue number place) h = h

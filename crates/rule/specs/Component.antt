@@ -14,19 +14,19 @@ use Rattle.rule.specs.declared.BodyEnd.{BodyEnd}
 use Rattle.rule.specs.declared.BodyEnd.the-variants.{At, Refused as RefusedBody}
 use Rattle.rule.specs.declared.Next.{Next}
 use Rattle.rule.specs.declared.Next.the-variants.{Nothing, Another, Refused}
-use Rattle.rule.specs.Operator.{endsList, sizeOf, isPrefix, sizeAllowed}
+use Rattle.rule.specs.Shape.{shapeOf}
+use Rattle.rule.specs.Operator.{endsList, sizeOf}
 
--- An operator and its value, at a place in a list of the given type, and the place behind them. A missing operator is 6 at the
+-- An operator and its value, at a place in a list whose values have at most `largest` octets, and the place behind them. A missing operator is 6 at the
 -- value's end, a size that the type does not allow 7 at the operator, and a value cut short 6 at the value's end.
 unfoldable pub pairAt : ℕ → List ℕ → ℕ → NextPair
-pairAt kind v at =
+pairAt largest v at =
     let operator = getD v at 0 in
     let size = sizeOf operator in
     cond (leb (length v) at) (RefusedPair 6 (length v))
-    (cond (sizeAllowed kind size)
+    (cond (ltb largest size) (RefusedPair 7 at)
     (cond (ltb (length v - (at + 1)) size) (RefusedPair 6 (length v))
-    (cond (endsList operator) (Last (at + 1 + size)) (More (at + 1 + size))))
-    (RefusedPair 7 at))
+    (cond (endsList operator) (Last (at + 1 + size)) (More (at + 1 + size)))))
 
 -- A pair of a list: its operator, and its value as a number.
 pub record Pair : Type 0 where
@@ -45,7 +45,7 @@ pairStep v at (RefusedPair number place) = stop (RefusedBody number place)
 
 -- The pairs of a list from a place on, and where the list ends.
 unfoldable pub pairsFrom : ℕ → List ℕ → ℕ → Walk Pair BodyEnd
-pairsFrom kind v at = walk (length v + 1) (RefusedBody 6 (length v)) (λ i. pairStep v i (pairAt kind v i)) at
+pairsFrom largest v at = walk (length v + 1) (RefusedBody 6 (length v)) (λ i. pairStep v i (pairAt largest v i)) at
 
 -- 01: "length octet 0 to 32, then that many bits rounded up to octets". A missing length octet is 6 at the value's end, a length
 -- above the address's width 5 at the length octet, and missing octets 6 at the value's end.
@@ -58,7 +58,9 @@ prefixEnd family v at =
 
 -- Where a body that begins at a place ends: a prefix or a list, by the type.
 unfoldable pub bodyEnd : Family → ℕ → List ℕ → ℕ → BodyEnd
-bodyEnd family kind v at = cond (isPrefix kind) (prefixEnd family v at) (pairsFrom kind v at .ending)
+bodyEnd family kind v at =
+    let shape = shapeOf family kind in
+    cond (shape .prefix) (prefixEnd family v at) (pairsFrom (shape .largest) v at .ending)
 
 -- What a body's end tells of its component: the type and the place behind the body, or the body's refusal.
 abbrev pub found : ℕ → BodyEnd → Next

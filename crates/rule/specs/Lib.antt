@@ -1,9 +1,11 @@
 -- The definitions of this crate, in the order in which to read them.
 pub mod Family
+pub mod Shape
 pub mod Operator
 pub mod Component
 pub mod Reader
 pub mod Value
 pub mod Plain
+pub mod PlainComponent
 pub mod Reading
 pub mod Writing

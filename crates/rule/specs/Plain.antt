@@ -5,13 +5,15 @@ use mathlib.Core.Bool.{Bool, true, false, cond}
 use mathlib.Core.List.{List, [], _∷_}
 use lib.Bits.{bitAnd}
 use lib.Dec.{leb, ltb, eqb}
+use Rattle.rule.specs.declared.Family.{Family}
 use Rattle.rule.specs.declared.Expected.{Expected}
 use Rattle.rule.specs.declared.Expected.the-variants.{Kind, Length, Address, Operator, Operand}
-use Rattle.rule.specs.Operator.{endsList, sizeOf, isPrefix, isBitmask}
+use Rattle.rule.specs.Shape.{shapeOf}
+use Rattle.rule.specs.Operator.{endsList, sizeOf}
 
 -- What is expected behind a type octet: a prefix's length, or the first operator of a list.
-unfoldable pub bodyOf : ℕ → Expected
-bodyOf kind = cond (isPrefix kind) Length (Operator kind true)
+unfoldable pub bodyOf : Family → ℕ → Expected
+bodyOf family kind = cond (shapeOf family kind .prefix) Length (Operator kind true)
 
 -- What is expected behind an octet of a pair's value: the rest of it, or the next operator, or after the last pair a type.
 unfoldable pub operandAfter : ℕ → ℕ → Bool → Expected
@@ -19,39 +21,45 @@ operandAfter kind left last = cond (ltb 1 left) (Operand kind (left - 1) last) (
 
 -- What is expected after the octet x, where x was as expected: `Address left` has `left` bits of the prefix to come, `Operator kind
 -- first` is the list's first operator or a later one, and `Operand kind left last` has `left` octets of a pair's value to come.
-unfoldable pub after : Expected → ℕ → Expected
-after Kind x = bodyOf x
-after Length x = cond (eqb x 0) Kind (Address x)
-after (Address left) x = cond (leb left 8) Kind (Address (left - 8))
-after (Operator kind first) x = Operand kind (sizeOf x) (endsList x)
-after (Operand kind left last) x = operandAfter kind left last
+unfoldable pub after : Family → Expected → ℕ → Expected
+after family Kind x = bodyOf family x
+after family Length x = cond (eqb x 0) Kind (Address x)
+after family (Address left) x = cond (leb left 8) Kind (Address (left - 8))
+after family (Operator kind first) x = Operand kind (sizeOf x) (endsList x)
+after family (Operand kind left last) x = operandAfter kind left last
 
 -- 01: "0x08 of numeric and 0x0c of bitmask operators"
-unfoldable pub plainOperator : ℕ → ℕ → ℕ
-plainOperator kind x = cond (isBitmask kind) (bitAnd x 0xf3) (bitAnd x 0xf7)
+unfoldable pub withoutReserved : Bool → ℕ → ℕ
+withoutReserved bitmask x = cond bitmask (bitAnd x 0xf3) (bitAnd x 0xf7)
+
+-- 01: "AND in a list's first operator", which is 0x40.
+unfoldable pub plainOperator : Bool → Bool → ℕ → ℕ
+plainOperator bitmask first x =
+    let operator = withoutReserved bitmask x in
+    cond first (bitAnd operator 0xbf) operator
 
 -- 01: "the top two bits of a DSCP value; the top four of a fragment value"
 unfoldable pub plainOperand : ℕ → ℕ → ℕ
-plainOperand kind x = cond (eqb kind 11) (bitAnd x 0x3f) (cond (eqb kind 12) (bitAnd x 0x0f) x)
+plainOperand ignored x = x - bitAnd x ignored
 
 -- 01: "prefix bits past the length": of the octet's eight bits the first `left` are kept, all of them where there are eight or more; `left`
 -- is how many bits of the prefix are still to come, this octet's included.
 unfoldable pub plainAddress : ℕ → ℕ → ℕ
 plainAddress left x = x / 2 ^ (8 - left) * 2 ^ (8 - left)
 
--- The octet x with the bits that are to be ignored cleared; 01: "AND in a list's first operator" is 0x40.
-unfoldable pub clearedOctet : Expected → ℕ → ℕ
-clearedOctet Kind x = x
-clearedOctet Length x = x
-clearedOctet (Address left) x = plainAddress left x
-clearedOctet (Operator kind first) x = cond first (bitAnd (plainOperator kind x) 0xbf) (plainOperator kind x)
-clearedOctet (Operand kind left last) x = plainOperand kind x
+-- The octet x, which is as expected, with the bits that are to be ignored cleared.
+unfoldable pub clearedOctet : Family → Expected → ℕ → ℕ
+clearedOctet family Kind x = x
+clearedOctet family Length x = x
+clearedOctet family (Address left) x = plainAddress left x
+clearedOctet family (Operator kind first) x = plainOperator (shapeOf family kind .bitmask) first x
+clearedOctet family (Operand kind left last) x = plainOperand (shapeOf family kind .ignored) x
 
 -- The plain spelling of octets, the first of which is as expected.
-unfoldable pub plainFrom : Expected → List ℕ → List ℕ
-plainFrom e [] = []
-plainFrom e (x ∷ xs) = clearedOctet e x ∷ plainFrom (after e x) xs
+unfoldable pub plainFrom : Family → Expected → List ℕ → List ℕ
+plainFrom family e [] = []
+plainFrom family e (x ∷ xs) = clearedOctet family e x ∷ plainFrom family (after family e x) xs
 
 -- The plain spelling of a value.
-unfoldable pub plain : List ℕ → List ℕ
-plain v = plainFrom Kind v
+unfoldable pub plain : Family → List ℕ → List ℕ
+plain family v = plainFrom family Kind v

@@ -17,23 +17,23 @@ unfoldable pub lengthField : ℕ → List ℕ
 lengthField size = cond (ltb size 240) (size ∷ []) ((0xf0 + size / 256) ∷ size % 256 ∷ [])
 
 -- The rule that is written for a value.
-unfoldable pub ruleFor : List ℕ → List ℕ
-ruleFor v = lengthField (length v) ++ plain v
+unfoldable pub ruleFor : Family → List ℕ → List ℕ
+ruleFor family v = lengthField (length v) ++ plain family v
 
 -- What the writer answers once the value is checked: the rule's size, 16 where that is above `room`, or the value's refusal.
-abbrev pub intoRoom : List ℕ → ℕ → Checked → Writing
-intoRoom v room Accepted = cond (ltb room (length (ruleFor v))) (Refused 16 0) (Written (length (ruleFor v)))
-intoRoom v room (RefusedValue number place) = Refused number place
+abbrev pub intoRoom : Family → List ℕ → ℕ → Checked → Writing
+intoRoom family v room Accepted = cond (ltb room (length (ruleFor family v))) (Refused 16 0) (Written (length (ruleFor family v)))
+intoRoom family v room (RefusedValue number place) = Refused number place
 
 -- What the writer answers for a buffer of `room` octets: 1 to 7, then 16 where the buffer is too short, or how many were written.
 unfoldable pub writing : Family → List ℕ → ℕ → Writing
-writing family v room = intoRoom v room (checkValue family v)
+writing family v room = intoRoom family v room (checkValue family v)
 
 -- What the buffer holds after an answer: the rule and the rest of the buffer, or all that it held where the writer refused.
-abbrev pub filled : List ℕ → List ℕ → Writing → List ℕ
-filled v buffer (Written n) = ruleFor v ++ drop n buffer
-filled v buffer (Refused number place) = buffer
+abbrev pub filled : Family → List ℕ → List ℕ → Writing → List ℕ
+filled family v buffer (Written n) = ruleFor family v ++ drop n buffer
+filled family v buffer (Refused number place) = buffer
 
 -- What the buffer holds after the writer's call for a value.
 unfoldable pub afterWriting : Family → List ℕ → List ℕ → List ℕ
-afterWriting family v buffer = filled v buffer (writing family v (length buffer))
+afterWriting family v buffer = filled family v buffer (writing family v (length buffer))

@@ -8,11 +8,12 @@ ghost use mathlib.Core.List.{_++_};
 ghost use Prim.Native.Nat.{_+_, _-_, _<_, _≤_};
 ghost use lib.ListN.{length, getD, take, drop};
 ghost use Rattle.rule.specs.Family.{ipv4};
-ghost use Rattle.rule.specs.Operator.{endsList, sizeOf, isPrefix, isBitmask, sizeAllowed};
+ghost use Rattle.rule.specs.Shape.{shapeOf};
+ghost use Rattle.rule.specs.Operator.{endsList, sizeOf};
 ghost use Rattle.rule.specs.Component.{pairAt, pairsFrom, prefixEnd, bodyEnd, componentAt};
 ghost use Rattle.rule.specs.Reader.{readerAt, nextOf};
 ghost use Rattle.rule.specs.Value.{checkValue};
-ghost use Rattle.rule.specs.Plain.{bodyOf, after, operandAfter, plainOperator, plainOperand, plainAddress, clearedOctet, plain};
+ghost use Rattle.rule.specs.Plain.{bodyOf, after, operandAfter, withoutReserved, plainOperator, plainOperand, plainAddress, clearedOctet, plain};
 ghost use Rattle.rule.specs.Reading.{fieldSize, fieldLength, firstRule, oneRule};
 ghost use Rattle.rule.specs.Writing.{lengthField, intoRoom, filled, writing, afterWriting};
 ghost use Rattle.octets.specs.Store.{stored};
@@ -39,6 +40,15 @@ pub struct Family {
     pub icmp: u8,
     pub version: u8,
     pub words: usize,
+}
+
+// What the body of a component type is: a prefix or a list of pairs; and of a list, whether its operators are bitmask ones, the largest
+// size of a value, and the bits of a value that are to be ignored.
+pub struct Shape {
+    pub prefix: bool,
+    pub bitmask: bool,
+    pub largest: usize,
+    pub ignored: u8,
 }
 
 // A pair at a place in a list: the place behind it, or a refusal.
@@ -97,7 +107,7 @@ pub enum Writing {
     Refused { number: u8, place: usize },
 }
 
-// ---- Operators (section 4.2.1) ----
+// ---- Families, types and operators (sections 4.2.1 and 4.2.2) ----
 
 // IPv4 (RFC 8955).
 pub fn ipv4() -> Family
@@ -112,6 +122,44 @@ pub fn ipv4() -> Family
         icmp: 1,
         version: 4,
         words: 4,
+    }
+}
+
+// What the body of a component type is in a family.
+pub fn shape_of(family: Family, kind: u8) -> Shape
+    ensures { λ r. ⌜ r ≡ shapeOf family kind ⌝ }
+{
+    match kind {
+        1 | 2 => Shape {
+            prefix: true,
+            bitmask: false,
+            largest: 0,
+            ignored: 0,
+        },
+        9 => Shape {
+            prefix: false,
+            bitmask: true,
+            largest: 2,
+            ignored: 0,
+        },
+        11 => Shape {
+            prefix: false,
+            bitmask: false,
+            largest: 1,
+            ignored: 0xc0,
+        },
+        12 => Shape {
+            prefix: false,
+            bitmask: true,
+            largest: 1,
+            ignored: 0xff - family.fragment,
+        },
+        _ => Shape {
+            prefix: false,
+            bitmask: false,
+            largest: 8,
+            ignored: 0,
+        },
     }
 }
 
@@ -130,42 +178,11 @@ pub fn size_of(operator: u8) -> usize
     1 << exponent
 }
 
-// Whether a type's body is a prefix.
-pub fn is_prefix(kind: u8) -> bool
-    ensures { λ r. ⌜ r ≡ isPrefix kind ⌝ }
-{
-    match kind {
-        1 | 2 => true,
-        _ => false,
-    }
-}
-
-// Whether a type's body is a list of bitmask pairs.
-pub fn is_bitmask(kind: u8) -> bool
-    ensures { λ r. ⌜ r ≡ isBitmask kind ⌝ }
-{
-    match kind {
-        9 | 12 => true,
-        _ => false,
-    }
-}
-
-// Whether a type's list may have a value of this size.
-pub fn size_allowed(kind: u8, size: usize) -> bool
-    ensures { λ r. ⌜ r ≡ sizeAllowed kind size ⌝ }
-{
-    match kind {
-        9 => size <= 2,
-        11 | 12 => size == 1,
-        _ => true,
-    }
-}
-
 // ---- Components (section 4.2.2) ----
 
-// The pair at a place of a list of the given type: 7 where its size is not allowed, 6 where it is cut short.
-pub fn pair_at(kind: u8, value: &[u8], at: usize) -> NextPair
-    ensures { λ r. ⌜ r ≡ pairAt kind (now (value .entry)) at ⌝ }
+// The pair at a place of a list whose values have at most `largest` octets: 7 where its size is not allowed, 6 where it is cut short.
+pub fn pair_at(largest: usize, value: &[u8], at: usize) -> NextPair
+    ensures { λ r. ⌜ r ≡ pairAt largest (now (value .entry)) at ⌝ }
 {
     let end = value.len();
     if end <= at {
@@ -176,7 +193,7 @@ pub fn pair_at(kind: u8, value: &[u8], at: usize) -> NextPair
     }
     let operator = value[at];
     let size = size_of(operator);
-    if !size_allowed(kind, size) {
+    if largest < size {
         return NextPair::Refused {
             number: 7,
             place: at,
@@ -196,12 +213,12 @@ pub fn pair_at(kind: u8, value: &[u8], at: usize) -> NextPair
 }
 
 // The place behind a list that begins at a place.
-pub fn list_end(kind: u8, value: &[u8], start: usize) -> BodyEnd
-    ensures { λ r. ⌜ r ≡ pairsFrom kind (now (value .entry)) start .ending ⌝ }
+pub fn list_end(largest: usize, value: &[u8], start: usize) -> BodyEnd
+    ensures { λ r. ⌜ r ≡ pairsFrom largest (now (value .entry)) start .ending ⌝ }
 {
     let mut at = start;
     loop {
-        let pair = pair_at(kind, value, at);
+        let pair = pair_at(largest, value, at);
         match pair {
             NextPair::More(next) => {
                 at = next;
@@ -249,10 +266,11 @@ pub fn prefix_end(family: Family, value: &[u8], at: usize) -> BodyEnd
 pub fn body_end(family: Family, kind: u8, value: &[u8], at: usize) -> BodyEnd
     ensures { λ r. ⌜ r ≡ bodyEnd family kind (now (value .entry)) at ⌝ }
 {
-    if is_prefix(kind) {
+    let shape = shape_of(family, kind);
+    if shape.prefix {
         return prefix_end(family, value, at);
     }
-    list_end(kind, value, at)
+    list_end(shape.largest, value, at)
 }
 
 // The cursor: the component at a place, behind one of the type `previous`.
@@ -347,21 +365,22 @@ pub fn check_value(family: Family, value: &[u8]) -> Checked
 // ---- Plain spelling ----
 
 // What is expected behind a type octet.
-pub fn body_of(kind: u8) -> Expected
-    ensures { λ r. ⌜ r ≡ bodyOf kind ⌝ }
+pub fn body_of(family: Family, kind: u8) -> Expected
+    ensures { λ r. ⌜ r ≡ bodyOf family kind ⌝ }
 {
-    if is_prefix(kind) {
+    let shape = shape_of(family, kind);
+    if shape.prefix {
         return Expected::Length;
     }
     Expected::Operator { kind, first: true }
 }
 
 // What is expected behind the octet x, which is as expected.
-pub fn expected_after(expected: Expected, x: u8) -> Expected
-    ensures { λ r. ⌜ r ≡ after expected x ⌝ }
+pub fn expected_after(family: Family, expected: Expected, x: u8) -> Expected
+    ensures { λ r. ⌜ r ≡ after family expected x ⌝ }
 {
     match expected {
-        Expected::Kind => body_of(x),
+        Expected::Kind => body_of(family, x),
         Expected::Length => {
             if x == 0 {
                 return Expected::Kind;
@@ -400,25 +419,33 @@ pub fn operand_after(kind: u8, left: usize, last: bool) -> Expected
     Expected::Operator { kind, first: false }
 }
 
-// An operator with the bits that are to be ignored cleared.
-pub fn plain_operator(kind: u8, x: u8) -> u8
-    ensures { λ r. ⌜ r ≡ plainOperator kind x ⌝ }
+// An operator with its reserved bits cleared.
+pub fn without_reserved(bitmask: bool, x: u8) -> u8
+    ensures { λ r. ⌜ r ≡ withoutReserved bitmask x ⌝ }
 {
-    if is_bitmask(kind) {
+    if bitmask {
         return x & 0xf3;
     }
     x & 0xf7
 }
 
-// A value of a type, or an octet of one, with the bits that are to be ignored cleared.
-pub fn plain_operand(kind: u8, x: u64) -> u64
-    ensures { λ r. ⌜ r ≡ plainOperand kind x ⌝ }
+// An operator, a list's first or a later one, with the bits that are to be ignored cleared.
+pub fn plain_operator(bitmask: bool, first: bool, x: u8) -> u8
+    ensures { λ r. ⌜ r ≡ plainOperator bitmask first x ⌝ }
 {
-    match kind {
-        11 => x & 0x3f,
-        12 => x & 0x0f,
-        _ => x,
+    let operator = without_reserved(bitmask, x);
+    if first {
+        return operator & 0xbf;
     }
+    operator
+}
+
+// A value of a type, or an octet of one, with the bits that are to be ignored cleared.
+pub fn plain_operand(ignored: u8, x: u64) -> u64
+    ensures { λ r. ⌜ r ≡ plainOperand ignored x ⌝ }
+{
+    let cleared = x & ignored as u64;
+    x - cleared
 }
 
 // An octet of a prefix with only the bits still to come kept.
@@ -434,40 +461,36 @@ pub fn plain_address(left: u8, x: u8) -> u8
 }
 
 // The octet x with the bits that are to be ignored cleared.
-pub fn cleared_octet(expected: Expected, x: u8) -> u8
-    ensures { λ r. ⌜ r ≡ clearedOctet expected x ⌝ }
+pub fn cleared_octet(family: Family, expected: Expected, x: u8) -> u8
+    ensures { λ r. ⌜ r ≡ clearedOctet family expected x ⌝ }
 {
     match expected {
         Expected::Kind => x,
         Expected::Length => x,
         Expected::Address(left) => plain_address(left, x),
         Expected::Operator { kind, first } => {
-            let operator = plain_operator(kind, x);
-            if first {
-                return operator & 0xbf;
-            }
-            operator
+            plain_operator(shape_of(family, kind).bitmask, first, x)
         }
         Expected::Operand {
             kind,
             left: _,
             last: _,
-        } => plain_operand(kind, x as u64) as u8,
+        } => plain_operand(shape_of(family, kind).ignored, x as u64) as u8,
     }
 }
 
 // Fills the front of a working array with the plain spelling of a value.
-pub fn fill_plain(value: &[u8], work: &mut [u8])
+pub fn fill_plain(family: Family, value: &[u8], work: &mut [u8])
     requires { ⌜ length (now value) ≤ length (now work) ⌝ }
-    ensures { λ _. ⌜ now (work .exit) ≡ plain (now (value .entry)) ++ drop (length (now (value .entry))) (now (work .entry)) ⌝ }
+    ensures { λ _. ⌜ now (work .exit) ≡ plain family (now (value .entry)) ++ drop (length (now (value .entry))) (now (work .entry)) ⌝ }
 {
     let mut expected = Expected::Kind;
     let mut i = 0;
     while i < value.len() {
         let x = value[i];
-        let octet = cleared_octet(expected, x);
+        let octet = cleared_octet(family, expected, x);
         work[i] = octet;
-        expected = expected_after(expected, x);
+        expected = expected_after(family, expected, x);
         i += 1;
     }
 }
@@ -568,9 +591,9 @@ pub fn write_length(size: usize, buffer: &mut [u8])
 }
 
 // Writes an accepted value as a rule in its plain spelling where there is room.
-pub fn write_accepted(value: &[u8], buffer: &mut [u8]) -> Writing
+pub fn write_accepted(family: Family, value: &[u8], buffer: &mut [u8]) -> Writing
     requires { ⌜ length (now value) ≤ 4095 ⌝ }
-    ensures { λ r. ⌜ (r ≡ intoRoom (now (value .entry)) (length (now (buffer .entry))) Checked.Accepted) × (now (buffer .exit) ≡ filled (now (value .entry)) (now (buffer .entry)) r) ⌝ }
+    ensures { λ r. ⌜ (r ≡ intoRoom family (now (value .entry)) (length (now (buffer .entry))) Checked.Accepted) × (now (buffer .exit) ≡ filled family (now (value .entry)) (now (buffer .entry)) r) ⌝ }
 {
     let size = value.len();
     let field = field_size_for(size);
@@ -582,7 +605,7 @@ pub fn write_accepted(value: &[u8], buffer: &mut [u8]) -> Writing
         };
     }
     let mut work = [0u8; WORKING];
-    fill_plain(value, &mut work);
+    fill_plain(family, value, &mut work);
     write_length(size, buffer);
     store(buffer, field, &work[..size]);
     Writing::Written(total)
@@ -593,7 +616,7 @@ pub fn write_rule(family: Family, value: &[u8], buffer: &mut [u8]) -> Writing
     ensures { λ r. ⌜ (r ≡ writing family (now (value .entry)) (length (now (buffer .entry)))) × (now (buffer .exit) ≡ afterWriting family (now (value .entry)) (now (buffer .entry))) ⌝ }
 {
     match check_value(family, value) {
-        Checked::Accepted => write_accepted(value, buffer),
+        Checked::Accepted => write_accepted(family, value, buffer),
         Checked::Refused { number, place } => Writing::Refused { number, place },
     }
 }

@@ -4,8 +4,8 @@ use borrow.Author.Needs.{needs}
 use Rattle.rule.proofs.body_end.Statement.{statement}
 use Rattle.rule.proofs.body_end.Tie as tie
 
-is-prefix-requires : tie.Need-is-prefix-requires
-is-prefix-requires c κs = search needs
+shape-of-requires : tie.Need-shape-of-requires
+shape-of-requires c κs = search needs
 
 prefix-end-requires : tie.Need-prefix-end-requires
 prefix-end-requires c κs = search needs
@@ -21,4 +21,4 @@ returns-2 c = search (body-list, needs)
 
 pub body-end-spec : {M : Type 1} → statement M
 body-end-spec =
-    tie.close (tie.spec is-prefix-requires prefix-end-requires returns list-end-requires returns-2)
+    tie.close (tie.spec shape-of-requires prefix-end-requires returns list-end-requires returns-2)

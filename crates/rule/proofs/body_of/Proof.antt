@@ -4,16 +4,16 @@ use borrow.Author.Needs.{needs}
 use Rattle.rule.proofs.body_of.Statement.{statement}
 use Rattle.rule.proofs.body_of.Tie as tie
 
-is-prefix-requires : tie.Need-is-prefix-requires
-is-prefix-requires c κs = search needs
+shape-of-requires : tie.Need-shape-of-requires
+shape-of-requires c κs = search needs
 
 returns : tie.Need-returns
 unfolding bodyOf
-returns c = rw (← c .before .is-prefix .ensures, c .if1 .taken)
+returns c = rw (← c .before .shape-of .ensures, c .if1 .taken)
 
 returns-2 : tie.Need-returns-2
 unfolding bodyOf
-returns-2 c = rw (← c .before .is-prefix .ensures, c .if1 .left)
+returns-2 c = rw (← c .before .shape-of .ensures, c .if1 .left)
 
 pub body-of-spec : {M : Type 1} → statement M
-body-of-spec = tie.close (tie.spec is-prefix-requires returns returns-2)
+body-of-spec = tie.close (tie.spec shape-of-requires returns returns-2)

@@ -1,5 +1,5 @@
 -- One law for each return.
-use Rattle.rule.proofs.PlainLaws.{operand-small, cleared-kind, cleared-length, cleared-address, cleared-first, cleared-later, cleared-operand}
+use Rattle.rule.proofs.PlainLaws.{operand-small, cleared-kind, cleared-length, cleared-address, cleared-operator, cleared-operand}
 use borrow.Author.Needs.{needs}
 use Rattle.rule.proofs.cleared_octet.Statement.{statement}
 use Rattle.rule.proofs.cleared_octet.Tie as tie
@@ -19,14 +19,17 @@ plain-address-requires c κs = search needs
 enum-known-expected-2 : tie.Need-enum-known-expected-2
 enum-known-expected-2 c = search needs
 
+shape-of-requires : tie.Need-shape-of-requires
+shape-of-requires c κs = search needs
+
 plain-operator-requires : tie.Need-plain-operator-requires
 plain-operator-requires c κs = search needs
 
-returns : tie.Need-returns
-returns c = search (cleared-first, needs)
-
 enum-known-expected-3 : tie.Need-enum-known-expected-3
 enum-known-expected-3 c = search needs
+
+shape-of-requires-2 : tie.Need-shape-of-requires-2
+shape-of-requires-2 c κs = search needs
 
 plain-operand-requires : tie.Need-plain-operand-requires
 plain-operand-requires c κs = search needs
@@ -34,20 +37,20 @@ plain-operand-requires c κs = search needs
 cast-result : tie.Need-cast-result
 cast-result c = search (operand-small, needs)
 
+returns : tie.Need-returns
+returns c = search (cleared-kind, needs)
+
 returns-2 : tie.Need-returns-2
-returns-2 c = search (cleared-kind, needs)
+returns-2 c = search (cleared-length, needs)
 
 returns-3 : tie.Need-returns-3
-returns-3 c = search (cleared-length, needs)
+returns-3 c = search (cleared-address, needs)
 
 returns-4 : tie.Need-returns-4
-returns-4 c = search (cleared-address, needs)
+returns-4 c = search (cleared-operator, needs)
 
 returns-5 : tie.Need-returns-5
-returns-5 c = search (cleared-later, needs)
-
-returns-6 : tie.Need-returns-6
-returns-6 c = search (cleared-operand, needs)
+returns-5 c = search (cleared-operand, needs)
 
 pub cleared-octet-spec : {M : Type 1} → statement M
 cleared-octet-spec =
@@ -58,13 +61,14 @@ cleared-octet-spec =
     enum-known-expected
     plain-address-requires
     enum-known-expected-2
+    shape-of-requires
     plain-operator-requires
-    returns
     enum-known-expected-3
+    shape-of-requires-2
     plain-operand-requires
     cast-result
+    returns
     returns-2
     returns-3
     returns-4
-    returns-5
-    returns-6)
+    returns-5)

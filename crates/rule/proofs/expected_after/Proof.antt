@@ -22,8 +22,8 @@ enum-known-expected c = search needs
 returns-2 : tie.Need-returns-2
 returns-2 c = search (after-address-last, needs)
 
-sub-t13 : tie.Need-sub-t13
-sub-t13 c = search needs
+sub-t14 : tie.Need-sub-t14
+sub-t14 c = search needs
 
 enum-known-expected-2 : tie.Need-enum-known-expected-2
 enum-known-expected-2 c = search needs
@@ -65,7 +65,7 @@ expected-after-spec =
     returns
     enum-known-expected
     returns-2
-    sub-t13
+    sub-t14
     enum-known-expected-2
     size-of-requires
     ends-list-requires

@@ -7,13 +7,13 @@ use Rattle.rule.proofs.fill_plain.Statement.{statement}
 use Rattle.rule.proofs.fill_plain.Tie as tie
 
 abbrev Inv-loop : tie.InvT-loop
-Inv-loop value work₀ expected₀ i₀ work expected i = Filling value work₀ work expected i
+Inv-loop family value work₀ expected₀ i₀ work expected i = Filling family value work₀ work expected i
 
 abbrev μ-loop : tie.MeasureT-loop
-μ-loop value work₀ expected₀ i₀ work expected i = length value - i
+μ-loop family value work₀ expected₀ i₀ work expected i = length value - i
 
 loop-holds : tie.Need-loop-holds Inv-loop μ-loop
-loop-holds c = filling-starts _ _
+loop-holds c = filling-starts _ _ _
 
 shared-slice-read-x : tie.Need-shared-slice-read-x Inv-loop μ-loop
 shared-slice-read-x c = search needs

@@ -10,10 +10,10 @@ use Rattle.rule.proofs.list_end.Statement.{statement}
 use Rattle.rule.proofs.list_end.Tie as tie
 
 abbrev Inv-loop : tie.InvT-loop
-Inv-loop kind value start at₀ at = pairsFrom kind value start .ending ≡ pairsFrom kind value at .ending
+Inv-loop largest value start at₀ at = pairsFrom largest value start .ending ≡ pairsFrom largest value at .ending
 
 abbrev μ-loop : tie.MeasureT-loop
-μ-loop kind value start at₀ at = length value - at
+μ-loop largest value start at₀ at = length value - at
 
 loop-holds : tie.Need-loop-holds Inv-loop μ-loop
 loop-holds c = refl

@@ -13,9 +13,6 @@ shared-slice-read-operator c = search needs
 size-of-requires : tie.Need-size-of-requires
 size-of-requires c κs = search needs
 
-size-allowed-requires : tie.Need-size-allowed-requires
-size-allowed-requires c κs = search needs
-
 returns-2 : tie.Need-returns-2
 returns-2 c = search (pair-size, needs)
 
@@ -31,14 +28,14 @@ returns-3 c = search (pair-short, needs)
 ends-list-requires : tie.Need-ends-list-requires
 ends-list-requires c κs = search needs
 
-add-t14 : tie.Need-add-t14
-add-t14 c = search needs
+add-t13 : tie.Need-add-t13
+add-t13 c = search needs
 
 returns-4 : tie.Need-returns-4
 returns-4 c = search (pair-last, needs)
 
-add-t12 : tie.Need-add-t12
-add-t12 c = search needs
+add-t11 : tie.Need-add-t11
+add-t11 c = search needs
 
 returns-5 : tie.Need-returns-5
 returns-5 c = search (pair-more, needs)
@@ -50,13 +47,12 @@ pair-at-spec =
     returns
     shared-slice-read-operator
     size-of-requires
-    size-allowed-requires
     returns-2
     add-start
     sub-if3
     returns-3
     ends-list-requires
-    add-t14
+    add-t13
     returns-4
-    add-t12
+    add-t11
     returns-5)

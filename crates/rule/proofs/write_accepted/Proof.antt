@@ -13,7 +13,7 @@ add-total : tie.Need-add-total
 add-total c = search needs
 
 returns : tie.Need-returns
-returns c = (no-room (c .before .before .before .before .args .value .now) (c .before .before .before .before .args .buffer .now) _ (c .before .field-size-for .ensures .0) (c .if1 .taken), refl)
+returns c = (no-room _ (c .before .before .before .before .args .value .now) (c .before .before .before .before .args .buffer .now) _ (c .before .field-size-for .ensures .0) (c .if1 .taken), refl)
 
 slice-aggregate-fill-plain : tie.Need-slice-aggregate-fill-plain
 slice-aggregate-fill-plain c = search needs
@@ -28,12 +28,12 @@ array-share-prefix-work : tie.Need-array-share-prefix-work
 array-share-prefix-work c = search needs
 
 slice-aggregate-store : tie.Need-slice-aggregate-store
-slice-aggregate-store c = front-length _ _ _ (c .before .before .before .before .before .before .before .fill-plain .ensures)
+slice-aggregate-store c = front-length _ _ _ _ (c .before .before .before .before .before .before .before .fill-plain .ensures)
 
 store-requires : tie.Need-store-requires
 store-requires c κs = let fill = c .before .before .before .before .before .before .before .fill-plain in
     let field = c .before .before .before .before .before .before .before .before .before in
-    omega (arith, front-length _ _ _ (fill .ensures), c .before .before .before .before .write-length .kept, field)
+    omega (arith, front-length _ _ _ _ (fill .ensures), c .before .before .before .before .write-length .kept, field)
 
 same-length : tie.Need-same-length
 same-length c = search needs
@@ -45,8 +45,8 @@ returns-2 c = let stores = c .before .before .store in
     let field = c .before .before .before .before .before .before .before .before .before .before .before .before .before .field-size-for in
     let room = c .before .before .before .before .before .before .before .before .before .before .before .before .if1 .left in
     let a = c .before .before .before .before .before .before .before .before .before .before .before .before .before .before .before .before .args in (
-      room-left (a .value .now) (a .buffer .now) _ (field .ensures .0) room,
-      write-in-a-row (a .value .now) (a .buffer .now) _ (field .ensures .0) room _ _ _ _ (fills .ensures) (writes .ensures) (stores .ensures),
+      room-left _ (a .value .now) (a .buffer .now) _ (field .ensures .0) room,
+      write-in-a-row _ (a .value .now) (a .buffer .now) _ (field .ensures .0) room _ _ _ _ (fills .ensures) (writes .ensures) (stores .ensures),
     )
 
 pub write-accepted-spec : {M : Type 1} → statement M
