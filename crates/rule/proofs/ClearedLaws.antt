@@ -14,7 +14,7 @@ use borrow.Author.Tests.{ltb-true}
 use Rattle.octets.proofs.Facts.{Octets, allBelow, below, octet, octet-test}
 use Rattle.rule.specs.declared.Family.{Family}
 use Rattle.rule.specs.declared.Expected.{Expected}
-use Rattle.rule.specs.declared.Expected.the-variants.{Kind, Length, Address, Operator, Operand}
+use Rattle.rule.specs.declared.Expected.the-variants.{Kind, Length, Offset, Address, Operator, Operand}
 use Rattle.rule.specs.Shape.{shapeOf}
 use Rattle.rule.specs.Operator.{endsList, sizeOf}
 use Rattle.rule.specs.Plain.{after, withoutReserved, plainOperator, plainOperand, plainAddress, clearedOctet, plainFrom, plain}
@@ -90,6 +90,7 @@ module _ (family : Family) where
   unfolding clearedOctet
   cleared-again Kind x h = refl
   cleared-again Length x h = refl
+  cleared-again (Offset length) x h = refl
   cleared-again (Address left) x h = address-again left x
   cleared-again (Operator kind first) x h = operator-again (shapeOf family kind .bitmask) first x h
   cleared-again (Operand kind left last) x h = operand-again (shapeOf family kind .ignored) x
@@ -99,6 +100,7 @@ module _ (family : Family) where
   unfolding after clearedOctet
   after-cleared Kind x h = refl
   after-cleared Length x h = refl
+  after-cleared (Offset length) x h = refl
   after-cleared (Address left) x h = refl
   after-cleared (Operator kind first) x h = λ i. Operand kind (size-kept (shapeOf family kind .bitmask) first x h i) (end-kept (shapeOf family kind .bitmask) first x h i)
   after-cleared (Operand kind left last) x h = refl
@@ -120,6 +122,7 @@ module _ (family : Family) where
   unfolding clearedOctet plainAddress
   cleared-small Kind x h = h
   cleared-small Length x h = h
+  cleared-small (Offset length) x h = h
   cleared-small (Address left) x h = omega (arith, split x (8 - left))
   cleared-small (Operator kind first) x h = operator-small (shapeOf family kind .bitmask) first x h
   cleared-small (Operand kind left last) x h = operand-small (shapeOf family kind .ignored) x (plainOperand (shapeOf family kind .ignored) x) refl h

@@ -1,12 +1,12 @@
 -- The cursor's answers: one law for each way in which the code comes to one, and where an answer lies in the value. Assumes nothing.
 use mathlib.Core.Path.{_≡_, refl, sym, ap, subst, _∙_}
-use mathlib.Core.Bool.{Bool, true, false, not, _||_}
+use mathlib.Core.Bool.{Bool, true, false, _||_, _&&_}
 use mathlib.Core.List.{List, [], _∷_}
 use Prim.Native.Nat.{ℕ, _+_, _-_, _/_, _<_, _≤_}
 use native.Mathlib.Omega.{arith}
 use lib.Dec.{leb, ltb, eqb}
 use lib.ListN.{length, getD}
-use borrow.Author.Tests.{le-leb, lt-leb, lt-ltb, le-ltb, leb-true, leb-false, ltb-false, eqb-false, not-true, not-false}
+use borrow.Author.Tests.{le-leb, lt-leb, lt-ltb, le-ltb, leb-true, leb-false, ltb-false, eqb-false}
 use Rattle.octets.specs.Walk.{more, last, stop, Walk, before}
 use Rattle.octets.proofs.Cases.{by-test, apart}
 use Rattle.octets.proofs.WalkLaws.{walk-stop, walk-last, walk-more, walk-ind}
@@ -20,7 +20,7 @@ use Rattle.rule.specs.declared.Next.{Next}
 use Rattle.rule.specs.declared.Next.the-variants.{Nothing, Another, Refused}
 use Rattle.rule.specs.Shape.{shapeOf}
 use Rattle.rule.specs.Operator.{endsList, sizeOf}
-use Rattle.rule.specs.Component.{pairAt, Pair, pairOf, pairStep, pairsFrom, prefixEnd, bodyEnd, found, componentAt}
+use Rattle.rule.specs.Component.{pairAt, Pair, pairOf, pairStep, pairsFrom, leadOf, offsetAt, prefixEnd, bodyEnd, found, componentAt}
 
 -- how `pair_at` comes to each of its answers
 module _ (largest : ℕ) (v : List ℕ) (at : ℕ) where
@@ -67,20 +67,57 @@ pair-cases largest v at P cut sized ends goes =
     let fits = ltb-false (length v - (at + 1)) (sizeOf operator) w in
     by-test (endsList operator) (λ x. rw (t, u, w, x) (ends (omega arith) allowed x)) (λ x. rw (t, u, w, x) (goes (omega arith) allowed x)))))
 
+-- where a pattern starts, and the offset, in a family with offsets and in one without
+module _ (family : Family) where
+  pub lead-with : family .offsets ≡ true → leadOf family ≡ 2
+  unfolding leadOf
+  lead-with t = rw t
+
+  pub lead-without : family .offsets ≡ false → leadOf family ≡ 1
+  unfolding leadOf
+  lead-without t = rw t
+
+  pub lead-some : 1 ≤ leadOf family
+  lead-some =
+      by-test (family .offsets) (λ t. let e = lead-with t in omega arith) (λ t. let e = lead-without t in omega arith)
+
+  pub offset-with : (v : List ℕ) (place : ℕ) → family .offsets ≡ true → offsetAt family v place ≡ getD v place 0
+  unfolding offsetAt
+  offset-with v place t = rw t
+
+  pub offset-without : (v : List ℕ) (place : ℕ) → family .offsets ≡ false → offsetAt family v place ≡ 0
+  unfolding offsetAt
+  offset-without v place t = rw t
+
+-- a length that is not refused for its offset is not below it
+pub not-below : (bits offset : ℕ) → (ltb 0 offset && leb bits offset) ≡ false → offset ≤ bits
+not-below bits offset e =
+    by-test (leb bits offset)
+    (λ t.
+    by-test (ltb 0 offset) (λ u. let z : true ≡ false = rw (u, t) at e in apart (cc)) (λ u. let n = ltb-false 0 offset u in omega arith))
+    (λ t. let n = leb-false bits offset t in omega arith)
+
 -- and likewise of where a prefix ends
-pub prefix-cases : (family : Family) (v : List ℕ) (at : ℕ) (P : BodyEnd → Type 0) → let octets = (getD v at 0 + 7) / 8 in
-    P (RefusedBody 6 (length v)) → (at < length v → P (RefusedBody 5 at))
-    → (at + 1 + octets ≤ length v → getD v at 0 ≤ family .width → P (At (at + 1 + octets))) → P (prefixEnd family v at)
+pub prefix-cases : (family : Family) (v : List ℕ) (at : ℕ) (P : BodyEnd → Type 0) → let bits = getD v at 0 in let offset = offsetAt family v (at + 1) in
+    let octets = (bits - offset + 7) / 8 in P (RefusedBody 6 (length v)) → (at < length v → P (RefusedBody 5 at))
+    → (at + leadOf family + octets ≤ length v → bits ≤ family .width → offset ≤ bits → P (At (at + leadOf family + octets))) → P (prefixEnd family v at)
 unfolding prefixEnd
 prefix-cases family v at P cut long ends =
+    let bits = getD v at 0 in
+    let offset = offsetAt family v (at + 1) in
+    let start = at + leadOf family in
+    let octets = (bits - offset + 7) / 8 in
     by-test (leb (length v) at) (λ t. rw t cut)
     (λ t.
     let inside = leb-false (length v) at t in
-    by-test (ltb (family .width) (getD v at 0)) (λ u. rw (t, u) (long inside))
-    (λ u. by-test (ltb (length v - (at + 1)) ((getD v at 0 + 7) / 8)) (λ w. rw (t, u, w) cut)
-    (λ w.
-    let fits = ltb-false (length v - (at + 1)) ((getD v at 0 + 7) / 8) w in
-    rw (t, u, w) (ends (omega arith) (ltb-false (family .width) (getD v at 0) u)))))
+    by-test (ltb (family .width) bits) (λ u. rw (t, u) (long inside))
+    (λ u. by-test (ltb (length v) start) (λ w. rw (t, u, w) cut)
+    (λ w. by-test (ltb 0 offset && leb bits offset) (λ x. rw (t, u, w, x) (long inside))
+    (λ x. by-test (ltb (length v - start) octets) (λ y. rw (t, u, w, x, y) cut)
+    (λ y.
+    let there = ltb-false (length v) start w in
+    let fits = ltb-false (length v - start) octets y in
+    rw (t, u, w, x, y) (ends (omega arith) (ltb-false (family .width) bits u) (not-below bits offset x)))))))
 
 -- and of the cursor
 pub component-cases : (family : Family) (v : List ℕ) (at previous : ℕ) (P : Next → Type 0) → let kind = getD v at 0 in
@@ -220,7 +257,7 @@ module _ (v : List ℕ) where
 
   pub prefix-within : (family : Family) (at : ℕ) → EndWithin v at (prefixEnd family v at)
   prefix-within family at =
-      prefix-cases family v at (EndWithin v at) (short v) (λ h. (omega arith, (omega arith, omega arith))) (λ h k. (omega arith, omega arith))
+      prefix-cases family v at (EndWithin v at) (short v) (λ h. (omega arith, (omega arith, omega arith))) (λ h k l. let lead = lead-some family in (omega arith, omega arith))
 
   pub body-within : (family : Family) (kind at : ℕ) → EndWithin v at (bodyEnd family kind v at)
   unfolding bodyEnd
@@ -238,14 +275,24 @@ module _ (family : Family) (v : List ℕ) (at : ℕ) where
   unfolding prefixEnd
   prefix-long h k = rw (lt-leb _ _ h, lt-ltb _ _ k)
 
-  pub prefix-short : at < length v → getD v at 0 ≤ family .width → length v - (at + 1) < (getD v at 0 + 7) / 8 → RefusedBody 6 (length v) ≡ prefixEnd family v at
-  unfolding prefixEnd
-  prefix-short h k l = rw (lt-leb _ _ h, le-ltb _ _ k, lt-ltb _ _ l)
+  module _ (lead : ℕ) (is : lead ≡ leadOf family) (within : at < length v) (narrow : getD v at 0 ≤ family .width) where
+    pub prefix-no-offset : length v < at + lead → RefusedBody 6 (length v) ≡ prefixEnd family v at
+    unfolding prefixEnd
+    prefix-no-offset h = rw (lt-leb _ _ within, le-ltb _ _ narrow, ← is, lt-ltb _ _ h)
 
-  pub prefix-whole : at < length v → getD v at 0 ≤ family .width → (getD v at 0 + 7) / 8 ≤ length v - (at + 1)
-      → At (at + 1 + (getD v at 0 + 7) / 8) ≡ prefixEnd family v at
-  unfolding prefixEnd
-  prefix-whole h k l = rw (lt-leb _ _ h, le-ltb _ _ k, le-ltb _ _ l)
+    module _ (offset : ℕ) (says : offset ≡ offsetAt family v (at + 1)) (there : at + lead ≤ length v) where
+      pub prefix-below : (ltb 0 offset && leb (getD v at 0) offset) ≡ true → RefusedBody 5 at ≡ prefixEnd family v at
+      unfolding prefixEnd
+      prefix-below h = rw (lt-leb _ _ within, le-ltb _ _ narrow, ← is, le-ltb _ _ there, ← says, h)
+
+      module _ (above : (ltb 0 offset && leb (getD v at 0) offset) ≡ false) where
+        pub prefix-short : length v - (at + lead) < (getD v at 0 - offset + 7) / 8 → RefusedBody 6 (length v) ≡ prefixEnd family v at
+        unfolding prefixEnd
+        prefix-short h = rw (lt-leb _ _ within, le-ltb _ _ narrow, ← is, le-ltb _ _ there, ← says, above, lt-ltb _ _ h)
+
+        pub prefix-whole : (getD v at 0 - offset + 7) / 8 ≤ length v - (at + lead) → At (at + lead + (getD v at 0 - offset + 7) / 8) ≡ prefixEnd family v at
+        unfolding prefixEnd
+        prefix-whole h = rw (lt-leb _ _ within, le-ltb _ _ narrow, ← is, le-ltb _ _ there, ← says, above, le-ltb _ _ h)
 
 -- how `body_end` comes to each of its answers
 module _ (family : Family) (kind : ℕ) (v : List ℕ) (at : ℕ) (end : BodyEnd) (shape : Shape) (is : shape ≡ shapeOf family kind) where

@@ -11,15 +11,16 @@ use native.Mathlib.Nat.{add-zero}
 use lib.ListN.{length, getD, drop, take-append-drop, drop-of-length-le, length-drop, List·getD-eq-default}
 use lib.Seq.{drop-cons, drop-drop, getD-take, getD-drop, length-take-le}
 use Rattle.octets.specs.Test.{Each}
+use Rattle.octets.proofs.Cases.{by-test}
 use Rattle.octets.proofs.Facts.{Octets}
 use Rattle.rule.specs.declared.Family.{Family}
 use Rattle.rule.specs.declared.BodyEnd.{BodyEnd}
 use Rattle.rule.specs.declared.BodyEnd.the-variants.{At, Refused as RefusedBody}
 use Rattle.rule.specs.declared.Checked.the-variants.{Accepted}
 use Rattle.rule.specs.Shape.{shapeOf}
-use Rattle.rule.specs.Component.{prefixEnd, bodyEnd}
+use Rattle.rule.specs.Component.{leadOf, offsetAt, prefixEnd, bodyEnd}
 use Rattle.rule.specs.Value.{Component, spelled, between, componentsFrom, components, checkValue}
-use Rattle.rule.proofs.ComponentLaws.{prefix-cases}
+use Rattle.rule.proofs.ComponentLaws.{prefix-cases, lead-with, offset-with, offset-without}
 use Rattle.rule.proofs.ValueLaws.{Found, was-found, none-left, components-ind, accepted-walk}
 
 -- the octets up to a place, and those from it on
@@ -68,10 +69,11 @@ module _ (family : Family) (v : List ℕ) where
       components-ind family v (λ at previous w. Each P (w .items)) (λ at previous e. tt) (λ at previous number place e. tt)
       (λ at previous kind next w e h. (holds at previous kind next (was-found family v at previous kind next e), h)) 0 0
 
--- a prefix's body: its length is within the width, and it has just the octets that this asks for
+-- a prefix's body: its length is within the width and not below its offset, and it has just the octets that these ask for
 pub record PrefixBody (family : Family) (body : List ℕ) : Type 0 where
   pub within : getD body 0 0 ≤ family .width
-  pub whole : length body ≡ 1 + (getD body 0 0 + 7) / 8
+  pub below : offsetAt family body 1 ≤ getD body 0 0
+  pub whole : length body ≡ leadOf family + (getD body 0 0 - offsetAt family body 1 + 7) / 8
 
 -- a component that the cursor can find
 pub record SoundComponent (family : Family) (p : Component) : Type 0 where
@@ -81,13 +83,15 @@ pub record SoundComponent (family : Family) (p : Component) : Type 0 where
 
 -- where a prefix that begins at a place ends
 PrefixEnds : Family → List ℕ → ℕ → BodyEnd → Type 0
-PrefixEnds family v at (At next) = (getD v at 0 ≤ family .width) × (next ≡ at + 1 + (getD v at 0 + 7) / 8)
+PrefixEnds family v at (At next) =
+    (getD v at 0 ≤ family .width) × ((offsetAt family v (at + 1) ≤ getD v at 0)
+    × ((next ≡ at + leadOf family + (getD v at 0 - offsetAt family v (at + 1) + 7) / 8) × (at + leadOf family ≤ next)))
 PrefixEnds family v at (RefusedBody number place) = Unit {0}
 
 module _ (family : Family) (v : List ℕ) where
   prefix-ends : (at : ℕ) → PrefixEnds family v at (prefixEnd family v at)
   unfolding PrefixEnds
-  prefix-ends at = prefix-cases family v at (PrefixEnds family v at) tt (λ h. tt) (λ h k. (k, refl))
+  prefix-ends at = prefix-cases family v at (PrefixEnds family v at) tt (λ h. tt) (λ h k l. (k, (l, (refl, omega arith))))
 
   module _ (at next : ℕ) (some : at < next) (inside : next ≤ length v) where
     body-length : length (between v at next) ≡ next - at
@@ -96,12 +100,24 @@ module _ (family : Family) (v : List ℕ) where
     body-first : getD (between v at next) 0 0 ≡ getD v at 0
     body-first = getD-take (next - at) (drop at v) 0 0 (omega arith) ∙ getD-drop at v 0 0 ∙ ap (λ n. getD v n 0) (add-zero at)
 
+    body-offset : at + leadOf family ≤ next → offsetAt family (between v at next) 1 ≡ offsetAt family v (at + 1)
+    body-offset there =
+        by-test (family .offsets)
+        (λ t.
+        let lead = lead-with family t in
+        offset-with family (between v at next) 1 t ∙ getD-take (next - at) (drop at v) 1 0 (omega arith) ∙ getD-drop at v 1 0 ∙ sym (offset-with family v (at + 1) t))
+        (λ t. offset-without family (between v at next) 1 t ∙ sym (offset-without family v (at + 1) t))
+
     prefix-body : (kind : ℕ) → shapeOf family kind .prefix ≡ true → bodyEnd family kind v at ≡ At next → PrefixBody family (between v at next)
     unfolding bodyEnd PrefixEnds
     prefix-body kind t e =
         let ends = subst (PrefixEnds family v at) (rw t at e) (prefix-ends at) in
-        let size = ends .1 in
-        record { within = rw body-first (ends .0); whole = rw (body-first, body-length) (omega arith) }
+        let offset = body-offset (ends .1 .1 .1) in
+        record {
+          within = rw body-first (ends .0);
+          below = rw (body-first, offset) (ends .1 .0);
+          whole = rw (body-first, offset, body-length) (omega arith);
+        }
 
   -- each component of a value is sound
   pub each-sound : Each (SoundComponent family) (components family v)

@@ -8,14 +8,14 @@ use native.Mathlib.Nat.{mul-assoc, mod-eq-of-lt}
 use lib.Bits.{bitAnd, and-zero-r}
 use lib.ListN.{length, getD}
 use lib.Pow.{pow-add, split}
-use borrow.Author.Tests.{eq-eqb, ne-eqb, le-leb, lt-leb}
+use borrow.Author.Tests.{le-leb, lt-leb}
 use Rattle.rule.specs.declared.Family.{Family}
 use Rattle.rule.specs.declared.Shape.{Shape}
 use Rattle.rule.specs.declared.Expected.{Expected}
-use Rattle.rule.specs.declared.Expected.the-variants.{Kind, Length, Address, Operator, Operand}
+use Rattle.rule.specs.declared.Expected.the-variants.{Kind, Length, Offset, Address, Operator, Operand}
 use Rattle.rule.specs.Shape.{shapeOf}
 use Rattle.rule.specs.Operator.{endsList, sizeOf}
-use Rattle.rule.specs.Plain.{bodyOf, operandAfter, after, plainOperator, plainOperand, plainAddress, clearedOctet, plainFrom, plain}
+use Rattle.rule.specs.Plain.{bodyOf, patternAfter, operandAfter, after, plainOperator, plainOperand, plainAddress, clearedOctet, plainFrom, plain}
 
 -- what the shifts of `plain_address` leave
 pub shifted : (x k : ℕ) → x < 256 → x / 2 ^ k * 2 ^ k % 2 ^ 32 ≡ x / 2 ^ k * 2 ^ k
@@ -67,13 +67,17 @@ module _ (family : Family) (e : Expected) (x : ℕ) where
   unfolding after
   after-kind r h k = rw h k
 
-  pub after-length-zero : e ≡ Length → x ≡ 0 → Kind ≡ after family e x
+  pub after-length-offset : e ≡ Length → family .offsets ≡ true → Offset x ≡ after family e x
   unfolding after
-  after-length-zero h z = rw (h, eq-eqb x 0 z)
+  after-length-offset h t = rw (h, t)
 
-  pub after-length : e ≡ Length → (x ≡ 0 → ⊥) → Address x ≡ after family e x
+  pub after-length : (r : Expected) → e ≡ Length → family .offsets ≡ false → r ≡ patternAfter x 0 → r ≡ after family e x
   unfolding after
-  after-length h z = rw (h, ne-eqb x 0 z)
+  after-length r h t k = rw (h, t) k
+
+  pub after-offset : (length : ℕ) (r : Expected) → e ≡ Offset length → r ≡ patternAfter length x → r ≡ after family e x
+  unfolding after
+  after-offset length r h k = rw h k
 
   pub after-address-last : (left : ℕ) → e ≡ Address left → left ≤ 8 → Kind ≡ after family e x
   unfolding after
@@ -100,6 +104,10 @@ module _ (family : Family) (e : Expected) (x : ℕ) where
   pub cleared-length : e ≡ Length → x ≡ clearedOctet family e x
   unfolding clearedOctet
   cleared-length h = rw h
+
+  pub cleared-offset : (length : ℕ) → e ≡ Offset length → x ≡ clearedOctet family e x
+  unfolding clearedOctet
+  cleared-offset length h = rw h
 
   pub cleared-address : (left r : ℕ) → e ≡ Address left → r ≡ plainAddress left x → r ≡ clearedOctet family e x
   unfolding clearedOctet

@@ -6,10 +6,11 @@ use mathlib.Core.List.{List, [], _∷_, map}
 use mathlib.Core.Logic.{⊎-elim}
 use Prim.Native.Nat.{ℕ, zero, suc, _+_, _-_, _/_, _<_, _≤_}
 use native.Mathlib.Omega.{arith}
+use native.Mathlib.Decide.{decLt}
 use native.Mathlib.Numerals.{add-one}
-use native.Mathlib.Nat.{add-zero}
+use native.Mathlib.Nat.{add-zero, zero-add}
 use lib.Dec.{leb, ltb, eqb}
-use lib.ListN.{length, getD, take, drop}
+use lib.ListN.{length, getD, take, drop, List·getD-eq-default}
 use lib.Seq.{drop-cons, drop-drop, getD-drop}
 use borrow.Author.Tests.{lt-ltb, leb-false, leb-true, ltb-true, ltb-false, eqb-true, eqb-false}
 use Rattle.octets.specs.Number.{numberAt}
@@ -20,7 +21,7 @@ use Rattle.octets.proofs.NumberLaws.{number-alike, one-octet}
 use Rattle.rule.specs.declared.Family.{Family}
 use Rattle.rule.specs.declared.Shape.{Shape}
 use Rattle.rule.specs.declared.Expected.{Expected}
-use Rattle.rule.specs.declared.Expected.the-variants.{Kind, Length, Address, Operator, Operand}
+use Rattle.rule.specs.declared.Expected.the-variants.{Kind, Length, Offset, Address, Operator, Operand}
 use Rattle.rule.specs.declared.NextPair.{NextPair}
 use Rattle.rule.specs.declared.NextPair.the-variants.{More, Last, Refused as RefusedPair}
 use Rattle.rule.specs.declared.BodyEnd.{BodyEnd}
@@ -30,15 +31,15 @@ use Rattle.rule.specs.declared.Next.the-variants.{Nothing, Another, Refu
 use Rattle.rule.specs.declared.Checked.{Checked}
 use Rattle.rule.specs.Shape.{shapeOf}
 use Rattle.rule.specs.Operator.{endsList, sizeOf}
-use Rattle.rule.specs.Component.{pairAt, Pair, pairOf, pairsFrom, prefixEnd, bodyEnd, found, componentAt}
+use Rattle.rule.specs.Component.{pairAt, Pair, pairOf, pairsFrom, leadOf, offsetAt, prefixEnd, bodyEnd, found, componentAt}
 use Rattle.rule.specs.Value.{Component, between, componentsFrom, components, checkValue}
-use Rattle.rule.specs.Plain.{bodyOf, operandAfter, after, plainOperator, plainOperand, clearedOctet, plainFrom, plain}
+use Rattle.rule.specs.Plain.{bodyOf, patternAfter, operandAfter, after, plainOperator, plainOperand, clearedOctet, plainFrom, plain}
 use Rattle.rule.specs.PlainComponent.{plainPair, plainPairs, plainComponent}
 use Rattle.rule.proofs.ShapeLaws.{one-octet-or-whole}
 use Rattle.rule.proofs.OperatorLaws.{size-positive}
-use Rattle.rule.proofs.ComponentLaws.{pair-cases, prefix-cases, component-cases, pairs-more, pairs-last, pairs-refused, pairs-ind}
+use Rattle.rule.proofs.ComponentLaws.{pair-cases, lead-with, lead-without, offset-with, offset-without, prefix-cases, prefix-missing, component-cases, pairs-more, pairs-last, pairs-refused, pairs-ind}
 use Rattle.rule.proofs.ValueLaws.{was-found, components-more, components-none, components-refused, components-ind}
-use Rattle.rule.proofs.PlainLaws.{length-plain-from, whole-operand}
+use Rattle.rule.proofs.PlainLaws.{length-plain-from, whole-operand, after-length-offset, after-length, after-offset}
 use Rattle.rule.proofs.ClearedLaws.{size-kept, end-kept}
 
 -- the octet at a place is as expected, where the first is as `start` says: from there on the spelling is that of what is left
@@ -200,26 +201,73 @@ module _ (family : Family) (start : Expected) (v : List ℕ) where
           let e : i + 1 + (left - 8 + 7) / 8 ≡ i + (left + 7) / 8 = omega arith in
           rw (← e) (ih (omega arith) (rw t at y) (omega arith) (omega arith))
 
-  module _ (at : ℕ) (x : Expects family start v at Length) where
-    prefix-same : prefixEnd family (plainFrom family start v) at ≡ prefixEnd family v at
-    unfolding prefixEnd clearedOctet
-    prefix-same =
-        by-test (leb (length v) at) (λ t. rw (length-plain-from family start v, t))
-        (λ t. let h = leb-false (length v) at t in rw (length-plain-from family start v, octet-there family start v at Length x h))
+  -- and so behind those of its pattern
+  pattern-passed : (bits offset i : ℕ) → Expects family start v i (patternAfter bits offset) → i + (bits - offset + 7) / 8 ≤ length v
+      → Expects family start v (i + (bits - offset + 7) / 8) Kind
+  unfolding patternAfter
+  pattern-passed bits offset i x k =
+      by-test (leb bits offset)
+      (λ t.
+      let z = leb-true bits offset t in
+      let e : i ≡ i + (bits - offset + 7) / 8 = omega arith in
+      rw (← e) (rw t at x))
+      (λ t. let z = leb-false bits offset t in prefix-passed (bits - offset) (bits - offset) i (omega arith) (rw t at x) (omega arith) k)
 
-    prefix-then : EndExpects family start v (prefixEnd family v at)
-    unfolding EndExpects after
-    prefix-then =
-        prefix-cases family v at (EndExpects family start v) tt (λ h. tt) (λ h k. go (omega arith) h (eqb (getD v at 0) 0) refl)
-      where
-        go : at < length v → at + 1 + (getD v at 0 + 7) / 8 ≤ length v → (t : Bool) → eqb (getD v at 0) 0 ≡ t → Expects family start v (at + 1 + (getD v at 0 + 7) / 8) Kind
-        go h k true t =
-            let z = eqb-true (getD v at 0) 0 t in
-            let e : at + 1 ≡ at + 1 + (getD v at 0 + 7) / 8 = omega arith in
-            rw (← e) (rw t at (goes-on family start v at Length x h))
-        go h k false t =
-            let z = eqb-false (getD v at 0) 0 t in
-            prefix-passed (getD v at 0) (getD v at 0) (at + 1) (omega arith) (rw t at (goes-on family start v at Length x h)) (omega arith) (omega arith)
+  module _ (at : ℕ) (x : Expects family start v at Length) (inside : at < length v) where
+    -- behind the length octet the offset is as it was, and then the pattern is expected
+    offset-expected : family .offsets ≡ true → Expects family start v (at + 1) (Offset (getD v at 0))
+    offset-expected t = rw (after-length-offset family Length (getD v at 0) refl t) (goes-on family start v at Length x inside)
+
+    offset-same : offsetAt family (plainFrom family start v) (at + 1) ≡ offsetAt family v (at + 1)
+    unfolding clearedOctet
+    offset-same =
+        by-test (family .offsets)
+        (λ t.
+        offset-with family (plainFrom family start v) (at + 1) t
+        ∙ elim (decLt (at + 1) (length v)) [
+          | yes h ↦ octet-there family start v (at + 1) (Offset (getD v at 0)) (offset-expected t) h
+          | no h ↦
+              let l = length-plain-from family start v in
+              List·getD-eq-default (plainFrom family start v) 0 {n = at + 1} (omega arith) ∙ sym (List·getD-eq-default v 0 {n = at + 1} (omega arith))
+        ]
+        ∙ sym (offset-with family v (at + 1) t))
+        (λ t. offset-without family (plainFrom family start v) (at + 1) t ∙ sym (offset-without family v (at + 1) t))
+
+    pattern-expected : at + leadOf family ≤ length v → Expects family start v (at + leadOf family) (patternAfter (getD v at 0) (offsetAt family v (at + 1)))
+    pattern-expected there =
+        let bits = getD v at 0 in
+        by-test (family .offsets)
+        (λ t.
+        let lead = lead-with family t in
+        let e : at + leadOf family ≡ at + 1 + 1 = omega arith in
+        let offset = getD v (at + 1) 0 in
+        rw (e, offset-with family v (at + 1) t, after-offset family (Offset bits) offset bits (patternAfter bits offset) refl refl)
+        (goes-on family start v (at + 1) (Offset bits) (offset-expected t) (omega arith)))
+        (λ t.
+        let lead = lead-without family t in
+        let e : at + leadOf family ≡ at + 1 = omega arith in
+        rw (e, offset-without family v (at + 1) t, after-length family Length bits (patternAfter bits 0) refl t refl)
+        (goes-on family start v at Length x inside))
+
+    prefix-inside : (prefixEnd family (plainFrom family start v) at ≡ prefixEnd family v at) × EndExpects family start v (prefixEnd family v at)
+    unfolding prefixEnd clearedOctet EndExpects
+    prefix-inside = (
+      rw (length-plain-from family start v, octet-there family start v at Length x inside, offset-same),
+      prefix-cases family v at (EndExpects family start v) tt (λ h. tt)
+          (λ h k l. pattern-passed (getD v at 0) (offsetAt family v (at + 1)) (at + leadOf family) (pattern-expected (omega arith)) h),
+    )
+
+  prefix-same : (at : ℕ) → Expects family start v at Length
+      → (prefixEnd family (plainFrom family start v) at ≡ prefixEnd family v at) × EndExpects family start v (prefixEnd family v at)
+  unfolding EndExpects
+  prefix-same at x =
+      elim (decLt at (length v)) [
+        | yes h ↦ prefix-inside at x h
+        | no h ↦
+            let l = length-plain-from family start v in
+            let cut = prefix-missing family v at (omega arith) in
+            (sym (prefix-missing family (plainFrom family start v) at (omega arith)) ∙ rw l cut, subst (EndExpects family start v) cut tt)
+      ]
 
 -- what is expected behind a component
 NextExpects : Family → Expected → List ℕ → Next → Type 0
@@ -232,7 +280,7 @@ module _ (family : Family) (start : Expected) (v : List ℕ) (o : Octets v) wher
   unfolding bodyEnd bodyOf ListSame
   body-same kind at x =
       by-test (shapeOf family kind .prefix)
-      (λ t. let y = rw t at x in rw t (prefix-same family start v at y, prefix-then family start v at y))
+      (λ t. let same = prefix-same family start v at (rw t at x) in rw t (same .0, same .1))
       (λ t. let same = list-same family start v o kind at true (rw t at x) in rw t (ap (λ (w : Walk Pair BodyEnd). w .ending) (same .0), same .1))
 
   component-same : (at previous : ℕ) → Expects family start v at Kind
@@ -252,6 +300,16 @@ module _ (family : Family) (start : Expected) (v : List ℕ) (o : Octets v) wher
       then : (e : BodyEnd) → EndExpects family start v e → NextExpects family start v (found (getD v at 0) e)
       then (At next) y = y
       then (RefusedBody number place) y = tt
+
+-- the offset of a prefix is kept, and its pattern is the pattern in the plain spelling
+module _ (family : Family) (body : List ℕ) (some : 0 < length body) where
+  pub offset-kept : offsetAt family (plainFrom family Length body) 1 ≡ offsetAt family body 1
+  offset-kept = offset-same family Length body 0 (starts family Length body) some
+
+  pub pattern-plain : leadOf family ≤ length body
+      → drop (leadOf family) (plainFrom family Length body) ≡ plainFrom family (patternAfter (getD body 0 0) (offsetAt family body 1)) (drop (leadOf family) body)
+  unfolding Expects
+  pattern-plain h = rw (zero-add (leadOf family)) at (pattern-expected family Length body 0 (starts family Length body) some (omega arith))
 
 -- the pairs of a list in the plain spelling are its pairs in the plain spelling
 pub pairs-plain : (family : Family) (kind : ℕ) (v : List ℕ) → Octets v → let shape = shapeOf family kind in

@@ -1,7 +1,7 @@
 -- One component of a value (RFC 8955 section 4.2): what stands at a place, where it ends, and why it is refused. A component is its
 -- type octet and its body, all that follows up to its end. A refusal is a number of 01's table and a place in the value.
 use Prim.Native.Nat.{ℕ, _+_, _-_, _/_}
-use mathlib.Core.Bool.{cond, _||_}
+use mathlib.Core.Bool.{cond, _||_, _&&_}
 use mathlib.Core.List.{List}
 use lib.Dec.{leb, ltb, eqb}
 use lib.ListN.{length, getD}
@@ -47,14 +47,29 @@ pairStep v at (RefusedPair number place) = stop (RefusedBody number place)
 unfoldable pub pairsFrom : ℕ → List ℕ → ℕ → Walk Pair BodyEnd
 pairsFrom largest v at = walk (length v + 1) (RefusedBody 6 (length v)) (λ i. pairStep v i (pairAt largest v i)) at
 
--- 01: "length octet 0 to 32, then that many bits rounded up to octets". A missing length octet is 6 at the value's end, a length
--- above the address's width 5 at the length octet, and missing octets 6 at the value's end.
+-- How many octets stand before a prefix's pattern: its length octet and, in a family with offsets, its offset octet.
+unfoldable pub leadOf : Family → ℕ
+leadOf family = cond (family .offsets) 2 1
+
+-- RFC 8956 section 3.1, "offset": "the number of most significant address bits to skip", which the octet at the given place, behind the
+-- length octet, says; in a family without offsets it is 0.
+unfoldable pub offsetAt : Family → List ℕ → ℕ → ℕ
+offsetAt family v place = cond (family .offsets) (getD v place 0) 0
+
+-- 01: "length octet 0 to 32, then that many bits rounded up to octets"; behind an offset octet, as many bits fewer as it says. A missing
+-- length octet is 6 at the value's end, a length above the address's width 5 at the length octet, a missing offset octet 6 at the value's
+-- end, a length not above the offset, 0 and 0 apart, 5 at the length octet, and missing octets of the pattern 6 at the value's end.
 unfoldable pub prefixEnd : Family → List ℕ → ℕ → BodyEnd
 prefixEnd family v at =
-    let octets = (getD v at 0 + 7) / 8 in
+    let bits = getD v at 0 in
+    let offset = offsetAt family v (at + 1) in
+    let start = at + leadOf family in
+    let octets = (bits - offset + 7) / 8 in
     cond (leb (length v) at) (RefusedBody 6 (length v))
-    (cond (ltb (family .width) (getD v at 0)) (RefusedBody 5 at)
-    (cond (ltb (length v - (at + 1)) octets) (RefusedBody 6 (length v)) (At (at + 1 + octets))))
+    (cond (ltb (family .width) bits) (RefusedBody 5 at)
+    (cond (ltb (length v) start) (RefusedBody 6 (length v))
+    (cond (ltb 0 offset && leb bits offset) (RefusedBody 5 at)
+    (cond (ltb (length v - start) octets) (RefusedBody 6 (length v)) (At (start + octets))))))
 
 -- Where a body that begins at a place ends: a prefix or a list, by the type.
 unfoldable pub bodyEnd : Family → ℕ → List ℕ → ℕ → BodyEnd

@@ -1,13 +1,14 @@
 -- 01, "Plain spelling": bits that are to be ignored are cleared, octet by octet, and the length never changes. What the next octet
--- is says which of its bits count: a type octet, a prefix's length octet, an octet of a prefix, an operator, or an octet of a pair's value.
+-- is says which of its bits count: a type octet, a prefix's length octet, its offset octet, an octet of its pattern, an operator, or an octet of
+-- a pair's value.
 use Prim.Native.Nat.{ℕ, _-_, _*_, _/_, _^_}
 use mathlib.Core.Bool.{Bool, true, false, cond}
 use mathlib.Core.List.{List, [], _∷_}
 use lib.Bits.{bitAnd}
-use lib.Dec.{leb, ltb, eqb}
+use lib.Dec.{leb, ltb}
 use Rattle.rule.specs.declared.Family.{Family}
 use Rattle.rule.specs.declared.Expected.{Expected}
-use Rattle.rule.specs.declared.Expected.the-variants.{Kind, Length, Address, Operator, Operand}
+use Rattle.rule.specs.declared.Expected.the-variants.{Kind, Length, Offset, Address, Operator, Operand}
 use Rattle.rule.specs.Shape.{shapeOf}
 use Rattle.rule.specs.Operator.{endsList, sizeOf}
 
@@ -15,15 +16,21 @@ use Rattle.rule.specs.Operator.{endsList, sizeOf}
 unfoldable pub bodyOf : Family → ℕ → Expected
 bodyOf family kind = cond (shapeOf family kind .prefix) Length (Operator kind true)
 
+-- What is expected behind a prefix's length and offset: its pattern, which has length minus offset bits, or a type where it has none.
+unfoldable pub patternAfter : ℕ → ℕ → Expected
+patternAfter length offset = cond (leb length offset) Kind (Address (length - offset))
+
 -- What is expected behind an octet of a pair's value: the rest of it, or the next operator, or after the last pair a type.
 unfoldable pub operandAfter : ℕ → ℕ → Bool → Expected
 operandAfter kind left last = cond (ltb 1 left) (Operand kind (left - 1) last) (cond last Kind (Operator kind false))
 
--- What is expected after the octet x, where x was as expected: `Address left` has `left` bits of the prefix to come, `Operator kind
--- first` is the list's first operator or a later one, and `Operand kind left last` has `left` octets of a pair's value to come.
+-- What is expected after the octet x, where x was as expected: `Offset length` is the offset behind that length, `Address left` has `left`
+-- bits of the pattern to come, `Operator kind first` is the list's first operator or a later one, and `Operand kind left last` has `left`
+-- octets of a pair's value to come.
 unfoldable pub after : Family → Expected → ℕ → Expected
 after family Kind x = bodyOf family x
-after family Length x = cond (eqb x 0) Kind (Address x)
+after family Length x = cond (family .offsets) (Offset x) (patternAfter x 0)
+after family (Offset length) x = patternAfter length x
 after family (Address left) x = cond (leb left 8) Kind (Address (left - 8))
 after family (Operator kind first) x = Operand kind (sizeOf x) (endsList x)
 after family (Operand kind left last) x = operandAfter kind left last
@@ -43,7 +50,7 @@ unfoldable pub plainOperand : ℕ → ℕ → ℕ
 plainOperand ignored x = x - bitAnd x ignored
 
 -- 01: "prefix bits past the length": of the octet's eight bits the first `left` are kept, all of them where there are eight or more; `left`
--- is how many bits of the prefix are still to come, this octet's included.
+-- is how many bits of the pattern are still to come, this octet's included.
 unfoldable pub plainAddress : ℕ → ℕ → ℕ
 plainAddress left x = x / 2 ^ (8 - left) * 2 ^ (8 - left)
 
@@ -51,6 +58,7 @@ plainAddress left x = x / 2 ^ (8 - left) * 2 ^ (8 - left)
 unfoldable pub clearedOctet : Family → Expected → ℕ → ℕ
 clearedOctet family Kind x = x
 clearedOctet family Length x = x
+clearedOctet family (Offset length) x = x
 clearedOctet family (Address left) x = plainAddress left x
 clearedOctet family (Operator kind first) x = plainOperator (shapeOf family kind .bitmask) first x
 clearedOctet family (Operand kind left last) x = plainOperand (shapeOf family kind .ignored) x

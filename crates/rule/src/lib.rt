@@ -10,10 +10,10 @@ ghost use lib.ListN.{length, getD, take, drop};
 ghost use Rattle.rule.specs.Family.{ipv4};
 ghost use Rattle.rule.specs.Shape.{shapeOf};
 ghost use Rattle.rule.specs.Operator.{endsList, sizeOf};
-ghost use Rattle.rule.specs.Component.{pairAt, pairsFrom, prefixEnd, bodyEnd, componentAt};
+ghost use Rattle.rule.specs.Component.{pairAt, pairsFrom, leadOf, offsetAt, prefixEnd, bodyEnd, componentAt};
 ghost use Rattle.rule.specs.Reader.{readerAt, nextOf};
 ghost use Rattle.rule.specs.Value.{checkValue};
-ghost use Rattle.rule.specs.Plain.{bodyOf, after, operandAfter, withoutReserved, plainOperator, plainOperand, plainAddress, clearedOctet, plain};
+ghost use Rattle.rule.specs.Plain.{bodyOf, patternAfter, after, operandAfter, withoutReserved, plainOperator, plainOperand, plainAddress, clearedOctet, plain};
 ghost use Rattle.rule.specs.Reading.{fieldSize, fieldLength, firstRule, oneRule};
 ghost use Rattle.rule.specs.Writing.{lengthField, intoRoom, filled, writing, afterWriting};
 ghost use Rattle.octets.specs.Store.{stored};
@@ -79,11 +79,13 @@ pub struct Reader<'a> {
     pub previous: u8,
 }
 
-// What the next octet of a value is: a type, a prefix's length, an octet of a prefix with the bits still to come, an operator (a
-// list's first or a later one), or an octet of a value with the octets still to come (of a list's last pair or an earlier one).
+// What the next octet of a value is: a type, a prefix's length, its offset behind that length, an octet of its pattern with the bits still
+// to come, an operator (a list's first or a later one), or an octet of a value with the octets still to come (of a list's last pair or
+// an earlier one).
 pub enum Expected {
     Kind,
     Length,
+    Offset(u8),
     Address(u8),
     Operator { kind: u8, first: bool },
     Operand { kind: u8, left: usize, last: bool },
@@ -233,7 +235,27 @@ pub fn list_end(largest: usize, value: &[u8], start: usize) -> BodyEnd
     }
 }
 
-// The place behind a prefix that begins at a place: 5 where its length is above the width, 6 where it is cut short.
+// How many octets stand before a prefix's pattern.
+pub fn lead_of(family: Family) -> usize
+    ensures { λ r. ⌜ (r ≡ leadOf family) × (r ≤ 2) ⌝ }
+{
+    if family.offsets {
+        return 2;
+    }
+    1
+}
+
+// The offset that stands at a place, or 0 in a family that has none.
+pub fn offset_at(family: Family, value: &[u8], place: usize) -> u8
+    ensures { λ r. ⌜ r ≡ offsetAt family (now (value .entry)) place ⌝ }
+{
+    if family.offsets {
+        return octet_at(value, place);
+    }
+    0
+}
+
+// The place behind a prefix that begins at a place: 5 where its length is above the width or not above its offset, 6 where it is cut short.
 pub fn prefix_end(family: Family, value: &[u8], at: usize) -> BodyEnd
     ensures { λ r. ⌜ r ≡ prefixEnd family (now (value .entry)) at ⌝ }
 {
@@ -251,8 +273,21 @@ pub fn prefix_end(family: Family, value: &[u8], at: usize) -> BodyEnd
             place: at,
         };
     }
-    let octets = (bits as usize + 7) / 8;
-    let start = at + 1;
+    let start = at + lead_of(family);
+    if end < start {
+        return BodyEnd::Refused {
+            number: 6,
+            place: end,
+        };
+    }
+    let offset = offset_at(family, value, at + 1);
+    if (0 < offset) & (bits <= offset) {
+        return BodyEnd::Refused {
+            number: 5,
+            place: at,
+        };
+    }
+    let octets = ((bits - offset) as usize + 7) / 8;
     if end - start < octets {
         return BodyEnd::Refused {
             number: 6,
@@ -382,11 +417,12 @@ pub fn expected_after(family: Family, expected: Expected, x: u8) -> Expected
     match expected {
         Expected::Kind => body_of(family, x),
         Expected::Length => {
-            if x == 0 {
-                return Expected::Kind;
+            if family.offsets {
+                return Expected::Offset(x);
             }
-            Expected::Address(x)
+            pattern_after(x, 0)
         }
+        Expected::Offset(length) => pattern_after(length, x),
         Expected::Address(left) => {
             if left <= 8 {
                 return Expected::Kind;
@@ -400,6 +436,16 @@ pub fn expected_after(family: Family, expected: Expected, x: u8) -> Expected
         }
         Expected::Operand { kind, left, last } => operand_after(kind, left, last),
     }
+}
+
+// What is expected behind a prefix's length and offset.
+pub fn pattern_after(length: u8, offset: u8) -> Expected
+    ensures { λ r. ⌜ r ≡ patternAfter length offset ⌝ }
+{
+    if length <= offset {
+        return Expected::Kind;
+    }
+    Expected::Address(length - offset)
 }
 
 // What is expected behind an octet of a value.
@@ -448,7 +494,7 @@ pub fn plain_operand(ignored: u8, x: u64) -> u64
     x - cleared
 }
 
-// An octet of a prefix with only the bits still to come kept.
+// An octet of a pattern with only the bits still to come kept.
 pub fn plain_address(left: u8, x: u8) -> u8
     ensures { λ r. ⌜ r ≡ plainAddress left x ⌝ }
 {
@@ -467,6 +513,7 @@ pub fn cleared_octet(family: Family, expected: Expected, x: u8) -> u8
     match expected {
         Expected::Kind => x,
         Expected::Length => x,
+        Expected::Offset(_) => x,
         Expected::Address(left) => plain_address(left, x),
         Expected::Operator { kind, first } => {
             plain_operator(shape_of(family, kind).bitmask, first, x)

@@ -1,5 +1,5 @@
 -- One law for each return.
-use Rattle.rule.proofs.PlainLaws.{operand-small, cleared-kind, cleared-length, cleared-address, cleared-operator, cleared-operand}
+use Rattle.rule.proofs.PlainLaws.{operand-small, cleared-kind, cleared-length, cleared-offset, cleared-address, cleared-operator, cleared-operand}
 use borrow.Author.Needs.{needs}
 use Rattle.rule.proofs.cleared_octet.Statement.{statement}
 use Rattle.rule.proofs.cleared_octet.Tie as tie
@@ -9,6 +9,9 @@ enum-told c = search needs
 
 enum-told-2 : tie.Need-enum-told-2
 enum-told-2 c = search needs
+
+enum-told-3 : tie.Need-enum-told-3
+enum-told-3 c = search needs
 
 enum-known-expected : tie.Need-enum-known-expected
 enum-known-expected c = search needs
@@ -44,13 +47,16 @@ returns-2 : tie.Need-returns-2
 returns-2 c = search (cleared-length, needs)
 
 returns-3 : tie.Need-returns-3
-returns-3 c = search (cleared-address, needs)
+returns-3 c = search (cleared-offset, needs)
 
 returns-4 : tie.Need-returns-4
-returns-4 c = search (cleared-operator, needs)
+returns-4 c = search (cleared-address, needs)
 
 returns-5 : tie.Need-returns-5
-returns-5 c = search (cleared-operand, needs)
+returns-5 c = search (cleared-operator, needs)
+
+returns-6 : tie.Need-returns-6
+returns-6 c = search (cleared-operand, needs)
 
 pub cleared-octet-spec : {M : Type 1} → statement M
 cleared-octet-spec =
@@ -58,6 +64,7 @@ cleared-octet-spec =
     (tie.spec
     enum-told
     enum-told-2
+    enum-told-3
     enum-known-expected
     plain-address-requires
     enum-known-expected-2
@@ -71,4 +78,5 @@ cleared-octet-spec =
     returns-2
     returns-3
     returns-4
-    returns-5)
+    returns-5
+    returns-6)
