@@ -14,10 +14,10 @@ use borrow.Author.Tests.{ltb-true}
 use Rattle.octets.proofs.Facts.{Octets, allBelow, below, octet, octet-test}
 use Rattle.rule.specs.declared.Family.{Family}
 use Rattle.rule.specs.declared.Expected.{Expected}
-use Rattle.rule.specs.declared.Expected.the-variants.{Kind, Length, Offset, Address, Operator, Operand}
+use Rattle.rule.specs.declared.Expected.the-variants.{Head, Kind, Length, Offset, Address, Operator, Operand}
 use Rattle.rule.specs.Shape.{shapeOf}
 use Rattle.rule.specs.Operator.{endsList, sizeOf}
-use Rattle.rule.specs.Plain.{after, withoutReserved, plainOperator, plainOperand, plainAddress, clearedOctet, plainFrom, plain}
+use Rattle.rule.specs.Plain.{expectedAtStart, after, withoutReserved, plainOperator, plainOperand, plainAddress, clearedOctet, plainFrom, plain}
 use Rattle.rule.proofs.PlainLaws.{operand-small}
 
 -- an operator is cleared by one of four masks: what holds of each holds of the clearing
@@ -88,6 +88,7 @@ module _ (family : Family) where
   -- an octet that is cleared stays as it is
   pub cleared-again : (e : Expected) (x : ℕ) → x < 256 → clearedOctet family e (clearedOctet family e x) ≡ clearedOctet family e x
   unfolding clearedOctet
+  cleared-again (Head left) x h = refl
   cleared-again Kind x h = refl
   cleared-again Length x h = refl
   cleared-again (Offset length) x h = refl
@@ -98,6 +99,7 @@ module _ (family : Family) where
   -- what is expected next does not hang on ignored bits
   pub after-cleared : (e : Expected) (x : ℕ) → x < 256 → after family e (clearedOctet family e x) ≡ after family e x
   unfolding after clearedOctet
+  after-cleared (Head left) x h = refl
   after-cleared Kind x h = refl
   after-cleared Length x h = refl
   after-cleared (Offset length) x h = refl
@@ -115,11 +117,12 @@ module _ (family : Family) where
 
   pub plain-again : (v : List ℕ) → Octets v → plain family (plain family v) ≡ plain family v
   unfolding plain
-  plain-again v o = plain-from-again Kind v o
+  plain-again v o = plain-from-again (expectedAtStart family) v o
 
   -- an octet that is cleared is an octet
   pub cleared-small : (e : Expected) (x : ℕ) → x < 256 → clearedOctet family e x < 256
   unfolding clearedOctet plainAddress
+  cleared-small (Head left) x h = h
   cleared-small Kind x h = h
   cleared-small Length x h = h
   cleared-small (Offset length) x h = h
@@ -136,4 +139,4 @@ module _ (family : Family) where
 
   pub octets-plain : (v : List ℕ) → Octets v → Octets (plain family v)
   unfolding plain
-  octets-plain v o = octets-plain-from Kind v o
+  octets-plain v o = octets-plain-from (expectedAtStart family) v o

@@ -1,4 +1,4 @@
--- An accepted value is its components, one after the other, and what holds of each of them: its type is one of the family's, above
+-- An accepted value is its head and its components, one after the other, and what holds of each of them: its type is one of the family's, above
 -- the type before, and a prefix has the octets that its length asks for. By induction along the walk. Assumes nothing.
 use mathlib.Core.Path.{_≡_, refl, sym, ap, subst, _∙_}
 use mathlib.Core.Bool.{true}
@@ -19,7 +19,7 @@ use Rattle.rule.specs.declared.BodyEnd.the-variants.{At, Refused as Refu
 use Rattle.rule.specs.declared.Checked.the-variants.{Accepted}
 use Rattle.rule.specs.Shape.{shapeOf}
 use Rattle.rule.specs.Component.{leadOf, offsetAt, prefixEnd, bodyEnd}
-use Rattle.rule.specs.Value.{Component, spelled, between, componentsFrom, components, checkValue}
+use Rattle.rule.specs.Value.{Component, spelled, between, headOf, componentsFrom, components, checkValue}
 use Rattle.rule.proofs.ComponentLaws.{prefix-cases, lead-with, offset-with, offset-without}
 use Rattle.rule.proofs.ValueLaws.{Found, was-found, none-left, components-ind, accepted-walk}
 
@@ -43,10 +43,11 @@ module _ (family : Family) (v : List ℕ) where
       let within = f .within .0 in
       rw (h ok, between-then v (at + 1) next (omega arith), drop-cons v at 0 inside, f .is, add-one))
 
-  -- an accepted value is what its components spell
-  pub spelled-whole : checkValue family v ≡ Accepted → spelled (components family v) ≡ v
+  -- an accepted value is its head and what its components spell
+  pub spelled-whole : checkValue family v ≡ Accepted → headOf family v ++ spelled (components family v) ≡ v
   unfolding components
-  spelled-whole ok = spelled-from 0 0 (accepted-walk family v ok)
+  spelled-whole ok =
+      ap (λ (l : List ℕ). headOf family v ++ l) (spelled-from (family .head) 0 (accepted-walk family v ok)) ∙ take-append-drop (family .head) v
 
 -- types that rise strictly, all above `previous`
 abbrev pub Rising : ℕ → List Component → Type 0
@@ -58,7 +59,7 @@ module _ (family : Family) (v : List ℕ) where
   unfolding components
   types-rise =
       components-ind family v (λ at previous w. Rising previous (w .items)) (λ at previous e. tt) (λ at previous number place e. tt)
-      (λ at previous kind next w e h. (was-found family v at previous kind next e .rises, h)) 0 0
+      (λ at previous kind next w e h. (was-found family v at previous kind next e .rises, h)) (family .head) 0
 
   -- what holds of all that the cursor finds holds of each component
   pub each-found : (P : Component → Type 0)
@@ -67,7 +68,7 @@ module _ (family : Family) (v : List ℕ) where
   unfolding components
   each-found P holds =
       components-ind family v (λ at previous w. Each P (w .items)) (λ at previous e. tt) (λ at previous number place e. tt)
-      (λ at previous kind next w e h. (holds at previous kind next (was-found family v at previous kind next e), h)) 0 0
+      (λ at previous kind next w e h. (holds at previous kind next (was-found family v at previous kind next e), h)) (family .head) 0
 
 -- a prefix's body: its length is within the width and not below its offset, and it has just the octets that these ask for
 pub record PrefixBody (family : Family) (body : List ℕ) : Type 0 where

@@ -8,8 +8,7 @@ use lib.ListN.{length, getD, take, drop, set, length-set, take-append-drop, drop
 use lib.Seq.{drop-cons, drop-drop, take-suc-set, drop-set-lt, append-snoc}
 use Rattle.rule.specs.declared.Family.{Family}
 use Rattle.rule.specs.declared.Expected.{Expected}
-use Rattle.rule.specs.declared.Expected.the-variants.{Kind}
-use Rattle.rule.specs.Plain.{after, clearedOctet, plainFrom, plain}
+use Rattle.rule.specs.Plain.{expectedAtStart, after, clearedOctet, plainFrom, plain}
 
 -- the first i octets are written, and what is left to write follows from what is expected
 pub record Filling (family : Family) (v start work : List ℕ) (e : Expected) (i : ℕ) : Type 0 where
@@ -18,9 +17,9 @@ pub record Filling (family : Family) (v start work : List ℕ) (e : Expected) (i
   pub front : take i work ++ plainFrom family e (drop i v) ≡ plain family v
   pub rest : drop i work ≡ drop i start
 
-pub filling-starts : (family : Family) (v start : List ℕ) → Filling family v start start Kind 0
+pub filling-starts : (family : Family) (v start : List ℕ) (e : Expected) → e ≡ expectedAtStart family → Filling family v start start e 0
 unfolding plain
-filling-starts family v start = record { within = omega arith; long = refl; front = refl; rest = refl }
+filling-starts family v start e is = record { within = omega arith; long = refl; front = rw is; rest = refl }
 
 module _ (family : Family) (v start work : List ℕ) (e : Expected) (i : ℕ) (f : Filling family v start work e i) where
   pub filling-on : (x : ℕ) (next : Expected) → i < length v → length v ≤ length start → x ≡ clearedOctet family e (getD v i 0) → next ≡ after family e (getD v i 0)

@@ -8,14 +8,14 @@ use native.Mathlib.Nat.{mul-assoc, mod-eq-of-lt}
 use lib.Bits.{bitAnd, and-zero-r}
 use lib.ListN.{length, getD}
 use lib.Pow.{pow-add, split}
-use borrow.Author.Tests.{le-leb, lt-leb}
+use borrow.Author.Tests.{eq-eqb, ne-eqb, le-leb, lt-leb}
 use Rattle.rule.specs.declared.Family.{Family}
 use Rattle.rule.specs.declared.Shape.{Shape}
 use Rattle.rule.specs.declared.Expected.{Expected}
-use Rattle.rule.specs.declared.Expected.the-variants.{Kind, Length, Offset, Address, Operator, Operand}
+use Rattle.rule.specs.declared.Expected.the-variants.{Head, Kind, Length, Offset, Address, Operator, Operand}
 use Rattle.rule.specs.Shape.{shapeOf}
 use Rattle.rule.specs.Operator.{endsList, sizeOf}
-use Rattle.rule.specs.Plain.{bodyOf, patternAfter, operandAfter, after, plainOperator, plainOperand, plainAddress, clearedOctet, plainFrom, plain}
+use Rattle.rule.specs.Plain.{expectedAtStart, bodyOf, patternAfter, operandAfter, after, plainOperator, plainOperand, plainAddress, clearedOctet, plainFrom, plain}
 
 -- what the shifts of `plain_address` leave
 pub shifted : (x k : ℕ) → x < 256 → x / 2 ^ k * 2 ^ k % 2 ^ 32 ≡ x / 2 ^ k * 2 ^ k
@@ -53,7 +53,7 @@ module _ (family : Family) where
 
   pub length-plain : (v : List ℕ) → length (plain family v) ≡ length v
   unfolding plain
-  length-plain v = length-plain-from Kind v
+  length-plain v = length-plain-from (expectedAtStart family) v
 
   -- a prefix's length octet is kept
   pub length-kept : (body : List ℕ) → getD (plainFrom family Length body) 0 0 ≡ getD body 0 0
@@ -61,8 +61,26 @@ module _ (family : Family) where
   length-kept [] = refl
   length-kept (x ∷ r) = refl
 
+-- what is expected where a value begins
+module _ (family : Family) where
+  pub starts-with-kind : family .head ≡ 0 → Kind ≡ expectedAtStart family
+  unfolding expectedAtStart
+  starts-with-kind h = rw (eq-eqb (family .head) 0 h)
+
+  pub starts-with-head : (family .head ≡ 0 → ⊥) → Head (family .head) ≡ expectedAtStart family
+  unfolding expectedAtStart
+  starts-with-head h = rw (ne-eqb (family .head) 0 h)
+
 -- how `expected_after` comes to each of its answers
 module _ (family : Family) (e : Expected) (x : ℕ) where
+  pub after-head-last : (left : ℕ) → e ≡ Head left → left ≤ 1 → Kind ≡ after family e x
+  unfolding after
+  after-head-last left h k = rw (h, le-leb left 1 k)
+
+  pub after-head : (left : ℕ) → e ≡ Head left → 1 < left → Head (left - 1) ≡ after family e x
+  unfolding after
+  after-head left h k = rw (h, lt-leb left 1 k)
+
   pub after-kind : (r : Expected) → e ≡ Kind → r ≡ bodyOf family x → r ≡ after family e x
   unfolding after
   after-kind r h k = rw h k
@@ -97,6 +115,10 @@ module _ (family : Family) (e : Expected) (x : ℕ) where
   after-operand kind left last r h k = rw h k
 
   -- how `cleared_octet` comes to each of its answers
+  pub cleared-head : (left : ℕ) → e ≡ Head left → x ≡ clearedOctet family e x
+  unfolding clearedOctet
+  cleared-head left h = rw h
+
   pub cleared-kind : e ≡ Kind → x ≡ clearedOctet family e x
   unfolding clearedOctet
   cleared-kind h = rw h

@@ -10,7 +10,7 @@ use native.Mathlib.Decide.{decLt}
 use native.Mathlib.Numerals.{add-one}
 use native.Mathlib.Nat.{add-zero, zero-add}
 use lib.Dec.{leb, ltb, eqb}
-use lib.ListN.{length, getD, take, drop, List·getD-eq-default}
+use lib.ListN.{length, getD, take, drop, drop-of-length-le, List·getD-eq-default}
 use lib.Seq.{drop-cons, drop-drop, getD-drop}
 use borrow.Author.Tests.{lt-ltb, leb-false, leb-true, ltb-true, ltb-false, eqb-true, eqb-false}
 use Rattle.octets.specs.Number.{numberAt}
@@ -21,7 +21,7 @@ use Rattle.octets.proofs.NumberLaws.{number-alike, one-octet}
 use Rattle.rule.specs.declared.Family.{Family}
 use Rattle.rule.specs.declared.Shape.{Shape}
 use Rattle.rule.specs.declared.Expected.{Expected}
-use Rattle.rule.specs.declared.Expected.the-variants.{Kind, Length, Offset, Address, Operator, Operand}
+use Rattle.rule.specs.declared.Expected.the-variants.{Head, Kind, Length, Offset, Address, Operator, Operand}
 use Rattle.rule.specs.declared.NextPair.{NextPair}
 use Rattle.rule.specs.declared.NextPair.the-variants.{More, Last, Refused as RefusedPair}
 use Rattle.rule.specs.declared.BodyEnd.{BodyEnd}
@@ -32,14 +32,14 @@ use Rattle.rule.specs.declared.Checked.{Checked}
 use Rattle.rule.specs.Shape.{shapeOf}
 use Rattle.rule.specs.Operator.{endsList, sizeOf}
 use Rattle.rule.specs.Component.{pairAt, Pair, pairOf, pairsFrom, leadOf, offsetAt, prefixEnd, bodyEnd, found, componentAt}
-use Rattle.rule.specs.Value.{Component, between, componentsFrom, components, checkValue}
-use Rattle.rule.specs.Plain.{bodyOf, patternAfter, operandAfter, after, plainOperator, plainOperand, clearedOctet, plainFrom, plain}
+use Rattle.rule.specs.Value.{Component, between, atStart, componentsFrom, components, checkValue}
+use Rattle.rule.specs.Plain.{expectedAtStart, bodyOf, patternAfter, operandAfter, after, plainOperator, plainOperand, clearedOctet, plainFrom, plain}
 use Rattle.rule.specs.PlainComponent.{plainPair, plainPairs, plainComponent}
 use Rattle.rule.proofs.ShapeLaws.{one-octet-or-whole}
 use Rattle.rule.proofs.OperatorLaws.{size-positive}
 use Rattle.rule.proofs.ComponentLaws.{pair-cases, lead-with, lead-without, offset-with, offset-without, prefix-cases, prefix-missing, component-cases, pairs-more, pairs-last, pairs-refused, pairs-ind}
 use Rattle.rule.proofs.ValueLaws.{was-found, components-more, components-none, components-refused, components-ind}
-use Rattle.rule.proofs.PlainLaws.{length-plain-from, whole-operand, after-length-offset, after-length, after-offset}
+use Rattle.rule.proofs.PlainLaws.{length-plain-from, length-plain, starts-with-kind, starts-with-head, whole-operand, after-length-offset, after-length, after-offset}
 use Rattle.rule.proofs.ClearedLaws.{size-kept, end-kept}
 
 -- the octet at a place is as expected, where the first is as `start` says: from there on the spelling is that of what is left
@@ -353,13 +353,61 @@ module _ (family : Family) (start : Expected) (v : List ℕ) (o : Octets v) wher
           = ap (take (next - (at + 1))) expects ∙ take-plain family (bodyOf family kind) (next - (at + 1)) (drop (at + 1) v) in
           λ i. record { kind = kind; body = body i }
 
+module _ (family : Family) (start : Expected) (v : List ℕ) where
+  -- behind the octets of the head stands a type
+  head-passed : (n i : ℕ) → Expects family start v i (Head n) → 1 ≤ n → i + n ≤ length v → Expects family start v (i + n) Kind
+  unfolding after
+  head-passed zero i x h k = absurd (omega arith)
+  head-passed (suc n) i x h k = go (head-passed n (i + 1)) (leb (suc n) 1) refl (goes-on family start v i (Head (suc n)) x (omega arith))
+    where
+      go : (Expects family start v (i + 1) (Head n) → 1 ≤ n → i + 1 + n ≤ length v → Expects family start v (i + 1 + n) Kind) → (t : Bool) → leb (suc n) 1 ≡ t
+          → Expects family start v (i + 1) (cond (leb (suc n) 1) Kind (Head (suc n - 1))) → Expects family start v (i + suc n) Kind
+      go ih true t y =
+          let z = leb-true (suc n) 1 t in
+          let e : i + 1 ≡ i + suc n = omega arith in
+          rw (← e) (rw t at y)
+      go ih false t y =
+          let z = leb-false (suc n) 1 t in
+          let m : suc n - 1 ≡ n = omega arith in
+          let e : i + 1 + n ≡ i + suc n = omega arith in
+          rw (← e) (ih (rw (t, m) at y) (omega arith) (omega arith))
+
+  -- past the value's end nothing is left to expect
+  past-end : (i : ℕ) (e : Expected) → length v ≤ i → Expects family start v i e
+  unfolding Expects plainFrom
+  past-end i e h =
+      let l = length-plain-from family start v in
+      drop-of-length-le (plainFrom family start v) {i = i} (omega arith) ∙ rw (drop-of-length-le v h)
+
+module _ (family : Family) (v : List ℕ) where
+  -- so that a type stands behind the head
+  head-expected : Expects family (expectedAtStart family) v (family .head) Kind
+  head-expected =
+      let start = expectedAtStart family in
+      elim (decLt 0 (family .head)) [
+        | yes h ↦
+            let first = subst (λ (e : Expected). Expects family start v 0 e) (sym (starts-with-head family (λ z. omega arith))) (starts family start v) in
+            elim (decLt (length v) (family .head)) [
+              | yes l ↦ past-end family start v (family .head) Kind (omega arith)
+              | no l ↦ subst (λ n. Expects family start v n Kind) (zero-add (family .head)) (head-passed family start v (family .head) 0 first h (omega arith))
+            ]
+        | no h ↦
+            let none : family .head ≡ 0 = omega arith in
+            let first = subst (λ (e : Expected). Expects family start v 0 e) (sym (starts-with-kind family none)) (starts family start v) in
+            subst (λ n. Expects family start v n Kind) (sym none) first
+      ]
+
 module _ (family : Family) (v : List ℕ) (o : Octets v) where
+  same-walk : componentsFrom family (plain family v) (atStart family) ≡ plainWalk family (componentsFrom family v (atStart family))
+  unfolding WalkSame plain
+  same-walk = walk-same family (expectedAtStart family) v o (family .head) 0 (head-expected family v)
+
   -- the components of the plain spelling are the components in the plain spelling
   pub components-plain : components family (plain family v) ≡ map (plainComponent family) (components family v)
-  unfolding components WalkSame plain
-  components-plain = ap (λ (w : Walk Component Checked). w .items) (walk-same family Kind v o 0 0 (starts family Kind v))
+  unfolding components
+  components-plain = ap (λ (w : Walk Component Checked). w .items) same-walk
 
   -- a value is accepted exactly when its plain spelling is, and refused with the same number and place
   pub check-plain : checkValue family (plain family v) ≡ checkValue family v
-  unfolding checkValue WalkSame plain
-  check-plain = rw (length-plain-from family Kind v, walk-same family Kind v o 0 0 (starts family Kind v))
+  unfolding checkValue
+  check-plain = rw (length-plain family v, same-walk)

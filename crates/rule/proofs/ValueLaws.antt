@@ -1,11 +1,12 @@
 -- The components of a value, from a place on: what the cursor found there, one more and the rest, the end, or a refusal. Assumes nothing.
 use mathlib.Core.Path.{_≡_, refl, sym, ap, subst, _∙_}
+use mathlib.Core.Bool.{Bool, true, false, _||_}
 use mathlib.Core.List.{List, [], _∷_}
 use Prim.Native.Nat.{ℕ, _+_, _-_, _<_, _≤_}
 use native.Mathlib.Omega.{arith}
 use lib.Dec.{ltb, eqb}
 use lib.ListN.{length, getD}
-use borrow.Author.Tests.{ltb-false, lt-ltb, le-ltb, eq-eqb, ne-eqb}
+use borrow.Author.Tests.{ltb-false, lt-ltb, le-ltb, eqb-false}
 use Rattle.octets.specs.Walk.{Step, more, last, stop, Walk, before}
 use Rattle.octets.proofs.Cases.{by-test, apart}
 use Rattle.octets.proofs.WalkLaws.{walk-stop, walk-more, walk-ind}
@@ -17,7 +18,7 @@ use Rattle.rule.specs.declared.Next.the-variants.{Nothing, Another, Refu
 use Rattle.rule.specs.declared.Checked.{Checked}
 use Rattle.rule.specs.declared.Checked.the-variants.{Accepted, Refused}
 use Rattle.rule.specs.Component.{bodyEnd, found, componentAt}
-use Rattle.rule.specs.Value.{Component, between, Progress, componentStep, componentsFrom, checkValue}
+use Rattle.rule.specs.Value.{mostValue, Component, between, Progress, componentStep, componentsFrom, checkValue}
 use Rattle.rule.proofs.ComponentLaws.{component-cases, Within, Met, EndWithin, body-within}
 use Rattle.rule.proofs.Refusal.{Refusal, placeless}
 
@@ -161,30 +162,65 @@ module _ (family : Family) (v : List ℕ) (at previous : ℕ) (next : Next) (is 
 
 -- the checks before the walk
 module _ (family : Family) (v : List ℕ) where
-  pub check-long : 4095 < length v → Refused 1 0 ≡ checkValue family v
+  pub check-long : mostValue < length v → Refused 1 0 ≡ checkValue family v
   unfolding checkValue
   check-long h = rw (lt-ltb _ _ h)
 
-  pub check-empty : length v ≤ 4095 → length v ≡ 0 → Refused 2 0 ≡ checkValue family v
-  unfolding checkValue
-  check-empty h e = rw (le-ltb _ _ h, eq-eqb _ _ e)
+  -- no octet, or none behind the head
+  abbrev none : Bool
+  none = eqb (length v) 0 || eqb (length v) (family .head)
 
-  pub check-walk : length v ≤ 4095 → (length v ≡ 0 → ⊥) → checkValue family v ≡ accepts family v 0 0
+  pub check-empty : length v ≤ mostValue → none ≡ true → Refused 2 0 ≡ checkValue family v
   unfolding checkValue
-  check-walk h e = rw (le-ltb _ _ h, ne-eqb _ _ e)
+  check-empty h e = rw (le-ltb _ _ h, e)
 
--- an accepted value has 1 to 4,095 octets, and its walk is accepted
+  pub check-cut : length v ≤ mostValue → none ≡ false → length v < family .head → Refused 6 (length v) ≡ checkValue family v
+  unfolding checkValue
+  check-cut h e k = rw (le-ltb _ _ h, e, lt-ltb _ _ k)
+
+  pub check-walk : length v ≤ mostValue → none ≡ false → family .head ≤ length v → checkValue family v ≡ accepts family v (family .head) 0
+  unfolding checkValue
+  check-walk h e k = rw (le-ltb _ _ h, e, le-ltb _ _ k)
+
+  -- what holds of each of these refusals, and of the walk of a value that is longer than the head, holds of the check
+  pub check-cases : (P : Checked → Type 0) → P (Refused 1 0) → P (Refused 2 0) → (length v ≤ mostValue → P (Refused 6 (length v)))
+      → (length v ≤ mostValue → family .head < length v → P (accepts family v (family .head) 0)) → P (checkValue family v)
+  unfolding checkValue
+  check-cases P long empty cut walked =
+      by-test (ltb mostValue (length v)) (λ t. rw t long)
+      (λ t.
+      let small = ltb-false mostValue (length v) t in
+      by-test (eqb (length v) 0) (λ u. rw (t, u) empty)
+      (λ u. by-test (eqb (length v) (family .head)) (λ w. rw (t, u, w) empty)
+      (λ w. by-test (ltb (length v) (family .head)) (λ x. rw (t, u, w, x) (cut small))
+      (λ x.
+      let other = eqb-false (length v) (family .head) w in
+      let least = ltb-false (length v) (family .head) x in
+      rw (t, u, w, x) (walked small (omega arith))))))
+
+-- an accepted value has at most 4,095 octets and more than its head, and its walk is accepted
+pub record Accepts (family : Family) (v : List ℕ) : Type 0 where
+  pub small : length v ≤ mostValue
+  pub head : family .head < length v
+  pub walk : accepts family v (family .head) 0 ≡ Accepted
+
 module _ (family : Family) (v : List ℕ) (ok : checkValue family v ≡ Accepted) where
-  pub accepted-small : length v ≤ 4095
-  unfolding checkValue
-  accepted-small = by-test (ltb 4095 (length v)) (λ t. let z : Accepted ≡ Refused 1 0 = sym ok ∙ rw t in apart (cc)) (λ t. ltb-false _ _ t)
+  accepted : Accepts family v
+  accepted =
+      check-cases family v (λ c. c ≡ Accepted → Accepts family v) (λ e. apart (cc)) (λ e. apart (cc)) (λ h e. apart (cc))
+      (λ h k e. record { small = h; head = k; walk = e }) ok
+
+  pub accepted-small : length v ≤ mostValue
+  accepted-small = accepted .small
+
+  pub accepted-head : family .head < length v
+  accepted-head = accepted .head
 
   pub accepted-some : length v ≡ 0 → ⊥
-  unfolding checkValue
-  accepted-some e = let z : Accepted ≡ Refused 2 0 = sym ok ∙ rw (le-ltb _ _ accepted-small, eq-eqb _ _ e) in apart (cc)
+  accepted-some e = let h = accepted-head in omega arith
 
-  pub accepted-walk : accepts family v 0 0 ≡ Accepted
-  accepted-walk = sym (check-walk family v accepted-small accepted-some) ∙ ok
+  pub accepted-walk : accepts family v (family .head) 0 ≡ Accepted
+  accepted-walk = accepted .walk
 
 -- a value that is not accepted is refused with a number of 01's table, at a place in it
 abbrev pub Checks : Checked → Type 0
@@ -192,15 +228,12 @@ Checks Accepted = Unit {0}
 Checks (Refused number place) = Refusal number place
 
 pub value-checks : (family : Family) (v : List ℕ) → Checks (checkValue family v)
-unfolding checkValue
 value-checks family v =
-    by-test (ltb 4095 (length v)) (λ t. rw t (placeless 1 (omega arith) (omega arith)))
-    (λ t. by-test (eqb (length v) 0) (λ u. rw (t, u) (placeless 2 (omega arith) (omega arith))) (λ u. rw (t, u) (walked (ltb-false _ _ t))))
-  where
-    walked : length v ≤ 4095 → Checks (accepts family v 0 0)
-    walked h =
-        components-ind family v (λ at previous w. Checks (w .ending)) (λ at previous e. tt)
-        (λ at previous number place e.
-        let m = was-refused family v at previous number place e in
-        record { given = omega arith; listed = omega arith; near = omega arith })
-        (λ at previous kind next w e rest. rest) 0 0
+    check-cases family v Checks (placeless 1 (omega arith) (omega arith)) (placeless 2 (omega arith) (omega arith))
+    (λ h. record { given = omega arith; listed = omega arith; near = h })
+    (λ h k.
+    components-ind family v (λ at previous w. Checks (w .ending)) (λ at previous e. tt)
+    (λ at previous number place e.
+    let m = was-refused family v at previous number place e in
+    record { given = omega arith; listed = omega arith; near = omega arith })
+    (λ at previous kind next w e rest. rest) (family .head) 0)

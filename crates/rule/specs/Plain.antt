@@ -1,16 +1,20 @@
 -- 01, "Plain spelling": bits that are to be ignored are cleared, octet by octet, and the length never changes. What the next octet
--- is says which of its bits count: a type octet, a prefix's length octet, its offset octet, an octet of its pattern, an operator, or an octet of
+-- is says which of its bits count: an octet before the first component, a type octet, a prefix's length octet, its offset octet, an octet of its pattern, an operator, or an octet of
 -- a pair's value.
 use Prim.Native.Nat.{ℕ, _-_, _*_, _/_, _^_}
 use mathlib.Core.Bool.{Bool, true, false, cond}
 use mathlib.Core.List.{List, [], _∷_}
 use lib.Bits.{bitAnd}
-use lib.Dec.{leb, ltb}
+use lib.Dec.{leb, ltb, eqb}
 use Rattle.rule.specs.declared.Family.{Family}
 use Rattle.rule.specs.declared.Expected.{Expected}
-use Rattle.rule.specs.declared.Expected.the-variants.{Kind, Length, Offset, Address, Operator, Operand}
+use Rattle.rule.specs.declared.Expected.the-variants.{Head, Kind, Length, Offset, Address, Operator, Operand}
 use Rattle.rule.specs.Shape.{shapeOf}
 use Rattle.rule.specs.Operator.{endsList, sizeOf}
+
+-- What is expected where a value begins: the octets before the first component, or a type where the family has none.
+unfoldable pub expectedAtStart : Family → Expected
+expectedAtStart family = cond (eqb (family .head) 0) Kind (Head (family .head))
 
 -- What is expected behind a type octet: a prefix's length, or the first operator of a list.
 unfoldable pub bodyOf : Family → ℕ → Expected
@@ -24,10 +28,11 @@ patternAfter length offset = cond (leb length offset) Kind (Address (length - of
 unfoldable pub operandAfter : ℕ → ℕ → Bool → Expected
 operandAfter kind left last = cond (ltb 1 left) (Operand kind (left - 1) last) (cond last Kind (Operator kind false))
 
--- What is expected after the octet x, where x was as expected: `Offset length` is the offset behind that length, `Address left` has `left`
+-- What is expected after the octet x, where x was as expected: `Head left` has `left` octets before the first component to come, `Offset length` is the offset behind that length, `Address left` has `left`
 -- bits of the pattern to come, `Operator kind first` is the list's first operator or a later one, and `Operand kind left last` has `left`
 -- octets of a pair's value to come.
 unfoldable pub after : Family → Expected → ℕ → Expected
+after family (Head left) x = cond (leb left 1) Kind (Head (left - 1))
 after family Kind x = bodyOf family x
 after family Length x = cond (family .offsets) (Offset x) (patternAfter x 0)
 after family (Offset length) x = patternAfter length x
@@ -56,6 +61,7 @@ plainAddress left x = x / 2 ^ (8 - left) * 2 ^ (8 - left)
 
 -- The octet x, which is as expected, with the bits that are to be ignored cleared.
 unfoldable pub clearedOctet : Family → Expected → ℕ → ℕ
+clearedOctet family (Head left) x = x
 clearedOctet family Kind x = x
 clearedOctet family Length x = x
 clearedOctet family (Offset length) x = x
@@ -70,4 +76,4 @@ plainFrom family e (x ∷ xs) = clearedOctet family e x ∷ plainFrom family (af
 
 -- The plain spelling of a value.
 unfoldable pub plain : Family → List ℕ → List ℕ
-plain family v = plainFrom family Kind v
+plain family v = plainFrom family (expectedAtStart family) v

@@ -1,6 +1,7 @@
--- A value is one or more components of strictly rising types (RFC 8955 section 4.2). Reading goes left to right.
+-- A value is one or more components of strictly rising types (RFC 8955 section 4.2), behind the octets that a family puts before them, its
+-- head. Reading goes left to right, and places count from the value's first octet.
 use Prim.Native.Nat.{ℕ, _+_, _-_}
-use mathlib.Core.Bool.{cond}
+use mathlib.Core.Bool.{cond, _||_}
 use mathlib.Core.List.{List, [], _∷_, _++_}
 use lib.Dec.{ltb, eqb}
 use lib.ListN.{length, take, drop}
@@ -11,6 +12,10 @@ use Rattle.rule.specs.declared.Next.the-variants.{Nothing, Another, Refu
 use Rattle.rule.specs.declared.Checked.{Checked}
 use Rattle.rule.specs.declared.Checked.the-variants.{Accepted, Refused}
 use Rattle.rule.specs.Component.{componentAt}
+
+-- The octets a value has at most.
+abbrev pub mostValue : ℕ
+mostValue = 4095
 
 -- A component, as the RFC has it: its type and its body.
 pub record Component : Type 0 where
@@ -35,9 +40,13 @@ pub record Progress : Type 0 where
   pub at : ℕ
   pub previous : ℕ
 
--- A reader that has read nothing.
-abbrev pub atStart : Progress
-atStart = record { at = 0; previous = 0 }
+-- The octets before the first component.
+abbrev pub headOf : Family → List ℕ → List ℕ
+headOf family v = take (family .head) v
+
+-- A reader that has read these, and no component.
+abbrev pub atStart : Family → Progress
+atStart family = record { at = family .head; previous = 0 }
 
 -- A step along a value.
 abbrev pub componentStep : List ℕ → ℕ → Next → Step Progress Component Checked
@@ -52,11 +61,13 @@ componentsFrom family v p =
 
 -- The components of a value, in the order in which they stand.
 unfoldable pub components : Family → List ℕ → List Component
-components family v = componentsFrom family v atStart .items
+components family v = componentsFrom family v (atStart family) .items
 
--- Refusals 1 to 7 of a value: over 4,095 octets is 1, no octet is 2, then 3 to 7 as met.
+-- Refusals 1 to 7 of a value: over 4,095 octets is 1, no octet, or exactly those of the head, 2, fewer than those of the head 6 at the
+-- value's end, then 3 to 7 as met.
 unfoldable pub checkValue : Family → List ℕ → Checked
 checkValue family v =
-    cond (ltb 4095 (length v)) (Refused 1 0)
-    (cond (eqb (length v) 0) (Refused 2 0)
-    (componentsFrom family v atStart .ending))
+    cond (ltb mostValue (length v)) (Refused 1 0)
+    (cond (eqb (length v) 0 || eqb (length v) (family .head)) (Refused 2 0)
+    (cond (ltb (length v) (family .head)) (Refused 6 (length v))
+    (componentsFrom family v (atStart family) .ending)))

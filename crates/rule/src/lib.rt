@@ -13,7 +13,7 @@ ghost use Rattle.rule.specs.Operator.{endsList, sizeOf};
 ghost use Rattle.rule.specs.Component.{pairAt, pairsFrom, leadOf, offsetAt, prefixEnd, bodyEnd, componentAt};
 ghost use Rattle.rule.specs.Reader.{readerAt, nextOf};
 ghost use Rattle.rule.specs.Value.{checkValue};
-ghost use Rattle.rule.specs.Plain.{bodyOf, patternAfter, after, operandAfter, withoutReserved, plainOperator, plainOperand, plainAddress, clearedOctet, plain};
+ghost use Rattle.rule.specs.Plain.{expectedAtStart, bodyOf, patternAfter, after, operandAfter, withoutReserved, plainOperator, plainOperand, plainAddress, clearedOctet, plain};
 ghost use Rattle.rule.specs.Reading.{fieldSize, fieldLength, firstRule, oneRule};
 ghost use Rattle.rule.specs.Writing.{lengthField, intoRoom, filled, writing, afterWriting};
 ghost use Rattle.octets.specs.Store.{stored};
@@ -79,10 +79,11 @@ pub struct Reader<'a> {
     pub previous: u8,
 }
 
-// What the next octet of a value is: a type, a prefix's length, its offset behind that length, an octet of its pattern with the bits still
+// What the next octet of a value is: one before the first component with the octets of these still to come, a type, a prefix's length, its offset behind that length, an octet of its pattern with the bits still
 // to come, an operator (a list's first or a later one), or an octet of a value with the octets still to come (of a list's last pair or
 // an earlier one).
 pub enum Expected {
+    Head(usize),
     Kind,
     Length,
     Offset(u8),
@@ -372,13 +373,20 @@ pub fn check_value(family: Family, value: &[u8]) -> Checked
             place: 0,
         };
     }
-    if value.len() == 0 {
+    let end = value.len();
+    if (end == 0) | (end == family.head) {
         return Checked::Refused {
             number: 2,
             place: 0,
         };
     }
-    let mut at = 0;
+    if end < family.head {
+        return Checked::Refused {
+            number: 6,
+            place: end,
+        };
+    }
+    let mut at = family.head;
     let mut previous = 0;
     loop {
         let next = next_component(family, value, at, previous);
@@ -399,6 +407,16 @@ pub fn check_value(family: Family, value: &[u8]) -> Checked
 
 // ---- Plain spelling ----
 
+// What is expected where a value begins.
+pub fn expected_at_start(family: Family) -> Expected
+    ensures { λ r. ⌜ r ≡ expectedAtStart family ⌝ }
+{
+    if family.head == 0 {
+        return Expected::Kind;
+    }
+    Expected::Head(family.head)
+}
+
 // What is expected behind a type octet.
 pub fn body_of(family: Family, kind: u8) -> Expected
     ensures { λ r. ⌜ r ≡ bodyOf family kind ⌝ }
@@ -415,6 +433,12 @@ pub fn expected_after(family: Family, expected: Expected, x: u8) -> Expected
     ensures { λ r. ⌜ r ≡ after family expected x ⌝ }
 {
     match expected {
+        Expected::Head(left) => {
+            if left <= 1 {
+                return Expected::Kind;
+            }
+            Expected::Head(left - 1)
+        }
         Expected::Kind => body_of(family, x),
         Expected::Length => {
             if family.offsets {
@@ -511,6 +535,7 @@ pub fn cleared_octet(family: Family, expected: Expected, x: u8) -> u8
     ensures { λ r. ⌜ r ≡ clearedOctet family expected x ⌝ }
 {
     match expected {
+        Expected::Head(_) => x,
         Expected::Kind => x,
         Expected::Length => x,
         Expected::Offset(_) => x,
@@ -531,7 +556,7 @@ pub fn fill_plain(family: Family, value: &[u8], work: &mut [u8])
     requires { ⌜ length (now value) ≤ length (now work) ⌝ }
     ensures { λ _. ⌜ now (work .exit) ≡ plain family (now (value .entry)) ++ drop (length (now (value .entry))) (now (work .entry)) ⌝ }
 {
-    let mut expected = Expected::Kind;
+    let mut expected = expected_at_start(family);
     let mut i = 0;
     while i < value.len() {
         let x = value[i];

@@ -5,21 +5,24 @@ use mathlib.Core.Path.{_≡_, sym, _∙_}
 use native.Mathlib.Omega.{arith}
 use lib.ListN.{length}
 use Rattle.rule.specs.Value.{checkValue}
-use Rattle.rule.proofs.ValueLaws.{was-found, accepts, check-on, check-accepted, check-refused, check-long, check-empty, check-walk}
+use Rattle.rule.proofs.ValueLaws.{was-found, accepts, check-on, check-accepted, check-refused, check-long, check-empty, check-cut, check-walk}
 use Rattle.rule.proofs.check_value.Statement.{statement}
 use Rattle.rule.proofs.check_value.Tie as tie
 
 abbrev Inv-loop : tie.InvT-loop
-Inv-loop family value at₀ previous₀ at previous = checkValue family value ≡ accepts family value at previous
+Inv-loop family value end at₀ previous₀ at previous = checkValue family value ≡ accepts family value at previous
 
 abbrev μ-loop : tie.MeasureT-loop
-μ-loop family value at₀ previous₀ at previous = length value - at
+μ-loop family value end at₀ previous₀ at previous = length value - at
 
 returns : tie.Need-returns Inv-loop μ-loop
 returns c = search (check-long, needs)
 
 returns-2 : tie.Need-returns-2 Inv-loop μ-loop
 returns-2 c = search (check-empty, needs)
+
+returns-3 : tie.Need-returns-3 Inv-loop μ-loop
+returns-3 c = search (check-cut, needs)
 
 loop-holds : tie.Need-loop-holds Inv-loop μ-loop
 loop-holds c = search (check-walk, needs)
@@ -30,8 +33,8 @@ next-component-requires c κs = search needs
 enum-told : tie.Need-enum-told Inv-loop μ-loop
 enum-told c = search needs
 
-returns-3 : tie.Need-returns-3 Inv-loop μ-loop
-returns-3 c = search (check-accepted, needs)
+returns-4 : tie.Need-returns-4 Inv-loop μ-loop
+returns-4 c = search (check-accepted, needs)
 
 enum-known-next : tie.Need-enum-known-next Inv-loop μ-loop
 enum-known-next c = search needs
@@ -47,8 +50,8 @@ loop-again c = search (check-on, needs)
 enum-known-next-2 : tie.Need-enum-known-next-2 Inv-loop μ-loop
 enum-known-next-2 c = search needs
 
-returns-4 : tie.Need-returns-4 Inv-loop μ-loop
-returns-4 c = search (check-refused, needs)
+returns-5 : tie.Need-returns-5 Inv-loop μ-loop
+returns-5 c = search (check-refused, needs)
 
 pub check-value-spec : {M : Type 1} → statement M
 check-value-spec =
@@ -58,12 +61,13 @@ check-value-spec =
     μ-loop
     returns
     returns-2
+    returns-3
     loop-holds
     next-component-requires
     enum-told
-    returns-3
+    returns-4
     enum-known-next
     loop-less
     loop-again
     enum-known-next-2
-    returns-4)
+    returns-5)

@@ -12,8 +12,11 @@ Inv-loop family value work₀ expected₀ i₀ work expected i = Filling family 
 abbrev μ-loop : tie.MeasureT-loop
 μ-loop family value work₀ expected₀ i₀ work expected i = length value - i
 
+expected-at-start-requires : tie.Need-expected-at-start-requires Inv-loop μ-loop
+expected-at-start-requires c κs = search needs
+
 loop-holds : tie.Need-loop-holds Inv-loop μ-loop
-loop-holds c = filling-starts _ _ _
+loop-holds c = search (filling-starts, needs)
 
 shared-slice-read-x : tie.Need-shared-slice-read-x Inv-loop μ-loop
 shared-slice-read-x c = search needs
@@ -48,6 +51,7 @@ fill-plain-spec =
     (tie.spec
     Inv-loop
     μ-loop
+    expected-at-start-requires
     loop-holds
     shared-slice-read-x
     cleared-octet-requires
