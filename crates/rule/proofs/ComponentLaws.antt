@@ -7,7 +7,7 @@ use native.Mathlib.Omega.{arith}
 use lib.Dec.{leb, ltb, eqb}
 use lib.ListN.{length, getD}
 use borrow.Author.Tests.{le-leb, lt-leb, lt-ltb, le-ltb, leb-true, leb-false, ltb-false, eqb-false}
-use Rattle.octets.specs.Walk.{more, last, stop, Walk, before}
+use Rattle.octets.specs.Walk.{Step, more, last, stop, Walk, before}
 use Rattle.octets.proofs.Cases.{by-test, apart}
 use Rattle.octets.proofs.WalkLaws.{walk-stop, walk-last, walk-more, walk-ind}
 use Rattle.rule.specs.declared.Family.{Family}
@@ -20,7 +20,7 @@ use Rattle.rule.specs.declared.Next.{Next}
 use Rattle.rule.specs.declared.Next.the-variants.{Nothing, Another, Refused}
 use Rattle.rule.specs.Shape.{shapeOf}
 use Rattle.rule.specs.Operator.{endsList, sizeOf}
-use Rattle.rule.specs.Component.{pairAt, Pair, pairOf, pairStep, pairsFrom, leadOf, offsetAt, prefixEnd, bodyEnd, found, componentAt}
+use Rattle.rule.specs.Component.{pairAt, Pair, pairOf, pairStep, through, pairsFrom, leadOf, offsetAt, prefixEnd, bodyEnd, found, componentAt}
 
 -- how `pair_at` comes to each of its answers
 module _ (largest : ℕ) (v : List ℕ) (at : ℕ) where
@@ -227,6 +227,18 @@ module _ (largest : ℕ) (v : List ℕ) where
           rw (← u) (goes i next w f (rw s h))
       mores i j a w (Last next) f q h = apart (cc)
       mores i j a w (RefusedPair number place) f q h = apart (cc)
+
+  -- the refusal for too few steps is no matter: any other gives the same walk
+  pub pairs-any : (out : BodyEnd) (at : ℕ) → through v out (λ i. pairStep v i (pairAt largest v i)) at ≡ pairsFrom largest v at
+  pairs-any out =
+      pairs-ind (λ at w. through v out step at ≡ w)
+      (λ at number place e. walk-stop out step (length v + 1) at (RefusedBody number place) (omega arith) (ap (pairStep v at) e))
+      (λ at next e. walk-last out step (length v + 1) at (pairOf v at next) (At next) (omega arith) (ap (pairStep v at) e))
+      (λ at next w e h.
+      walk-more out step (λ i. length v - i) falls (length v + 1) at next (pairOf v at next) (omega arith) (ap (pairStep v at) e) ∙ ap (before (pairOf v at next)) h)
+    where
+      step : ℕ → Step ℕ Pair BodyEnd
+      step i = pairStep v i (pairAt largest v i)
 
 -- how `list_end` goes on and comes to each of its answers
 module _ (largest : ℕ) (v : List ℕ) (start at : ℕ) (pair : NextPair) (is : pair ≡ pairAt largest v at)

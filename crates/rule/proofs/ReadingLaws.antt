@@ -1,6 +1,5 @@
 -- Reading one rule: one law for each way in which the code comes to an answer. Assumes nothing.
 use mathlib.Core.Path.{_≡_, refl, sym, subst, _∙_}
-use mathlib.Core.Bool.{false}
 use mathlib.Core.List.{List}
 use Prim.Native.Nat.{ℕ, _+_, _-_, _*_, _<_, _≤_}
 use native.Mathlib.Omega.{arith}
@@ -42,25 +41,20 @@ pub high-small : (x : ℕ) → bitAnd x 0x0f ≤ 15
 high-small x = and-le-r x 15
 
 module _ (family : Family) (s : List ℕ) (start size : ℕ) (is : start ≡ fieldSize s) (tells : size ≡ fieldLength s) where
-  pub read-no-field : length s < start → Refused 1 0 ≡ firstRule family s
+  pub read-short : length s < start + size → Refused 1 0 ≡ firstRule family s
   unfolding firstRule
-  read-no-field h = rw (← is, lt-ltb _ _ h)
+  read-short h = rw (← is, ← tells, lt-ltb _ _ h)
 
-  pub read-short : start ≤ length s → length s - start < size → Refused 1 0 ≡ firstRule family s
-  unfolding firstRule
-  read-short h k = rw (← is, ← tells, le-ltb _ _ h, lt-ltb _ _ k)
-
-  module _ (checked : Checked) (says : checked ≡ checkValue family (take (start + size - start) (drop start s))) (field : start ≤ length s)
-      (value : size ≤ length s - start) where
+  module _ (checked : Checked) (says : checked ≡ checkValue family (take (start + size - start) (drop start s))) (inside : start + size ≤ length s) where
     pub read-accepted : checked ≡ Accepted → Rule start size ≡ firstRule family s
     unfolding firstRule
-    read-accepted e = let c = sym says ∙ e in rw (← is, ← tells, le-ltb _ _ field, le-ltb _ _ value, rw (add-sub-cancel-left start size) at c)
+    read-accepted e = let c = sym says ∙ e in rw (← is, ← tells, le-ltb _ _ inside, rw (add-sub-cancel-left start size) at c)
 
     pub read-refused : (number place : ℕ) → checked ≡ RefusedValue number place → Refused number place ≡ firstRule family s
     unfolding firstRule
     read-refused number place e =
         let c = sym says ∙ e in
-        rw (← is, ← tells, le-ltb _ _ field, le-ltb _ _ value, rw (add-sub-cancel-left start size) at c)
+        rw (← is, ← tells, le-ltb _ _ inside, rw (add-sub-cancel-left start size) at c)
 
 -- a rule that was read: where its value stands, that it lies in the octets, and that it is accepted
 pub record ReadRule (family : Family) (s : List ℕ) (start size : ℕ) : Type 0 where
@@ -78,17 +72,13 @@ module _ (family : Family) (s : List ℕ) where
   pub reading-says : SaysRule family s (firstRule family s)
   unfolding firstRule
   reading-says =
-      by-test (ltb (length s) (fieldSize s)) (λ t. rw t (placeless 1 (omega arith) (omega arith)))
-      (λ t. by-test (ltb (length s - fieldSize s) (fieldLength s)) (λ u. rw (t, u) (placeless 1 (omega arith) (omega arith)))
-      (λ u. rw (t, u) (go t u (checkValue family (take (fieldLength s) (drop (fieldSize s) s))) refl)))
+      by-test (ltb (length s) (fieldSize s + fieldLength s)) (λ t. rw t (placeless 1 (omega arith) (omega arith)))
+      (λ t. rw t (go (ltb-false _ _ t) (checkValue family (take (fieldLength s) (drop (fieldSize s) s))) refl))
     where
-      go : ltb (length s) (fieldSize s) ≡ false → ltb (length s - fieldSize s) (fieldLength s) ≡ false → (c : Checked)
-          → checkValue family (take (fieldLength s) (drop (fieldSize s) s)) ≡ c → SaysRule family s (readAs (fieldSize s) (fieldLength s) c)
-      go t u Accepted e =
-          let h = ltb-false (length s) (fieldSize s) t in
-          let k = ltb-false (length s - fieldSize s) (fieldLength s) u in
-          record { field = refl; tells = refl; inside = omega arith; accepted = e }
-      go t u (RefusedValue number place) e = subst Checks e (value-checks family (take (fieldLength s) (drop (fieldSize s) s)))
+      go : fieldSize s + fieldLength s ≤ length s → (c : Checked) → checkValue family (take (fieldLength s) (drop (fieldSize s) s)) ≡ c
+          → SaysRule family s (readAs (fieldSize s) (fieldLength s) c)
+      go h Accepted e = record { field = refl; tells = refl; inside = h; accepted = e }
+      go h (RefusedValue number place) e = subst Checks e (value-checks family (take (fieldLength s) (drop (fieldSize s) s)))
 
   pub rule-read : (start size : ℕ) → firstRule family s ≡ Rule start size → ReadRule family s start size
   rule-read start size e = subst (SaysRule family s) e reading-says

@@ -19,7 +19,7 @@ use Rattle.rule.specs.declared.Checked.the-variants.{Accepted}
 use Rattle.rule.specs.declared.Reading.{Reading}
 use Rattle.rule.specs.declared.Reading.the-variants.{Rule, Refused}
 use Rattle.rule.specs.declared.Writing.the-variants.{Written}
-use Rattle.rule.specs.Value.{checkValue}
+use Rattle.rule.specs.Value.{mostValue, checkValue}
 use Rattle.rule.specs.Plain.{plain}
 use Rattle.rule.specs.Reading.{fieldSize, fieldLength, alone, firstRule, oneRule}
 use Rattle.rule.specs.Writing.{lengthField, ruleFor, writing, afterWriting}
@@ -43,7 +43,7 @@ module _ (size : ℕ) (rest : List ℕ) where
         | no h ↦ rw (two-octet-field size (omega arith)) (sym (long-size ((240 + size / 256) ∷ size % 256 ∷ rest) (240 + size / 256) refl (omega arith)))
       ]
 
-  pub field-length-back : size ≤ 4095 → fieldLength (lengthField size ++ rest) ≡ size
+  pub field-length-back : size ≤ mostValue → fieldLength (lengthField size ++ rest) ≡ size
   field-length-back small =
       elim (decLt size 240) [
         | yes h ↦ rw (one-octet-field size h) (sym (short-length (size ∷ rest) size refl h))
@@ -79,7 +79,7 @@ read-written family v ok o =
     = rw (add-sub-cancel-left start size, value-back family v, check-plain family v o) ok in
     let read : Rule start size ≡ firstRule family s
     = read-accepted family s start size (sym (field-size-back size (plain family v))) (sym (field-length-back size (plain family v) (accepted-small family v ok)))
-    (checkValue family (take (start + size - start) (drop start s))) refl (omega arith) (omega arith) value in
+    (checkValue family (take (start + size - start) (drop start s))) refl (omega arith) value in
     (sym (alone-whole family s (firstRule family s) refl start size (sym read) (sym whole)), value-back family v)
 
 -- the one rule that octets are is all of them

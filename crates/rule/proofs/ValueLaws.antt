@@ -17,7 +17,7 @@ use Rattle.rule.specs.declared.Next.{Next}
 use Rattle.rule.specs.declared.Next.the-variants.{Nothing, Another, Refused as RefusedNext}
 use Rattle.rule.specs.declared.Checked.{Checked}
 use Rattle.rule.specs.declared.Checked.the-variants.{Accepted, Refused}
-use Rattle.rule.specs.Component.{bodyEnd, found, componentAt}
+use Rattle.rule.specs.Component.{through, bodyEnd, found, componentAt}
 use Rattle.rule.specs.Value.{mostValue, Component, between, Progress, componentStep, componentsFrom, checkValue}
 use Rattle.rule.proofs.ComponentLaws.{component-cases, Within, Met, EndWithin, body-within}
 use Rattle.rule.proofs.Refusal.{Refusal, placeless}
@@ -141,6 +141,23 @@ module _ (family : Family) (v : List ℕ) where
           let u : record { kind = kind; body = between v (p .at + 1) next } ≡ a = cc in
           rw (← u) (goes (p .at) (p .previous) kind next w f (subst (λ (x : Progress). P (x .at) (x .previous) w) (sym s) h))
       mores p r a w (RefusedNext number place) f q h = apart (cc)
+
+  -- the refusal for too few steps is no matter: any other gives the same walk
+  pub components-any : (out : Checked) (at previous : ℕ)
+      → through v out (λ (q : Progress). componentStep v (q .at) (componentAt family v (q .at) (q .previous))) (record { at = at; previous = previous })
+      ≡ componentsFrom family v (record { at = at; previous = previous })
+  components-any out =
+      components-ind (λ at previous w. through v out step (record { at = at; previous = previous }) ≡ w)
+      (λ at previous e. walk-stop out step (length v + 1) (record { at = at; previous = previous }) Accepted (omega arith) (ap (componentStep v at) e))
+      (λ at previous number place e.
+      walk-stop out step (length v + 1) (record { at = at; previous = previous }) (Refused number place) (omega arith) (ap (componentStep v at) e))
+      (λ at previous kind next w e h.
+      walk-more out step (λ q. length v - q .at) falls (length v + 1) (record { at = at; previous = previous }) (record { at = next; previous = kind })
+      (record { kind = kind; body = between v (at + 1) next }) (omega arith) (ap (componentStep v at) e)
+      ∙ ap (before (record { kind = kind; body = between v (at + 1) next })) h)
+    where
+      step : Progress → Step Progress Component Checked
+      step q = componentStep v (q .at) (componentAt family v (q .at) (q .previous))
 
 -- how `check_value` goes on and comes to each of its answers
 abbrev how : Walk Component Checked → Checked

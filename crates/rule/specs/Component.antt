@@ -43,9 +43,14 @@ pairStep v at (More next) = more (pairOf v at next) next
 pairStep v at (Last next) = last (pairOf v at next) (At next)
 pairStep v at (RefusedPair number place) = stop (RefusedBody number place)
 
+-- A walk through octets: a step for each of them and one more, which are enough, since every step moves on. The ending `out` stands for too
+-- few steps and never shows: the laws `pairs-any` and `components-any`.
+abbrev pub through : {S A E : Type 0} → List ℕ → E → (S → Step S A E) → S → Walk A E
+through v out step s = walk (length v + 1) out step s
+
 -- The pairs of a list from a place on, and where the list ends.
 unfoldable pub pairsFrom : ℕ → List ℕ → ℕ → Walk Pair BodyEnd
-pairsFrom largest v at = walk (length v + 1) (RefusedBody 6 (length v)) (λ i. pairStep v i (pairAt largest v i)) at
+pairsFrom largest v at = through v (RefusedBody 6 (length v)) (λ i. pairStep v i (pairAt largest v i)) at
 
 -- How many octets stand before a prefix's pattern: its length octet and, in a family with offsets, its offset octet.
 unfoldable pub leadOf : Family → ℕ

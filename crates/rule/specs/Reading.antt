@@ -1,5 +1,5 @@
 -- Reading one rule (RFC 8955 section 4.1): the length field, the value behind it, and nothing after that.
-use Prim.Native.Nat.{ℕ, _+_, _-_, _*_}
+use Prim.Native.Nat.{ℕ, _+_, _*_}
 use mathlib.Core.Bool.{cond}
 use mathlib.Core.List.{List}
 use lib.Bits.{bitAnd}
@@ -34,9 +34,8 @@ unfoldable pub firstRule : Family → List ℕ → Reading
 firstRule family s =
     let start = fieldSize s in
     let size = fieldLength s in
-    cond (ltb (length s) start) (Refused 1 0)
-    (cond (ltb (length s - start) size) (Refused 1 0)
-    (readAs start size (checkValue family (valueOf s start size))))
+    cond (ltb (length s) (start + size)) (Refused 1 0)
+    (readAs start size (checkValue family (valueOf s start size)))
 
 -- A rule that does not end where the `total` octets end is 15 instead, and a refusal stays as it is.
 abbrev pub alone : ℕ → Reading → Reading

@@ -5,13 +5,13 @@ use mathlib.Core.Bool.{cond, _||_}
 use mathlib.Core.List.{List, [], _∷_, _++_}
 use lib.Dec.{ltb, eqb}
 use lib.ListN.{length, take, drop}
-use Rattle.octets.specs.Walk.{Step, more, stop, Walk, walk}
+use Rattle.octets.specs.Walk.{Step, more, stop, Walk}
 use Rattle.rule.specs.declared.Family.{Family}
 use Rattle.rule.specs.declared.Next.{Next}
 use Rattle.rule.specs.declared.Next.the-variants.{Nothing, Another, Refused as RefusedNext}
 use Rattle.rule.specs.declared.Checked.{Checked}
 use Rattle.rule.specs.declared.Checked.the-variants.{Accepted, Refused}
-use Rattle.rule.specs.Component.{componentAt}
+use Rattle.rule.specs.Component.{through, componentAt}
 
 -- The octets a value has at most.
 abbrev pub mostValue : ℕ
@@ -57,7 +57,7 @@ componentStep v at (RefusedNext number place) = stop (Refused number place)
 -- The components of a value from a place on, and whether all of it is accepted.
 unfoldable pub componentsFrom : Family → List ℕ → Progress → Walk Component Checked
 componentsFrom family v p =
-    walk (length v + 1) (Refused 6 (length v)) (λ (q : Progress). componentStep v (q .at) (componentAt family v (q .at) (q .previous))) p
+    through v (Refused 6 (length v)) (λ (q : Progress). componentStep v (q .at) (componentAt family v (q .at) (q .previous))) p
 
 -- The components of a value, in the order in which they stand.
 unfoldable pub components : Family → List ℕ → List Component

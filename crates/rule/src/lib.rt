@@ -12,7 +12,7 @@ ghost use Rattle.rule.specs.Shape.{shapeOf};
 ghost use Rattle.rule.specs.Operator.{endsList, sizeOf};
 ghost use Rattle.rule.specs.Component.{pairAt, pairsFrom, leadOf, offsetAt, prefixEnd, bodyEnd, componentAt};
 ghost use Rattle.rule.specs.Reader.{readerAt, nextOf};
-ghost use Rattle.rule.specs.Value.{checkValue};
+ghost use Rattle.rule.specs.Value.{mostValue, checkValue};
 ghost use Rattle.rule.specs.Plain.{expectedAtStart, bodyOf, patternAfter, after, operandAfter, withoutReserved, plainOperator, plainOperand, plainAddress, clearedOctet, plain};
 ghost use Rattle.rule.specs.Reading.{fieldSize, fieldLength, firstRule, oneRule};
 ghost use Rattle.rule.specs.Writing.{lengthField, intoRoom, filled, writing, afterWriting};
@@ -581,7 +581,7 @@ pub fn field_size(s: &[u8]) -> usize
 
 // The length that the length field gives.
 pub fn field_length(s: &[u8]) -> usize
-    ensures { λ r. ⌜ (r ≡ fieldLength (now (s .entry))) × (r ≤ 4095) ⌝ }
+    ensures { λ r. ⌜ (r ≡ fieldLength (now (s .entry))) × (r ≤ mostValue) ⌝ }
 {
     let first = octet_at(s, 0);
     if first < 0xf0 {
@@ -598,19 +598,13 @@ pub fn first_rule(family: Family, s: &[u8]) -> Reading
 {
     let start = field_size(s);
     let size = field_length(s);
-    if s.len() < start {
-        return Reading::Refused {
-            number: 1,
-            place: 0,
-        };
-    }
-    if s.len() - start < size {
-        return Reading::Refused {
-            number: 1,
-            place: 0,
-        };
-    }
     let end = start + size;
+    if s.len() < end {
+        return Reading::Refused {
+            number: 1,
+            place: 0,
+        };
+    }
     match check_value(family, &s[start..end]) {
         Checked::Accepted => Reading::Rule { start, size },
         Checked::Refused { number, place } => Reading::Refused { number, place },
@@ -650,7 +644,7 @@ pub fn field_size_for(size: usize) -> usize
 
 // Writes the length field to the front of a buffer, and keeps the rest.
 pub fn write_length(size: usize, buffer: &mut [u8])
-    requires { ⌜ (size ≤ 4095) × (length (lengthField size) ≤ length (now buffer)) ⌝ }
+    requires { ⌜ (size ≤ mostValue) × (length (lengthField size) ≤ length (now buffer)) ⌝ }
     ensures { λ _. ⌜ now (buffer .exit) ≡ stored (now (buffer .entry)) 0 (lengthField size) ⌝ }
 {
     if size < 240 {
@@ -664,7 +658,7 @@ pub fn write_length(size: usize, buffer: &mut [u8])
 
 // Writes an accepted value as a rule in its plain spelling where there is room.
 pub fn write_accepted(family: Family, value: &[u8], buffer: &mut [u8]) -> Writing
-    requires { ⌜ length (now value) ≤ 4095 ⌝ }
+    requires { ⌜ length (now value) ≤ mostValue ⌝ }
     ensures { λ r. ⌜ (r ≡ intoRoom family (now (value .entry)) (length (now (buffer .entry))) Checked.Accepted) × (now (buffer .exit) ≡ filled family (now (value .entry)) (now (buffer .entry)) r) ⌝ }
 {
     let size = value.len();

@@ -1,5 +1,5 @@
--- One law for each return: the length field is cut short, the value is, or the value is checked.
-use Rattle.rule.proofs.ReadingLaws.{read-no-field, read-short, read-accepted, read-refused}
+-- One law for each return: the length field or the value runs past the octets, or the value is checked.
+use Rattle.rule.proofs.ReadingLaws.{read-short, read-accepted, read-refused}
 use borrow.Author.Needs.{needs}
 use Rattle.rule.proofs.first_rule.Statement.{statement}
 use Rattle.rule.proofs.first_rule.Tie as tie
@@ -10,17 +10,11 @@ field-size-requires c κs = search needs
 field-length-requires : tie.Need-field-length-requires
 field-length-requires c κs = search needs
 
-returns : tie.Need-returns
-returns c = search (read-no-field, needs)
-
-sub-if2 : tie.Need-sub-if2
-sub-if2 c = search needs
-
-returns-2 : tie.Need-returns-2
-returns-2 c = search (read-short, needs)
-
 add-end : tie.Need-add-end
 add-end c = search needs
+
+returns : tie.Need-returns
+returns c = search (read-short, needs)
 
 sub-check-value : tie.Need-sub-check-value
 sub-check-value c = search needs
@@ -40,11 +34,11 @@ enum-told c = search needs
 enum-known-number : tie.Need-enum-known-number
 enum-known-number c = search needs
 
-returns-3 : tie.Need-returns-3
-returns-3 c = search (read-accepted, needs)
+returns-2 : tie.Need-returns-2
+returns-2 c = search (read-accepted, needs)
 
-returns-4 : tie.Need-returns-4
-returns-4 c = search (read-refused, needs)
+returns-3 : tie.Need-returns-3
+returns-3 c = search (read-refused, needs)
 
 pub first-rule-spec : {M : Type 1} → statement M
 first-rule-spec =
@@ -52,15 +46,13 @@ first-rule-spec =
     (tie.spec
     field-size-requires
     field-length-requires
-    returns
-    sub-if2
-    returns-2
     add-end
+    returns
     sub-check-value
     part-check-value-start
     part-check-value-end
     check-value-requires
     enum-told
     enum-known-number
-    returns-3
-    returns-4)
+    returns-2
+    returns-3)
