@@ -14,3 +14,4 @@ pub mod ReadingLaws
 pub mod WritingLaws
 pub mod ComponentsLaws
 pub mod RoundTripLaws
+pub mod Examples

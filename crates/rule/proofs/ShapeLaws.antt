@@ -7,7 +7,6 @@ use lib.Dec.{eqb}
 use borrow.Author.Tests.{eqb-false, eq-eqb, ne-eqb}
 use Rattle.octets.proofs.Cases.{by-test}
 use Rattle.rule.specs.declared.Family.{Family}
-use Rattle.rule.specs.declared.Shape.{Shape}
 use Rattle.rule.specs.Shape.{aPrefix, numericPairs, shapeOf}
 
 module _ (family : Family) (kind : ℕ) where

@@ -9,10 +9,10 @@ use native.Mathlib.Omega.{arith}
 use native.Mathlib.Decide.{decLt}
 use native.Mathlib.Numerals.{add-one}
 use native.Mathlib.Nat.{add-zero, zero-add}
-use lib.Dec.{leb, ltb, eqb}
+use lib.Dec.{leb, ltb}
 use lib.ListN.{length, getD, take, drop, drop-of-length-le, List·getD-eq-default}
 use lib.Seq.{drop-cons, drop-drop, getD-drop}
-use borrow.Author.Tests.{lt-ltb, leb-false, leb-true, ltb-true, ltb-false, eqb-true, eqb-false}
+use borrow.Author.Tests.{lt-ltb, leb-false, leb-true, ltb-true, ltb-false}
 use Rattle.octets.specs.Number.{numberAt}
 use Rattle.octets.specs.Walk.{Walk, before}
 use Rattle.octets.proofs.Cases.{by-test}
@@ -33,7 +33,7 @@ use Rattle.rule.specs.Shape.{shapeOf}
 use Rattle.rule.specs.Operator.{endsList, sizeOf}
 use Rattle.rule.specs.Component.{pairAt, Pair, pairOf, pairsFrom, leadOf, offsetAt, prefixEnd, bodyEnd, found, componentAt}
 use Rattle.rule.specs.Value.{Component, between, atStart, componentsFrom, components, checkValue}
-use Rattle.rule.specs.Plain.{expectedAtStart, bodyOf, patternAfter, operandAfter, after, plainOperator, plainOperand, clearedOctet, plainFrom, plain}
+use Rattle.rule.specs.Plain.{expectedAtStart, bodyOf, patternAfter, operandAfter, after, plainOperand, clearedOctet, plainFrom, plain}
 use Rattle.rule.specs.PlainComponent.{plainPair, plainPairs, plainComponent}
 use Rattle.rule.proofs.ShapeLaws.{one-octet-or-whole}
 use Rattle.rule.proofs.OperatorLaws.{size-positive}

@@ -17,8 +17,8 @@ use Rattle.rule.specs.declared.Next.the-variants.{Nothing, Another, Refu
 use Rattle.rule.specs.Shape.{shapeOf}
 use Rattle.rule.specs.Operator.{endsList, sizeOf}
 
--- An operator and its value, at a place in a list whose values have at most `largest` octets, and the place behind them. A missing operator is 6 at the
--- value's end, a size that the type does not allow 7 at the operator, and a value cut short 6 at the value's end.
+-- An operator and its value, at a place in a list whose values have at most `largest` octets, and the place behind them. A missing
+-- operator is 6 at the value's end, a size that is not allowed 7 at the operator, and a value cut short 6 at the value's end.
 unfoldable pub pairAt : ℕ → List ℕ → ℕ → NextPair
 pairAt largest v at =
     let operator = getD v at 0 in

@@ -79,9 +79,9 @@ pub struct Reader<'a> {
     pub previous: u8,
 }
 
-// What the next octet of a value is: one before the first component with the octets of these still to come, a type, a prefix's length, its offset behind that length, an octet of its pattern with the bits still
-// to come, an operator (a list's first or a later one), or an octet of a value with the octets still to come (of a list's last pair or
-// an earlier one).
+// What the next octet of a value is: one before the first component with the octets of these still to come, a type, a prefix's length, its
+// offset behind that length, an octet of its pattern with the bits still to come, an operator (a list's first or a later one), or an octet
+// of a value with the octets still to come (of a list's last pair or an earlier one).
 pub enum Expected {
     Head(usize),
     Kind,

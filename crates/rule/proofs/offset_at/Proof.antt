@@ -4,7 +4,6 @@ use Rattle.rule.proofs.ComponentLaws.{offset-with, offset-without}
 use borrow.Author.Needs.{needs}
 use Rattle.rule.proofs.offset_at.Statement.{statement}
 use Rattle.rule.proofs.offset_at.Tie as tie
-use Rattle.octets.proofs.octet_at.Reads as octet-at-reads
 
 octet-at-requires : tie.Need-octet-at-requires
 octet-at-requires c κs = search needs
