@@ -20,7 +20,7 @@ use Rattle.packet.specs.Transport.{transportOctets, transportFields}
 use Rattle.packet.specs.Packet.{fieldsOf, packetOf}
 use Rattle.packet.specs.Operator.{numericHolds}
 use Rattle.packet.specs.PairList.{groupsFrom, groups, listHolds}
-use Rattle.packet.specs.Match.{dataFor, holdsFor, bodyHolds, fieldMatches, fieldFor, eitherPort, componentMatches, matches}
+use Rattle.packet.specs.Match.{dataFor, holdsFor, bodyHolds, fieldMatches, fieldsFor, componentMatches, matches}
 use Rattle.flowspec.specs.Examples.{Example, answerTo, examples}
 
 pub marked : map (λ (e : Example). answerTo (e .asks)) examples ≡ map (λ (e : Example). e .expects) examples
@@ -28,7 +28,7 @@ unfolding
     answerTo numberAt walk bits sameList contains prefixOrder prefixOf endsList sizeOf isPrefix isBitmask sizeAllowed pairAt pairsFrom prefixEnd bodyEnd componentAt
     componentsFrom components checkValue bodyOf operandAfter after plainOperator plainOperand plainAddress clearedOctet plainFrom plain fieldSize fieldLength lengthField
     bodyOrder componentOrder componentsOrder precedence scaled wholePart wholeOf rateOfParts rateOf isUnusable fragmentData transportOctets transportFields fieldsOf packetOf
-    numericHolds every oneHolds groupsFrom groups listHolds dataFor holdsFor bodyHolds fieldMatches fieldFor eitherPort componentMatches matches
+    numericHolds every oneHolds groupsFrom groups listHolds dataFor holdsFor bodyHolds fieldMatches fieldsFor componentMatches matches
 marked = refl
 
 -- **A rule that is accepted**: the announcement of 01's program, a rule of eleven octets behind a length field of one.

@@ -1,12 +1,12 @@
 -- Components and rules against a packet: one law for each return of the code and each turn of its loop. Assumes nothing.
 use mathlib.Core.Path.{_≡_, refl, sym, ap, _∙_}
-use mathlib.Core.Bool.{Bool, true, false, not, _&&_, _||_}
+use mathlib.Core.Bool.{Bool, true, false, not, _&&_, _||_, or-false}
 use mathlib.Core.List.{List}
 use Prim.Native.Nat.{ℕ, _+_, _-_, _<_}
 use native.Mathlib.Omega.{arith}
 use lib.ListN.{length, take, drop}
 use borrow.Author.Tests.{ne-eqb, not-true, not-false}
-use Rattle.octets.specs.Test.{every}
+use Rattle.octets.specs.Test.{every, oneHolds}
 use Rattle.octets.specs.Walk.{Walk}
 use Rattle.prefix.specs.Prefix.{contains, prefixOf}
 use Rattle.prefix.specs.declared.Prefix.{Prefix}
@@ -19,9 +19,8 @@ use Rattle.rule.specs.Value.{Component, componentsFrom, components, component}
 use Rattle.rule.proofs.ValueLaws.{was-found, components-more, components-none, components-refused}
 use Rattle.packet.specs.declared.Field.{Field}
 use Rattle.packet.specs.declared.Field.the-variants.{Shown, Hidden}
-use Rattle.packet.specs.declared.Transport.{Transport}
 use Rattle.packet.specs.declared.Packet.{Packet}
-use Rattle.packet.specs.Match.{bodyHolds, fieldMatches, fieldFor, coversAddress, eitherPort, componentMatches, matches}
+use Rattle.packet.specs.Match.{bodyHolds, fieldMatches, fieldsFor, coversAddress, componentMatches, matches}
 
 -- how `field_matches` comes to each of its answers
 module _ (kind : ℕ) (body : List ℕ) (field : Field) where
@@ -33,39 +32,51 @@ module _ (kind : ℕ) (body : List ℕ) (field : Field) where
   unfolding fieldMatches
   hidden-matches e = rw e
 
--- a type that has no list shows no field
-pub no-field : (kind : ℕ) (packet : Packet) → (kind ≡ 3 → ⊥) → (kind ≡ 5 → ⊥) → (kind ≡ 6 → ⊥) → (kind ≡ 7 → ⊥) → (kind ≡ 8 → ⊥)
-    → (kind ≡ 9 → ⊥) → (kind ≡ 10 → ⊥) → (kind ≡ 11 → ⊥) → (kind ≡ 12 → ⊥) → Hidden ≡ fieldFor kind packet
-unfolding fieldFor
-no-field kind packet a b c d e f g h i =
-    rw (
-      ne-eqb kind 3 a,
-      ne-eqb kind 5 b,
-      ne-eqb kind 6 c,
-      ne-eqb kind 7 d,
-      ne-eqb kind 8 e,
-      ne-eqb kind 9 f,
-      ne-eqb kind 10 g,
-      ne-eqb kind 11 h,
-      ne-eqb kind 12 i,
-    )
-
 -- the prefix of a body, and an address as a prefix of all its bits
 pub covered : (body : List ℕ) (address : ℕ) (outer : Prefix) (r : Bool) → outer ≡ prefixOf 32 body
     → r ≡ contains 32 outer (record { length = 32; address = address }) → r ≡ coversAddress 32 body address
 unfolding coversAddress
 covered body address outer r e f = rw (← e) f
 
-pub port-matches : (body : List ℕ) (transport : Transport) (a b : Bool) → a ≡ fieldMatches 4 body (transport .«source_port»)
-    → b ≡ fieldMatches 4 body (transport .«destination_port») → a || b ≡ eitherPort body transport
-unfolding eitherPort
-port-matches body transport a b e f = rw (e, f)
+-- how `matches_component` comes to each of its answers: n is the type of a row, at which the definition computes
+module _ (kind : ℕ) (body : List ℕ) (packet : Packet) (n : ℕ) (is : kind ≡ n) where
+  abbrev pub Row : Bool → Type 0
+  Row r = componentMatches packet (component n body) ≡ r
 
--- a type that is no prefix and not the port's is judged on its one field
-pub on-field : (kind : ℕ) (body : List ℕ) (packet : Packet) (r : Bool) (field : Field) → (kind ≡ 1 → ⊥) → (kind ≡ 2 → ⊥) → (kind ≡ 4 → ⊥)
-    → field ≡ fieldFor kind packet → r ≡ fieldMatches kind body field → r ≡ componentMatches packet (component kind body)
-unfolding componentMatches
-on-field kind body packet r field a b c e f = rw (ne-eqb kind 1 a, ne-eqb kind 2 b, ne-eqb kind 4 c, ← e) f
+  pub on-address : (w address : ℕ) (r : Bool) → Row (coversAddress w body address) → r ≡ coversAddress w body address → r ≡ componentMatches packet (component kind body)
+  on-address w address r row e = rw is (e ∙ sym row)
+
+  pub on-field : (field : Field) (r : Bool) → Row (fieldMatches n body field || false) → r ≡ fieldMatches kind body field
+      → r ≡ componentMatches packet (component kind body)
+  on-field field r row e = rw is (e ∙ rw is (sym (row ∙ or-false (fieldMatches n body field))))
+
+  pub on-either : (one other : Field) (a b : Bool) → Row (fieldMatches n body one || (fieldMatches n body other || false))
+      → a ≡ fieldMatches kind body one → b ≡ fieldMatches kind body other → a || b ≡ componentMatches packet (component kind body)
+  on-either one other a b row e f = rw (e, f, is) (sym (row ∙ rw (or-false (fieldMatches n body other))))
+
+  pub on-number : («data» : ℕ) (r : Bool) → Row (bodyHolds n body «data» || false) → r ≡ bodyHolds kind body «data» → r ≡ componentMatches packet (component kind body)
+  on-number «data» r row e = rw is (e ∙ rw is (sym (row ∙ or-false (bodyHolds n body «data»))))
+
+-- a type that has no row matches nothing
+pub on-nothing : (kind : ℕ) (body : List ℕ) (packet : Packet) → (kind ≡ 1 → ⊥) → (kind ≡ 2 → ⊥) → (kind ≡ 3 → ⊥) → (kind ≡ 4 → ⊥) → (kind ≡ 5 → ⊥)
+    → (kind ≡ 6 → ⊥) → (kind ≡ 7 → ⊥) → (kind ≡ 8 → ⊥) → (kind ≡ 9 → ⊥) → (kind ≡ 10 → ⊥) → (kind ≡ 11 → ⊥) → (kind ≡ 12 → ⊥)
+    → false ≡ componentMatches packet (component kind body)
+unfolding componentMatches fieldsFor oneHolds
+on-nothing kind body packet a b c d e f g h i j k l =
+    rw (
+      ne-eqb kind 1 a,
+      ne-eqb kind 2 b,
+      ne-eqb kind 3 c,
+      ne-eqb kind 4 d,
+      ne-eqb kind 5 e,
+      ne-eqb kind 6 f,
+      ne-eqb kind 7 g,
+      ne-eqb kind 8 h,
+      ne-eqb kind 9 i,
+      ne-eqb kind 10 j,
+      ne-eqb kind 11 k,
+      ne-eqb kind 12 l,
+    )
 
 -- how `matches_rule` goes on and comes to each of its answers
 abbrev pub matchesFrom : Family → List ℕ → Packet → ℕ → ℕ → Bool

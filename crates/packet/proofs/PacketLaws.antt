@@ -5,6 +5,7 @@ use mathlib.Core.List.{List}
 use Prim.Native.Nat.{ℕ, _/_}
 use lib.ListN.{length, getD}
 use Rattle.octets.specs.Number.{numberAt}
+use Rattle.packet.specs.declared.Field.the-variants.{Shown}
 use Rattle.packet.specs.declared.Transport.{Transport}
 use Rattle.packet.specs.declared.Sight.the-variants.{Usable, Unusable}
 use Rattle.packet.specs.Header.{isUnusable, fragmentData}
@@ -20,6 +21,6 @@ module _ (s : List ℕ) (no-use : Bool) (says : no-use ≡ isUnusable s) where
   pub usable : (t : List ℕ) (d o p l x f g : ℕ) (transport : Transport) → no-use ≡ false
       → d ≡ numberAt 4 s 16 → o ≡ numberAt 4 s 12 → p ≡ getD s 9 0 → l ≡ numberAt 2 s 2 → x ≡ getD s 1 0 → f ≡ numberAt 2 s 6 → g ≡ fragmentData f
       → t ≡ transportOctets s → transport ≡ transportFields p t
-      → Usable (record { destination = d; source = o; protocol = p; length = l; dscp = x / 4; fragment = g; transport = transport }) ≡ packetOf s
+      → Usable (record { destination = d; source = o; protocol = Shown p; length = l; dscp = x / 4; fragment = g; transport = transport }) ≡ packetOf s
   unfolding packetOf fieldsOf
   usable t d o p l x f g transport h d′ o′ p′ l′ x′ f′ g′ t′ r′ = rw (← says, h, d′, o′, r′, p′, l′, x′, g′, f′, t′)

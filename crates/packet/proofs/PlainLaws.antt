@@ -11,7 +11,7 @@ use lib.Dec.{leb, eqb}
 use lib.ListN.{getD}
 use lib.Pow.{pow-pos, high, shl-shr, shr-shr}
 use borrow.Author.Tests.{leb-true, leb-false, eqb-true, eqb-false}
-use Rattle.octets.specs.Test.{every, Each}
+use Rattle.octets.specs.Test.{every, oneHolds, Each}
 use Rattle.octets.specs.Number.{numberAt}
 use Rattle.octets.proofs.Cases.{by-test}
 use Rattle.octets.proofs.Facts.{Octets}
@@ -33,7 +33,7 @@ use Rattle.packet.specs.declared.Field.{Field}
 use Rattle.packet.specs.declared.Field.the-variants.{Shown, Hidden}
 use Rattle.packet.specs.declared.Packet.{Packet}
 use Rattle.packet.specs.PairList.{listHolds}
-use Rattle.packet.specs.Match.{dataFor, holdsFor, pairHolds, bodyHolds, fieldMatches, fieldFor, coversAddress, eitherPort, componentMatches, matches}
+use Rattle.packet.specs.Match.{dataFor, holdsFor, pairHolds, bodyHolds, fieldMatches, fieldsFor, coversAddress, componentMatches, matches}
 use Rattle.packet.proofs.OperatorLaws.{Keeps, kept, numeric-alike, mask-alike}
 use Rattle.packet.proofs.PairListLaws.{goesOn, from-first}
 
@@ -175,23 +175,23 @@ prefix-plain body address o =
     (λ t. rw (length-kept body, t, first-kept 4 body o (leb-true (getD body 0 0) 32 t)))
     (λ t. rw (length-kept body, t))
 
+-- and one of several fields
+fields-plain : (kind : ℕ) (body : List ℕ) → Octets body → (fields : List Field)
+    → oneHolds (fieldMatches kind (plainFrom (Operator kind true) body)) fields ≡ oneHolds (fieldMatches kind body) fields
+unfolding oneHolds
+fields-plain kind body o [] = refl
+fields-plain kind body o (field ∷ fields) = rw (field-plain kind body o field, fields-plain kind body o fields)
+
 module _ (packet : Packet) where
   -- a component in the plain spelling matches where the component does
   component-plain : (p : Component) → Octets (p .body) → componentMatches packet (plainComponent p) ≡ componentMatches packet p
-  unfolding componentMatches bodyOf isPrefix eitherPort
+  unfolding componentMatches bodyOf isPrefix
   component-plain p o =
       let kind = p .kind in
       let body = p .body in
       by-test (eqb kind 1) (λ t. rw t (prefix-plain body (packet .destination) o))
       (λ t. by-test (eqb kind 2) (λ u. rw (t, u) (prefix-plain body (packet .source) o))
-      (λ u. by-test (eqb kind 4)
-      (λ w.
-      rw (
-        eqb-true kind 4 w,
-        field-plain 4 body o (packet .transport .«source_port»),
-        field-plain 4 body o (packet .transport .«destination_port»),
-      ))
-      (λ w. rw (t, u, w) (field-plain kind body o (fieldFor kind packet)))))
+      (λ u. rw (t, u) (fields-plain kind body o (fieldsFor kind packet))))
 
   all-plain : (ps : List Component) → Each (λ p. Octets (p .body)) ps → every (componentMatches packet) (map plainComponent ps) ≡ every (componentMatches packet) ps
   unfolding every

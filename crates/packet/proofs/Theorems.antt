@@ -1,37 +1,49 @@
--- What a reader expects of matching, beside the tables of operators: 12 is answered exactly where octets are unusable, a later
--- fragment meets no rule that asks for its transport header, a list of one range is that range, a list's first AND is no matter, and
+-- What a reader expects of matching, beside the tables of operators: each list has its fields, 12 is answered exactly where octets are
+-- unusable, a later fragment meets no rule that asks for its transport header, a list of one range is that range, a list's first AND is no matter, and
 -- what a one-octet value of TCP flags is judged on. Assumes nothing.
 use mathlib.Core.Path.{_≡_, refl, ap, _∙_}
-use mathlib.Core.Bool.{Bool, true, false, _&&_, and-false}
+use mathlib.Core.Bool.{Bool, true, false, _&&_, _||_, and-false}
 use mathlib.Core.List.{List, [], _∷_}
 use mathlib.Core.Logic.{_↔_}
-use Prim.Native.Nat.{ℕ, _%_, _<_}
+use Prim.Native.Nat.{ℕ, _%_, _<_, _≤_}
 use native.Mathlib.Omega.{arith}
 use lib.Bits.{bitAnd, and-mask}
-use lib.Dec.{leb, eqb}
-use lib.ListN.{getD}
-use borrow.Author.Tests.{eqb-true, eqb-false, eq-eqb, leb-true}
-use Rattle.octets.specs.Test.{every, oneHolds}
+use lib.Dec.{leb, ltb, eqb}
+use lib.ListN.{length, getD}
+use borrow.Author.Tests.{eqb-true, eqb-false, eq-eqb, leb-true, lt-leb}
+use Rattle.octets.specs.Test.{every, oneHolds, Each}
 use Rattle.octets.specs.Number.{numberAt}
 use Rattle.octets.proofs.Cases.{by-test, apart, both}
-use Rattle.octets.proofs.Facts.{Octets}
+use Rattle.octets.proofs.Facts.{Octets, below}
 use Rattle.rule.specs.declared.Family.{Family}
 use Rattle.rule.specs.Operator.{sizeOf, isBitmask}
 use Rattle.rule.specs.Component.{Pair}
 use Rattle.rule.specs.Value.{Component, components}
 use Rattle.rule.specs.Plain.{plainOperand}
+use Rattle.rule.proofs.ComponentsLaws.{each-found}
 use Rattle.packet.specs.declared.Field.the-variants.{Hidden}
 use Rattle.packet.specs.declared.Transport.{Transport}
 use Rattle.packet.specs.declared.Packet.{Packet}
 use Rattle.packet.specs.declared.Sight.the-variants.{Usable, Unusable}
-use Rattle.packet.specs.Header.{headerWords, fragmentOffset, isUnusable, protocol}
+use Rattle.packet.specs.Header.{headerWords, fragmentField, fragmentOffset, isUnusable, protocol}
 use Rattle.packet.specs.Transport.{transportOctets, transportFields}
 use Rattle.packet.specs.Packet.{fieldsOf, packetOf}
 use Rattle.packet.specs.PairList.{joins, listHolds}
-use Rattle.packet.specs.Match.{dataFor, holdsFor, pairHolds, fieldMatches, fieldFor, eitherPort, componentMatches, matches}
+use Rattle.packet.specs.Match.{dataFor, holdsFor, pairHolds, fieldMatches, noField, fieldsFor, componentMatches, matches}
 use Rattle.packet.proofs.OperatorLaws.{numeric-row}
 use Rattle.packet.proofs.TransportLaws.{later-not-found}
 use Rattle.packet.proofs.PairListLaws.{from-first}
+
+-- in a family of the types 1 to 12 no component of a value comes to `noField`: each type above 2 has its fields
+pub has-field : (family : Family) (value : List ℕ) (packet : Packet) → family .highest ≤ 12
+    → Each (λ component. 2 < component .kind → fieldsFor (component .kind) packet ≡ noField → ⊥) (components family value)
+unfolding fieldsFor
+has-field family value packet types =
+    each-found family value (λ component. 2 < component .kind → fieldsFor (component .kind) packet ≡ noField → ⊥)
+    (λ at previous kind next found list none.
+    let had = found .had in
+    let row = below 13 (λ n. leb n 2 || ltb 0 (length (fieldsFor n packet))) refl kind (omega arith) in
+    apart (cc (rw (lt-leb kind 2 list, none) at row)))
 
 -- a transport header of which nothing is shown
 abbrev pub hidden : Transport
@@ -49,7 +61,7 @@ no-octets protocol = simp and-false
 -- a component that asks for a hidden transport header never matches
 module _ (packet : Packet) (shows : packet .transport ≡ hidden) where
   pub never-matches : (component : Component) → asksTransport component ≡ true → componentMatches packet component ≡ false
-  unfolding componentMatches fieldFor fieldMatches eitherPort
+  unfolding componentMatches fieldsFor fieldMatches oneHolds
   never-matches component asks =
       let kind = component .kind in
       let bounds = both (leb 4 kind) (leb kind 9) asks in
@@ -95,12 +107,12 @@ unusable-exactly s =
     by-test (isUnusable s) (λ t. (λ e. t, λ u. rw t)) (λ t. (λ e. let z : Usable (fieldsOf s) ≡ Unusable = rw t at e in apart (cc), λ u. apart (cc)))
 
 -- a later fragment shows no transport header
-pub later-hidden : (s : List ℕ) → (fragmentOffset s ≡ 0 → ⊥) → fieldsOf s .transport ≡ hidden
+pub later-hidden : (s : List ℕ) → (fragmentOffset (fragmentField s) ≡ 0 → ⊥) → fieldsOf s .transport ≡ hidden
 unfolding fieldsOf transportOctets
-later-hidden s later = rw (later-not-found (headerWords s) (fragmentOffset s) later) (no-octets (protocol s))
+later-hidden s later = rw (later-not-found (headerWords s) (fragmentOffset (fragmentField s)) later) (no-octets (protocol s))
 
 -- a later fragment meets no rule with a port, ICMP or flags component, whatever its operators
-pub later-fragment : (family : Family) (value s : List ℕ) (packet : Packet) → packetOf s ≡ Usable packet → (fragmentOffset s ≡ 0 → ⊥)
+pub later-fragment : (family : Family) (value s : List ℕ) (packet : Packet) → packetOf s ≡ Usable packet → (fragmentOffset (fragmentField s) ≡ 0 → ⊥)
     → oneHolds asksTransport (components family value) ≡ true → matches family value packet ≡ false
 later-fragment family value s packet seen later asks =
     never-met packet (ap (λ (p : Packet). p .transport) (usable-fields s packet seen) ∙ later-hidden s later) family value asks

@@ -1,9 +1,9 @@
 -- The IPv4 header (RFC 791) at the front of a packet's octets: the fields that rules and 01 speak of, when octets are unusable as a
 -- packet, and the fragment component's data. An octet that is not there counts as 0.
-use Prim.Native.Nat.{ℕ, _*_, _/_}
+use Prim.Native.Nat.{ℕ, _+_, _*_, _/_}
 use mathlib.Core.Bool.{Bool, not, _&&_, _||_}
 use mathlib.Core.List.{List}
-use lib.Bits.{bitAnd, bitOr}
+use lib.Bits.{bitAnd}
 use lib.Dec.{ltb, eqb}
 use lib.ListN.{length, getD}
 use Rattle.octets.specs.Number.{numberAt}
@@ -25,13 +25,21 @@ dscp s = getD s 1 0 / 4
 abbrev pub totalLength : List ℕ → ℕ
 totalLength s = numberAt 2 s 2
 
--- Three flags, of which DF is 0x4000 and MF 0x2000, and the fragment offset in the bits below them.
+-- Three flags and, in the bits below them, the fragment offset.
 abbrev pub fragmentField : List ℕ → ℕ
 fragmentField s = numberAt 2 s 6
 
+-- DF, "don't fragment".
+abbrev pub dontFragment : ℕ → Bool
+dontFragment field = has field 0x4000
+
+-- MF, "more fragments".
+abbrev pub moreFragments : ℕ → Bool
+moreFragments field = has field 0x2000
+
 -- Where a fragment belongs in its datagram; the first fragment, and a datagram that is whole, has 0.
-abbrev pub fragmentOffset : List ℕ → ℕ
-fragmentOffset s = bitAnd (fragmentField s) 0x1fff
+abbrev pub fragmentOffset : ℕ → ℕ
+fragmentOffset field = bitAnd field 0x1fff
 
 -- The protocol of what follows the header: 1 is ICMP, 6 TCP, 17 UDP.
 abbrev pub protocol : List ℕ → ℕ
@@ -54,6 +62,8 @@ isUnusable s =
 -- Section 4.2.2.12, and 01: "0x01 DF, 0x02 offset not 0, 0x04 offset 0 and MF, 0x08 offset not 0 and MF clear".
 unfoldable pub fragmentData : ℕ → ℕ
 fragmentData field =
-    let later = has field 0x1fff in
-    let more = has field 0x2000 in
-    bitOr (bitOr (bitOr (bitIf (has field 0x4000) 0x01) (bitIf later 0x02)) (bitIf (not later && more) 0x04)) (bitIf (later && not more) 0x08)
+    let first = eqb (fragmentOffset field) 0 in
+    bitIf (dontFragment field) 0x01
+    + bitIf (not first) 0x02
+    + bitIf (first && moreFragments field) 0x04
+    + bitIf (not first && not (moreFragments field)) 0x08

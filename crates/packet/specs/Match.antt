@@ -1,11 +1,11 @@
 -- Whether a packet matches a rule (RFC 8955 section 4.2): when it matches each of the rule's components. A prefix is matched
 -- by an address that it contains, a list of pairs by a field of the packet; a field that the packet hides matches no list.
 use Prim.Native.Nat.{ℕ}
-use mathlib.Core.Bool.{Bool, false, cond, _||_}
-use mathlib.Core.List.{List}
+use mathlib.Core.Bool.{Bool, false, cond}
+use mathlib.Core.List.{List, [], _∷_}
 use lib.Bits.{bitAnd}
 use lib.Dec.{eqb}
-use Rattle.octets.specs.Test.{every}
+use Rattle.octets.specs.Test.{every, oneHolds}
 use Rattle.prefix.specs.Prefix.{contains, prefixOf}
 use Rattle.rule.specs.declared.Family.{Family}
 use Rattle.rule.specs.Operator.{sizeOf, isBitmask}
@@ -15,7 +15,6 @@ use Rattle.rule.specs.Plain.{plainOperand}
 use Rattle.packet.specs.declared.Field.{Field}
 use Rattle.packet.specs.declared.Field.the-variants.{Shown, Hidden}
 use Rattle.packet.specs.declared.Packet.{Packet}
-use Rattle.packet.specs.declared.Transport.{Transport}
 use Rattle.packet.specs.Operator.{numericHolds, bitmaskHolds}
 use Rattle.packet.specs.PairList.{listHolds}
 
@@ -45,34 +44,35 @@ unfoldable pub fieldMatches : ℕ → List ℕ → Field → Bool
 fieldMatches kind body (Shown «data») = bodyHolds kind body «data»
 fieldMatches kind body Hidden = false
 
--- The field that a list of the given type is judged on, in the order of sections 4.2.2.3 to 4.2.2.12.
-unfoldable pub fieldFor : ℕ → Packet → Field
-fieldFor kind packet =
-    cond (eqb kind 3) (Shown (packet .protocol))
-    (cond (eqb kind 5) (packet .transport .«destination_port»)
-    (cond (eqb kind 6) (packet .transport .«source_port»)
-    (cond (eqb kind 7) (packet .transport .«icmp_type»)
-    (cond (eqb kind 8) (packet .transport .«icmp_code»)
-    (cond (eqb kind 9) (packet .transport .flags)
-    (cond (eqb kind 10) (Shown (packet .length))
-    (cond (eqb kind 11) (Shown (packet .dscp))
-    (cond (eqb kind 12) (Shown (packet .fragment)) Hidden))))))))
+-- What a type that has no row here is judged on: no field, so that it matches no packet. No component of a rule comes to it.
+abbrev pub noField : List Field
+noField = []
+
+-- The fields that a list of the given type is judged on, in the order of sections 4.2.2.3 to 4.2.2.12; one of them must match. 01: "For
+-- type 4 the whole list is judged on one port, then on the other."
+unfoldable pub fieldsFor : ℕ → Packet → List Field
+fieldsFor kind packet =
+    cond (eqb kind 3) (packet .protocol ∷ [])
+    (cond (eqb kind 4) (packet .transport .«source_port» ∷ packet .transport .«destination_port» ∷ [])
+    (cond (eqb kind 5) (packet .transport .«destination_port» ∷ [])
+    (cond (eqb kind 6) (packet .transport .«source_port» ∷ [])
+    (cond (eqb kind 7) (packet .transport .«icmp_type» ∷ [])
+    (cond (eqb kind 8) (packet .transport .«icmp_code» ∷ [])
+    (cond (eqb kind 9) (packet .transport .flags ∷ [])
+    (cond (eqb kind 10) (Shown (packet .length) ∷ [])
+    (cond (eqb kind 11) (Shown (packet .dscp) ∷ [])
+    (cond (eqb kind 12) (Shown (packet .fragment) ∷ []) noField)))))))))
 
 -- Whether the prefix that a body spells contains an address of w bits.
 unfoldable pub coversAddress : ℕ → List ℕ → ℕ → Bool
 coversAddress w body address = contains w (prefixOf w body) (record { length = w; address = address })
 
--- 01: "For type 4 the whole list is judged on one port, then on the other."
-unfoldable pub eitherPort : List ℕ → Transport → Bool
-eitherPort body transport = fieldMatches 4 body (transport .«source_port») || fieldMatches 4 body (transport .«destination_port»)
-
--- Whether a packet matches a component.
+-- Whether a packet matches a component: types 1 (destination) and 2 (source) by an address, every other by a field.
 unfoldable pub componentMatches : Packet → Component → Bool
 componentMatches packet component =
     cond (eqb (component .kind) 1) (coversAddress 32 (component .body) (packet .destination))
     (cond (eqb (component .kind) 2) (coversAddress 32 (component .body) (packet .source))
-    (cond (eqb (component .kind) 4) (eitherPort (component .body) (packet .transport))
-    (fieldMatches (component .kind) (component .body) (fieldFor (component .kind) packet))))
+    (oneHolds (fieldMatches (component .kind) (component .body)) (fieldsFor (component .kind) packet)))
 
 -- Section 4.2: a packet matches a rule where it matches all components of the rule's value.
 unfoldable pub matches : Family → List ℕ → Packet → Bool

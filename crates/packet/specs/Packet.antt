@@ -2,6 +2,7 @@
 use Prim.Native.Nat.{ℕ}
 use mathlib.Core.Bool.{cond}
 use mathlib.Core.List.{List}
+use Rattle.packet.specs.declared.Field.the-variants.{Shown}
 use Rattle.packet.specs.declared.Packet.{Packet}
 use Rattle.packet.specs.declared.Sight.{Sight}
 use Rattle.packet.specs.declared.Sight.the-variants.{Usable, Unusable}
@@ -14,7 +15,7 @@ fieldsOf s =
     record {
       destination = destination s;
       source = source s;
-      protocol = protocol s;
+      protocol = Shown (protocol s);
       length = totalLength s;
       dscp = dscp s;
       fragment = fragmentData (fragmentField s);

@@ -10,7 +10,7 @@ ghost use Rattle.packet.specs.Transport.{transportFound, transportOctets
 ghost use Rattle.packet.specs.Packet.{packetOf};
 ghost use Rattle.packet.specs.Operator.{numericHolds, bitmaskHolds};
 ghost use Rattle.packet.specs.Judging.{withPair, judgePair};
-ghost use Rattle.packet.specs.Match.{dataFor, holdsFor, bodyHolds, fieldMatches, fieldFor, coversAddress, eitherPort, componentMatches, matches};
+ghost use Rattle.packet.specs.Match.{dataFor, holdsFor, bodyHolds, fieldMatches, coversAddress, componentMatches, matches};
 use octets::bit_if;
 use octets::least;
 use octets::number_at;
@@ -24,7 +24,7 @@ use rule::NextPair;
 
 // A field of a packet: its number, or nothing where the packet does not show it.
 pub enum Field {
-    Shown(u16),
+    Shown(u32),
     Hidden,
 }
 
@@ -41,8 +41,8 @@ pub struct Transport {
 pub struct Packet {
     pub destination: u32,
     pub source: u32,
-    pub protocol: u8,
-    pub length: u16,
+    pub protocol: Field,
+    pub length: u32,
     pub dscp: u8,
     pub fragment: u8,
     pub transport: Transport,
@@ -87,12 +87,13 @@ fn is_unusable(octets: &[u8]) -> bool
 fn fragment_data(field: u64) -> u8
     ensures { λ r. ⌜ r ≡ fragmentData field ⌝ }
 {
-    let whole = field & 0x4000 != 0;
-    let later = field & 0x1fff != 0;
+    let first = field & 0x1fff == 0;
+    let whole = bit_if(field & 0x4000 != 0, 0x01);
+    let later = bit_if(!first, 0x02);
     let more = field & 0x2000 != 0;
-    let first = !later & more;
-    let last = later & !more;
-    bit_if(whole, 0x01) | bit_if(later, 0x02) | bit_if(first, 0x04) | bit_if(last, 0x08)
+    let begins = bit_if(first & more, 0x04);
+    let ends = bit_if(!first & !more, 0x08);
+    whole + later + begins + ends
 }
 
 // Whether the transport header is found, behind a header of so many words and at this fragment offset.
@@ -122,7 +123,7 @@ fn transport_octets(octets: &[u8]) -> &[u8]
 }
 
 // A field that is shown where a test holds.
-fn shown_if(holds: bool, number: u16) -> Field
+fn shown_if(holds: bool, number: u32) -> Field
     ensures { λ r. ⌜ r ≡ shownIf holds number ⌝ }
 {
     if holds {
@@ -159,12 +160,12 @@ fn transport_fields(protocol: u8, octets: &[u8]) -> Transport
     let ports = has_ports(protocol, octets.len());
     let icmp = has_icmp(protocol, octets.len());
     let control = has_flags(protocol, octets.len());
-    let flags = number_at(2, octets, 12) as u16;
+    let flags = number_at(2, octets, 12) as u32;
     Transport {
-        source_port: shown_if(ports, number_at(2, octets, 0) as u16),
-        destination_port: shown_if(ports, number_at(2, octets, 2) as u16),
-        icmp_type: shown_if(icmp, octet_at(octets, 0) as u16),
-        icmp_code: shown_if(icmp, octet_at(octets, 1) as u16),
+        source_port: shown_if(ports, number_at(2, octets, 0) as u32),
+        destination_port: shown_if(ports, number_at(2, octets, 2) as u32),
+        icmp_type: shown_if(icmp, octet_at(octets, 0) as u32),
+        icmp_code: shown_if(icmp, octet_at(octets, 1) as u32),
         flags: shown_if(control, flags & 0x0fff),
     }
 }
@@ -181,8 +182,8 @@ pub fn packet_of(octets: &[u8]) -> Sight
     Sight::Usable(Packet {
         destination: number_at(4, octets, 16) as u32,
         source: number_at(4, octets, 12) as u32,
-        protocol,
-        length: number_at(2, octets, 2) as u16,
+        protocol: Field::Shown(protocol as u32),
+        length: number_at(2, octets, 2) as u32,
         dscp: octet_at(octets, 1) >> 2,
         fragment: fragment_data(number_at(2, octets, 6)),
         transport,
@@ -315,25 +316,6 @@ fn field_matches(kind: u8, body: &[u8], field: Field) -> bool
     }
 }
 
-// The field that a list of the given type is judged on.
-fn field_for(kind: u8, packet: Packet) -> Field
-    ensures { λ r. ⌜ r ≡ fieldFor kind packet ⌝ }
-{
-    let transport = packet.transport;
-    match kind {
-        3 => Field::Shown(packet.protocol as u16),
-        5 => transport.destination_port,
-        6 => transport.source_port,
-        7 => transport.icmp_type,
-        8 => transport.icmp_code,
-        9 => transport.flags,
-        10 => Field::Shown(packet.length),
-        11 => Field::Shown(packet.dscp as u16),
-        12 => Field::Shown(packet.fragment as u16),
-        _ => Field::Hidden,
-    }
-}
-
 // Whether the prefix that a body spells contains an address.
 fn covers_address(body: &[u8], address: u32) -> bool
     ensures { λ r. ⌜ r ≡ coversAddress 32 (now (body .entry)) address ⌝ }
@@ -346,26 +328,32 @@ fn covers_address(body: &[u8], address: u32) -> bool
     prefix::contains_prefix(outer, inner)
 }
 
-// Whether a port list holds of one port or of the other, each judged by the whole list.
-fn either_port(body: &[u8], transport: Transport) -> bool
-    ensures { λ r. ⌜ r ≡ eitherPort (now (body .entry)) transport ⌝ }
-{
-    let source_port = transport.source_port;
-    let destination_port = transport.destination_port;
-    let source = field_matches(4, body, source_port);
-    let destination = field_matches(4, body, destination_port);
-    source | destination
-}
-
-// Whether a packet matches a component, given by its type and body.
+// Whether a packet matches a component, given by its type and body: each type has its rule.
 fn matches_component(kind: u8, body: &[u8], packet: Packet) -> bool
     ensures { λ r. ⌜ r ≡ componentMatches packet (component kind (now (body .entry))) ⌝ }
 {
+    let protocol = packet.protocol;
+    let transport = packet.transport;
+    let source_port = transport.source_port;
+    let destination_port = transport.destination_port;
+    let icmp_type = transport.icmp_type;
+    let icmp_code = transport.icmp_code;
+    let flags = transport.flags;
     match kind {
         1 => covers_address(body, packet.destination),
         2 => covers_address(body, packet.source),
-        4 => either_port(body, packet.transport),
-        _ => field_matches(kind, body, field_for(kind, packet)),
+        3 => field_matches(kind, body, protocol),
+        4 => field_matches(kind, body, source_port) | field_matches(kind, body, destination_port),
+        5 => field_matches(kind, body, destination_port),
+        6 => field_matches(kind, body, source_port),
+        7 => field_matches(kind, body, icmp_type),
+        8 => field_matches(kind, body, icmp_code),
+        9 => field_matches(kind, body, flags),
+        10 => list_holds(kind, body, packet.length as u64),
+        11 => list_holds(kind, body, packet.dscp as u64),
+        12 => list_holds(kind, body, packet.fragment as u64),
+        // No component of a rule has another type.
+        _ => false,
     }
 }
 

@@ -1,6 +1,8 @@
--- Each type has its rule; a type with one field is judged on that field.
-use Rattle.packet.specs.Match.{componentMatches}
-use Rattle.packet.proofs.MatchLaws.{on-field}
+-- Each return is a row of the definition: an address, one field, either port, a number that every packet shows, or nothing.
+use mathlib.Core.Path.{refl}
+use Rattle.octets.specs.Test.{oneHolds}
+use Rattle.packet.specs.Match.{fieldMatches, fieldsFor, componentMatches}
+use Rattle.packet.proofs.MatchLaws.{on-address, on-field, on-either, on-number, on-nothing}
 use borrow.Author.Needs.{needs}
 use Rattle.packet.proofs.matches_component.Statement.{statement}
 use Rattle.packet.proofs.matches_component.Tie as tie
@@ -11,29 +13,98 @@ covers-address-requires c κs = search needs
 covers-address-requires-2 : tie.Need-covers-address-requires-2
 covers-address-requires-2 c κs = search needs
 
-either-port-requires : tie.Need-either-port-requires
-either-port-requires c κs = search needs
-
-field-for-requires : tie.Need-field-for-requires
-field-for-requires c κs = search needs
-
 field-matches-requires : tie.Need-field-matches-requires
 field-matches-requires c κs = search needs
 
+field-matches-requires-2 : tie.Need-field-matches-requires-2
+field-matches-requires-2 c κs = search needs
+
+field-matches-requires-3 : tie.Need-field-matches-requires-3
+field-matches-requires-3 c κs = search needs
+
+field-matches-requires-4 : tie.Need-field-matches-requires-4
+field-matches-requires-4 c κs = search needs
+
+field-matches-requires-5 : tie.Need-field-matches-requires-5
+field-matches-requires-5 c κs = search needs
+
+field-matches-requires-6 : tie.Need-field-matches-requires-6
+field-matches-requires-6 c κs = search needs
+
+field-matches-requires-7 : tie.Need-field-matches-requires-7
+field-matches-requires-7 c κs = search needs
+
+field-matches-requires-8 : tie.Need-field-matches-requires-8
+field-matches-requires-8 c κs = search needs
+
+cast-list-holds : tie.Need-cast-list-holds
+cast-list-holds c = search needs
+
+list-holds-requires : tie.Need-list-holds-requires
+list-holds-requires c κs = search needs
+
+cast-list-holds-2 : tie.Need-cast-list-holds-2
+cast-list-holds-2 c = search needs
+
+list-holds-requires-2 : tie.Need-list-holds-requires-2
+list-holds-requires-2 c κs = search needs
+
+cast-list-holds-3 : tie.Need-cast-list-holds-3
+cast-list-holds-3 c = search needs
+
+list-holds-requires-3 : tie.Need-list-holds-requires-3
+list-holds-requires-3 c κs = search needs
+
 returns : tie.Need-returns
 unfolding componentMatches
-returns c = rw (c .before .match .keys1) (c .covers-address .ensures)
+returns c = on-address _ _ _ 1 (c .before .match .keys1) _ _ _ refl (c .covers-address .ensures)
 
 returns-2 : tie.Need-returns-2
 unfolding componentMatches
-returns-2 c = rw (c .before .match .keys2) (c .covers-address2 .ensures)
+returns-2 c = on-address _ _ _ 2 (c .before .match .keys2) _ _ _ refl (c .covers-address2 .ensures)
 
 returns-3 : tie.Need-returns-3
-unfolding componentMatches
-returns-3 c = rw (c .before .match .keys3) (c .either-port .ensures)
+unfolding componentMatches fieldsFor oneHolds
+returns-3 c = on-field _ _ _ 3 (c .before .match .keys3) _ _ refl (c .field-matches .ensures)
 
 returns-4 : tie.Need-returns-4
-returns-4 c = search (on-field, needs)
+unfolding componentMatches fieldsFor oneHolds
+returns-4 c = on-either _ _ _ 4 (c .before .before .match .keys4) _ _ _ _ refl (c .before .field-matches2 .ensures) (c .field-matches3 .ensures)
+
+returns-5 : tie.Need-returns-5
+unfolding componentMatches fieldsFor oneHolds
+returns-5 c = on-field _ _ _ 5 (c .before .match .keys5) _ _ refl (c .field-matches4 .ensures)
+
+returns-6 : tie.Need-returns-6
+unfolding componentMatches fieldsFor oneHolds
+returns-6 c = on-field _ _ _ 6 (c .before .match .keys6) _ _ refl (c .field-matches5 .ensures)
+
+returns-7 : tie.Need-returns-7
+unfolding componentMatches fieldsFor oneHolds
+returns-7 c = on-field _ _ _ 7 (c .before .match .keys7) _ _ refl (c .field-matches6 .ensures)
+
+returns-8 : tie.Need-returns-8
+unfolding componentMatches fieldsFor oneHolds
+returns-8 c = on-field _ _ _ 8 (c .before .match .keys8) _ _ refl (c .field-matches7 .ensures)
+
+returns-9 : tie.Need-returns-9
+unfolding componentMatches fieldsFor oneHolds
+returns-9 c = on-field _ _ _ 9 (c .before .match .keys9) _ _ refl (c .field-matches8 .ensures)
+
+returns-10 : tie.Need-returns-10
+unfolding componentMatches fieldsFor oneHolds fieldMatches
+returns-10 c = on-number _ _ _ 10 (c .before .before .match .keys10) _ _ refl (c .list-holds .ensures)
+
+returns-11 : tie.Need-returns-11
+unfolding componentMatches fieldsFor oneHolds fieldMatches
+returns-11 c = on-number _ _ _ 11 (c .before .before .match .keys11) _ _ refl (c .list-holds2 .ensures)
+
+returns-12 : tie.Need-returns-12
+unfolding componentMatches fieldsFor oneHolds fieldMatches
+returns-12 c = on-number _ _ _ 12 (c .before .before .match .keys12) _ _ refl (c .list-holds3 .ensures)
+
+returns-13 : tie.Need-returns-13
+returns-13 c = search (on-nothing, needs)
 
 pub matches-component-spec : {M : Type 1} → statement M
 matches-component-spec =
@@ -41,10 +112,30 @@ matches-component-spec =
     (tie.spec
     covers-address-requires
     covers-address-requires-2
-    either-port-requires
-    field-for-requires
     field-matches-requires
+    field-matches-requires-2
+    field-matches-requires-3
+    field-matches-requires-4
+    field-matches-requires-5
+    field-matches-requires-6
+    field-matches-requires-7
+    field-matches-requires-8
+    cast-list-holds
+    list-holds-requires
+    cast-list-holds-2
+    list-holds-requires-2
+    cast-list-holds-3
+    list-holds-requires-3
     returns
     returns-2
     returns-3
-    returns-4)
+    returns-4
+    returns-5
+    returns-6
+    returns-7
+    returns-8
+    returns-9
+    returns-10
+    returns-11
+    returns-12
+    returns-13)

@@ -31,11 +31,14 @@ number-at-requires-2 c κs = search needs
 cast-t9 : tie.Need-cast-t9
 cast-t9 c = search needs
 
+cast-t10 : tie.Need-cast-t10
+cast-t10 c = search needs
+
 number-at-requires-3 : tie.Need-number-at-requires-3
 number-at-requires-3 c κs = search needs
 
-cast-t11 : tie.Need-cast-t11
-cast-t11 c = search needs
+cast-t13 : tie.Need-cast-t13
+cast-t13 c = search needs
 
 octet-at-requires-2 : tie.Need-octet-at-requires-2
 octet-at-requires-2 c κs = search needs
@@ -62,8 +65,9 @@ packet-of-spec =
     cast-t7
     number-at-requires-2
     cast-t9
+    cast-t10
     number-at-requires-3
-    cast-t11
+    cast-t13
     octet-at-requires-2
     number-at-requires-4
     fragment-data-requires
