@@ -1,11 +1,12 @@
 -- Components and rules against a packet: one law for each return of the code and each turn of its loop. Assumes nothing.
 use mathlib.Core.Path.{_≡_, refl, sym, ap, _∙_}
 use mathlib.Core.Bool.{Bool, true, false, not, _&&_, _||_, or-false}
-use mathlib.Core.List.{List}
+use mathlib.Core.List.{List, [], _∷_}
 use Prim.Native.Nat.{ℕ, _+_, _-_, _<_}
 use native.Mathlib.Omega.{arith}
+use lib.Dec.{ltb}
 use lib.ListN.{length, take, drop}
-use borrow.Author.Tests.{ne-eqb, not-true, not-false}
+use borrow.Author.Tests.{ltb-true, ne-eqb, not-true, not-false}
 use Rattle.octets.specs.Test.{every, oneHolds}
 use Rattle.octets.specs.Walk.{Walk}
 use Rattle.prefix.specs.Prefix.{contains, prefixOf}
@@ -38,31 +39,44 @@ pub covered : (body : List ℕ) (address : ℕ) (outer : Prefix) (r : Bool) → 
 unfolding coversAddress
 covered body address outer r e f = rw (← e) f
 
--- how `matches_component` comes to each of its answers: n is the type of a row, at which the definition computes
-module _ (kind : ℕ) (body : List ℕ) (packet : Packet) (n : ℕ) (is : kind ≡ n) where
-  abbrev pub Row : Bool → Type 0
-  Row r = componentMatches packet (component n body) ≡ r
+-- how `matches_component` comes to each of its answers
+module _ (family : Family) (kind : ℕ) (body : List ℕ) (packet : Packet) where
+  pub on-destination : (r : Bool) → kind ≡ 1 → r ≡ coversAddress 32 body (packet .destination) → r ≡ componentMatches family packet (component kind body)
+  unfolding componentMatches
+  on-destination r is e = rw is e
 
-  pub on-address : (w address : ℕ) (r : Bool) → Row (coversAddress w body address) → r ≡ coversAddress w body address → r ≡ componentMatches packet (component kind body)
-  on-address w address r row e = rw is (e ∙ sym row)
+  pub on-source : (r : Bool) → kind ≡ 2 → r ≡ coversAddress 32 body (packet .source) → r ≡ componentMatches family packet (component kind body)
+  unfolding componentMatches
+  on-source r is e = rw is e
 
-  pub on-field : (field : Field) (r : Bool) → Row (fieldMatches n body field || false) → r ≡ fieldMatches kind body field
-      → r ≡ componentMatches packet (component kind body)
-  on-field field r row e = rw is (e ∙ rw is (sym (row ∙ or-false (fieldMatches n body field))))
+  -- n is the type of a row of the fields, at which that definition computes
+  module _ (n : ℕ) (is : kind ≡ n) (list : ltb 2 n ≡ true) where
+    one-holds : (fields : List Field) → fieldsFor n packet ≡ fields → componentMatches family packet (component kind body) ≡ oneHolds (fieldMatches kind body) fields
+    unfolding componentMatches
+    one-holds fields row =
+        let above = ltb-true 2 n list in
+        rw (ne-eqb kind 1 (λ e. omega arith), ne-eqb kind 2 (λ e. omega arith), is, row)
 
-  pub on-either : (one other : Field) (a b : Bool) → Row (fieldMatches n body one || (fieldMatches n body other || false))
-      → a ≡ fieldMatches kind body one → b ≡ fieldMatches kind body other → a || b ≡ componentMatches packet (component kind body)
-  on-either one other a b row e f = rw (e, f, is) (sym (row ∙ rw (or-false (fieldMatches n body other))))
+    pub on-field : (field : Field) (r : Bool) → fieldsFor n packet ≡ field ∷ [] → r ≡ fieldMatches kind body field
+        → r ≡ componentMatches family packet (component kind body)
+    unfolding oneHolds
+    on-field field r row e = e ∙ sym (one-holds (field ∷ []) row ∙ or-false (fieldMatches kind body field))
 
-  pub on-number : («data» : ℕ) (r : Bool) → Row (bodyHolds n body «data» || false) → r ≡ bodyHolds kind body «data» → r ≡ componentMatches packet (component kind body)
-  on-number «data» r row e = rw is (e ∙ rw is (sym (row ∙ or-false (bodyHolds n body «data»))))
+    pub on-either : (one other : Field) (a b : Bool) → fieldsFor n packet ≡ one ∷ other ∷ [] → a ≡ fieldMatches kind body one
+        → b ≡ fieldMatches kind body other → a || b ≡ componentMatches family packet (component kind body)
+    unfolding oneHolds
+    on-either one other a b row e f = rw (e, f) (sym (one-holds (one ∷ other ∷ []) row ∙ rw (or-false (fieldMatches kind body other))))
+
+    pub on-number : («data» : ℕ) (r : Bool) → fieldsFor n packet ≡ Shown «data» ∷ [] → r ≡ bodyHolds kind body «data»
+        → r ≡ componentMatches family packet (component kind body)
+    on-number «data» r row e = on-field (Shown «data») r row (shown-matches kind body (Shown «data») «data» r refl e)
 
 -- a type that has no row matches nothing
-pub on-nothing : (kind : ℕ) (body : List ℕ) (packet : Packet) → (kind ≡ 1 → ⊥) → (kind ≡ 2 → ⊥) → (kind ≡ 3 → ⊥) → (kind ≡ 4 → ⊥) → (kind ≡ 5 → ⊥)
+pub on-nothing : (family : Family) (kind : ℕ) (body : List ℕ) (packet : Packet) → (kind ≡ 1 → ⊥) → (kind ≡ 2 → ⊥) → (kind ≡ 3 → ⊥) → (kind ≡ 4 → ⊥) → (kind ≡ 5 → ⊥)
     → (kind ≡ 6 → ⊥) → (kind ≡ 7 → ⊥) → (kind ≡ 8 → ⊥) → (kind ≡ 9 → ⊥) → (kind ≡ 10 → ⊥) → (kind ≡ 11 → ⊥) → (kind ≡ 12 → ⊥)
-    → false ≡ componentMatches packet (component kind body)
+    → false ≡ componentMatches family packet (component kind body)
 unfolding componentMatches fieldsFor oneHolds
-on-nothing kind body packet a b c d e f g h i j k l =
+on-nothing family kind body packet a b c d e f g h i j k l =
     rw (
       ne-eqb kind 1 a,
       ne-eqb kind 2 b,
@@ -81,7 +95,7 @@ on-nothing kind body packet a b c d e f g h i j k l =
 -- how `matches_rule` goes on and comes to each of its answers
 abbrev pub matchesFrom : Family → List ℕ → Packet → ℕ → ℕ → Bool
 matchesFrom family v packet at previous =
-    every (componentMatches packet) (componentsFrom family v (record { at = at; previous = previous }) .items)
+    every (componentMatches family packet) (componentsFrom family v (record { at = at; previous = previous }) .items)
 
 pub from-start : (family : Family) (v : List ℕ) (packet : Packet) → matches family v packet ≡ matchesFrom family v packet 0 0
 unfolding matches components
@@ -90,10 +104,10 @@ from-start family v packet = refl
 module _ (family : Family) (v : List ℕ) (packet : Packet) (at previous : ℕ) (next : Next) (is : next ≡ componentAt family v at previous)
     (so-far : matches family v packet ≡ matchesFrom family v packet at previous) where
   abbrev rest : Walk Component Checked → Bool
-  rest w = every (componentMatches packet) (w .items)
+  rest w = every (componentMatches family packet) (w .items)
 
   module _ (kind behind : ℕ) (r : Bool) (found : next ≡ Another kind behind)
-      (says : r ≡ componentMatches packet (component kind (take (behind - (at + 1)) (drop (at + 1) v)))) where
+      (says : r ≡ componentMatches family packet (component kind (take (behind - (at + 1)) (drop (at + 1) v)))) where
     one-more : matches family v packet ≡ r && matchesFrom family v packet behind kind
     unfolding every
     one-more = so-far ∙ ap rest (components-more family v at previous kind behind (sym is ∙ found)) ∙ rw says

@@ -182,9 +182,9 @@ unfolding oneHolds
 fields-plain kind body o [] = refl
 fields-plain kind body o (field ∷ fields) = rw (field-plain kind body o field, fields-plain kind body o fields)
 
-module _ (packet : Packet) where
+module _ (family : Family) (packet : Packet) where
   -- a component in the plain spelling matches where the component does
-  component-plain : (p : Component) → Octets (p .body) → componentMatches packet (plainComponent p) ≡ componentMatches packet p
+  component-plain : (p : Component) → Octets (p .body) → componentMatches family packet (plainComponent p) ≡ componentMatches family packet p
   unfolding componentMatches bodyOf isPrefix
   component-plain p o =
       let kind = p .kind in
@@ -193,16 +193,16 @@ module _ (packet : Packet) where
       (λ t. by-test (eqb kind 2) (λ u. rw (t, u) (prefix-plain body (packet .source) o))
       (λ u. rw (t, u) (fields-plain kind body o (fieldsFor kind packet))))
 
-  all-plain : (ps : List Component) → Each (λ p. Octets (p .body)) ps → every (componentMatches packet) (map plainComponent ps) ≡ every (componentMatches packet) ps
+  all-plain : (ps : List Component) → Each (λ p. Octets (p .body)) ps → every (componentMatches family packet) (map plainComponent ps) ≡ every (componentMatches family packet) ps
   unfolding every
   all-plain [] o = refl
   all-plain (p ∷ ps) o = rw (component-plain p (o .0), all-plain ps (o .1))
 
   -- a rule in the plain spelling is matched where the rule is, whatever octets its value is
-  pub matches-plain : (family : Family) (v : List ℕ) → Octets v → matches family (plain v) packet ≡ matches family v packet
+  pub matches-plain : (v : List ℕ) → Octets v → matches family (plain v) packet ≡ matches family v packet
   unfolding matches
-  matches-plain family v o = rw (components-plain family v o) (all-plain (components family v) (each-octets family v o))
+  matches-plain v o = rw (components-plain family v o) (all-plain (components family v) (each-octets family v o))
 
   -- values of one plain spelling are matched alike: 01: "Two rules are the same rule when their plain spellings are equal."
-  pub plain-alone : (family : Family) (v w : List ℕ) → Octets v → Octets w → plain v ≡ plain w → matches family v packet ≡ matches family w packet
-  plain-alone family v w o q e = sym (matches-plain family v o) ∙ ap (λ (x : List ℕ). matches family x packet) e ∙ matches-plain family w q
+  pub plain-alone : (v w : List ℕ) → Octets v → Octets w → plain v ≡ plain w → matches family v packet ≡ matches family w packet
+  plain-alone v w o q e = sym (matches-plain v o) ∙ ap (λ (x : List ℕ). matches family x packet) e ∙ matches-plain w q

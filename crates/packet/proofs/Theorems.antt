@@ -54,13 +54,13 @@ abbrev pub asksTransport : Component → Bool
 asksTransport component = leb 4 (component .kind) && leb (component .kind) 9
 
 -- no octets show nothing, whatever the protocol
-no-octets : (protocol : ℕ) → transportFields protocol [] ≡ hidden
+no-octets : (family : Family) (protocol : ℕ) → transportFields family protocol [] ≡ hidden
 unfolding transportFields
-no-octets protocol = simp and-false
+no-octets family protocol = simp and-false
 
 -- a component that asks for a hidden transport header never matches
-module _ (packet : Packet) (shows : packet .transport ≡ hidden) where
-  pub never-matches : (component : Component) → asksTransport component ≡ true → componentMatches packet component ≡ false
+module _ (family : Family) (packet : Packet) (shows : packet .transport ≡ hidden) where
+  pub never-matches : (component : Component) → asksTransport component ≡ true → componentMatches family packet component ≡ false
   unfolding componentMatches fieldsFor fieldMatches oneHolds
   never-matches component asks =
       let kind = component .kind in
@@ -81,41 +81,41 @@ module _ (packet : Packet) (shows : packet .transport ≡ hidden) where
       let nine : kind ≡ 9 = omega arith in
       rw (nine, shows))))))
 
-  one-fails : (components : List Component) → oneHolds asksTransport components ≡ true → every (componentMatches packet) components ≡ false
+  one-fails : (components : List Component) → oneHolds asksTransport components ≡ true → every (componentMatches family packet) components ≡ false
   unfolding every oneHolds
   one-fails [] h = apart (cc)
   one-fails (c ∷ cs) h =
       by-test (asksTransport c) (λ t. rw (never-matches c t))
-      (λ t. rw (one-fails cs (rw t at h), and-false (componentMatches packet c)))
+      (λ t. rw (one-fails cs (rw t at h), and-false (componentMatches family packet c)))
 
-  pub never-met : (family : Family) (value : List ℕ) → oneHolds asksTransport (components family value) ≡ true → matches family value packet ≡ false
+  pub never-met : (value : List ℕ) → oneHolds asksTransport (components family value) ≡ true → matches family value packet ≡ false
   unfolding matches
-  never-met family value = one-fails (components family value)
+  never-met value = one-fails (components family value)
 
 -- a usable packet shows the fields of its octets
-pub usable-fields : (s : List ℕ) (packet : Packet) → packetOf s ≡ Usable packet → packet ≡ fieldsOf s
+pub usable-fields : (family : Family) (s : List ℕ) (packet : Packet) → packetOf family s ≡ Usable packet → packet ≡ fieldsOf family s
 unfolding packetOf
-usable-fields s packet e =
-    by-test (isUnusable s)
+usable-fields family s packet e =
+    by-test (isUnusable family s)
     (λ t. let z : Unusable ≡ Usable packet = rw t at e in apart (cc))
-    (λ t. let z : Usable (fieldsOf s) ≡ Usable packet = rw t at e in cc)
+    (λ t. let z : Usable (fieldsOf family s) ≡ Usable packet = rw t at e in cc)
 
 -- octets are refused as a packet exactly where they are unusable
-pub unusable-exactly : (s : List ℕ) → (packetOf s ≡ Unusable) ↔ (isUnusable s ≡ true)
+pub unusable-exactly : (family : Family) (s : List ℕ) → (packetOf family s ≡ Unusable) ↔ (isUnusable family s ≡ true)
 unfolding packetOf
-unusable-exactly s =
-    by-test (isUnusable s) (λ t. (λ e. t, λ u. rw t)) (λ t. (λ e. let z : Usable (fieldsOf s) ≡ Unusable = rw t at e in apart (cc), λ u. apart (cc)))
+unusable-exactly family s =
+    by-test (isUnusable family s) (λ t. (λ e. t, λ u. rw t)) (λ t. (λ e. let z : Usable (fieldsOf family s) ≡ Unusable = rw t at e in apart (cc), λ u. apart (cc)))
 
 -- a later fragment shows no transport header
-pub later-hidden : (s : List ℕ) → (fragmentOffset (fragmentField s) ≡ 0 → ⊥) → fieldsOf s .transport ≡ hidden
+pub later-hidden : (family : Family) (s : List ℕ) → (fragmentOffset (fragmentField s) ≡ 0 → ⊥) → fieldsOf family s .transport ≡ hidden
 unfolding fieldsOf transportOctets
-later-hidden s later = rw (later-not-found (headerWords s) (fragmentOffset (fragmentField s)) later) (no-octets (protocol s))
+later-hidden family s later = rw (later-not-found (headerWords s) (fragmentOffset (fragmentField s)) later) (no-octets family (protocol s))
 
 -- a later fragment meets no rule with a port, ICMP or flags component, whatever its operators
-pub later-fragment : (family : Family) (value s : List ℕ) (packet : Packet) → packetOf s ≡ Usable packet → (fragmentOffset (fragmentField s) ≡ 0 → ⊥)
+pub later-fragment : (family : Family) (value s : List ℕ) (packet : Packet) → packetOf family s ≡ Usable packet → (fragmentOffset (fragmentField s) ≡ 0 → ⊥)
     → oneHolds asksTransport (components family value) ≡ true → matches family value packet ≡ false
 later-fragment family value s packet seen later asks =
-    never-met packet (ap (λ (p : Packet). p .transport) (usable-fields s packet seen) ∙ later-hidden s later) family value asks
+    never-met family packet (ap (λ (p : Packet). p .transport) (usable-fields family s packet seen) ∙ later-hidden family s later) value asks
 
 -- section 4.2.1.1: the AND bit of the first operator is treated as unset, so pairs that test alike begin a list alike
 pub first-and : (test : Pair → Bool) (p q : Pair) (ps : List Pair) → test p ≡ test q → listHolds test (p ∷ ps) ≡ listHolds test (q ∷ ps)

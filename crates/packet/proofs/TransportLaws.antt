@@ -8,6 +8,7 @@ use lib.Bits.{bitAnd}
 use lib.ListN.{length, getD, take, drop}
 use borrow.Author.Tests.{ne-eqb, not-true, not-false}
 use Rattle.octets.specs.Number.{numberAt}
+use Rattle.rule.specs.declared.Family.{Family}
 use Rattle.packet.specs.declared.Field.{Field}
 use Rattle.packet.specs.Transport.{transportFound, transportOctets, shownIf, hasPorts, hasIcmp, hasFlags, transportFields}
 
@@ -35,11 +36,11 @@ module _ (s : List ℕ) (first field : ℕ) (found : Bool) (is : first ≡ getD 
     found-none h = empty s end end (omega arith) ∙ sym (empty s (4 * bitAnd first 15) end (omega arith)) ∙ found-octets
 
 -- the fields are what the calls answer
-pub fields-shown : (protocol : ℕ) (t : List ℕ) (ports icmp control : Bool) (a b c d e : ℕ) (source destination kind code flags : Field)
-    → ports ≡ hasPorts protocol (length t) → icmp ≡ hasIcmp protocol (length t) → control ≡ hasFlags protocol (length t)
+pub fields-shown : (family : Family) (protocol : ℕ) (t : List ℕ) (ports icmp control : Bool) (a b c d e : ℕ) (source destination kind code flags : Field)
+    → ports ≡ hasPorts protocol (length t) → icmp ≡ hasIcmp family protocol (length t) → control ≡ hasFlags protocol (length t)
     → a ≡ numberAt 2 t 0 → b ≡ numberAt 2 t 2 → c ≡ getD t 0 0 → d ≡ getD t 1 0 → e ≡ numberAt 2 t 12
     → source ≡ shownIf ports a → destination ≡ shownIf ports b → kind ≡ shownIf icmp c → code ≡ shownIf icmp d → flags ≡ shownIf control (bitAnd e 4095)
-    → record { «source_port» = source; «destination_port» = destination; «icmp_type» = kind; «icmp_code» = code; flags = flags } ≡ transportFields protocol t
+    → record { «source_port» = source; «destination_port» = destination; «icmp_type» = kind; «icmp_code» = code; flags = flags } ≡ transportFields family protocol t
 unfolding transportFields
-fields-shown protocol t ports icmp control a b c d e source destination kind code flags p i f a′ b′ c′ d′ e′ s1 s2 s3 s4 s5 =
+fields-shown family protocol t ports icmp control a b c d e source destination kind code flags p i f a′ b′ c′ d′ e′ s1 s2 s3 s4 s5 =
     rw (s1, s2, s3, s4, s5, p, i, f, a′, b′, c′, d′, e′)

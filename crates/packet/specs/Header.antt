@@ -8,8 +8,9 @@ use lib.Dec.{ltb, eqb}
 use lib.ListN.{length, getD}
 use Rattle.octets.specs.Number.{numberAt}
 use Rattle.octets.specs.Bit.{has, bitIf}
+use Rattle.rule.specs.declared.Family.{Family}
 
--- The version, 4 for IPv4.
+-- The version of IP.
 abbrev pub version : List ℕ → ℕ
 version s = getD s 0 0 / 16
 
@@ -55,9 +56,9 @@ destination s = numberAt 4 s 16
 
 -- 01: "A packet is 12 if under 20 octets are lent, version is not 4, header length is not 5 to 15 words, or total length is below the
 -- header length."
-unfoldable pub isUnusable : List ℕ → Bool
-isUnusable s =
-    ltb (length s) 20 || not (eqb (version s) 4) || ltb (headerWords s) 5 || ltb (totalLength s) (4 * headerWords s)
+unfoldable pub isUnusable : Family → List ℕ → Bool
+isUnusable family s =
+    ltb (length s) 20 || not (eqb (version s) (family .version)) || ltb (headerWords s) 5 || ltb (totalLength s) (4 * headerWords s)
 
 -- Section 4.2.2.12, and 01: "0x01 DF, 0x02 offset not 0, 0x04 offset 0 and MF, 0x08 offset not 0 and MF clear".
 unfoldable pub fragmentData : ℕ → ℕ

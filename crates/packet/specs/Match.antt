@@ -68,12 +68,12 @@ unfoldable pub coversAddress : ℕ → List ℕ → ℕ → Bool
 coversAddress w body address = contains w (prefixOf w body) (record { length = w; address = address })
 
 -- Whether a packet matches a component: types 1 (destination) and 2 (source) by an address, every other by a field.
-unfoldable pub componentMatches : Packet → Component → Bool
-componentMatches packet component =
+unfoldable pub componentMatches : Family → Packet → Component → Bool
+componentMatches family packet component =
     cond (eqb (component .kind) 1) (coversAddress 32 (component .body) (packet .destination))
     (cond (eqb (component .kind) 2) (coversAddress 32 (component .body) (packet .source))
     (oneHolds (fieldMatches (component .kind) (component .body)) (fieldsFor (component .kind) packet)))
 
 -- Section 4.2: a packet matches a rule where it matches all components of the rule's value.
 unfoldable pub matches : Family → List ℕ → Packet → Bool
-matches family value packet = every (componentMatches packet) (components family value)
+matches family value packet = every (componentMatches family packet) (components family value)

@@ -2,6 +2,7 @@
 use Prim.Native.Nat.{ℕ}
 use mathlib.Core.Bool.{cond}
 use mathlib.Core.List.{List}
+use Rattle.rule.specs.declared.Family.{Family}
 use Rattle.packet.specs.declared.Field.the-variants.{Shown}
 use Rattle.packet.specs.declared.Packet.{Packet}
 use Rattle.packet.specs.declared.Sight.{Sight}
@@ -10,8 +11,8 @@ use Rattle.packet.specs.Header.{isUnusable, destination, source, protoco
 use Rattle.packet.specs.Transport.{transportOctets, transportFields}
 
 -- The fields of a usable packet. 01: "Length data is the total length field".
-unfoldable pub fieldsOf : List ℕ → Packet
-fieldsOf s =
+unfoldable pub fieldsOf : Family → List ℕ → Packet
+fieldsOf family s =
     record {
       destination = destination s;
       source = source s;
@@ -19,9 +20,9 @@ fieldsOf s =
       length = totalLength s;
       dscp = dscp s;
       fragment = fragmentData (fragmentField s);
-      transport = transportFields (protocol s) (transportOctets s);
+      transport = transportFields family (protocol s) (transportOctets s);
     }
 
 -- What octets show as a packet.
-unfoldable pub packetOf : List ℕ → Sight
-packetOf s = cond (isUnusable s) Unusable (Usable (fieldsOf s))
+unfoldable pub packetOf : Family → List ℕ → Sight
+packetOf family s = cond (isUnusable family s) Unusable (Usable (fieldsOf family s))

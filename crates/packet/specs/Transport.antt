@@ -7,6 +7,7 @@ use lib.Bits.{bitAnd}
 use lib.Dec.{leb, eqb}
 use lib.ListN.{length, getD}
 use Rattle.octets.specs.Number.{numberAt}
+use Rattle.rule.specs.declared.Family.{Family}
 use Rattle.rule.specs.Value.{between}
 use Rattle.packet.specs.declared.Field.{Field}
 use Rattle.packet.specs.declared.Field.the-variants.{Shown, Hidden}
@@ -26,9 +27,9 @@ transportOctets s =
 abbrev pub hasPorts : ℕ → ℕ → Bool
 hasPorts protocol there = (eqb protocol 6 || eqb protocol 17) && leb 4 there
 
--- 01: "ICMP needs protocol 1 and 2 octets".
-abbrev pub hasIcmp : ℕ → ℕ → Bool
-hasIcmp protocol there = eqb protocol 1 && leb 2 there
+-- 01: "ICMP needs protocol 1 and 2 octets"; 1 is ICMP's number in IPv4.
+abbrev pub hasIcmp : Family → ℕ → ℕ → Bool
+hasIcmp family protocol there = eqb protocol (family .icmp) && leb 2 there
 
 -- 01: "flags need protocol 6 and 14 octets".
 abbrev pub hasFlags : ℕ → ℕ → Bool
@@ -39,12 +40,12 @@ abbrev pub shownIf : Bool → ℕ → Field
 shownIf holds number = cond holds (Shown number) Hidden
 
 -- The fields that transport octets show. Flags are in their two-octet form, 01: "octets 12 and 13 with the top four bits as 0".
-unfoldable pub transportFields : ℕ → List ℕ → Transport
-transportFields protocol t =
+unfoldable pub transportFields : Family → ℕ → List ℕ → Transport
+transportFields family protocol t =
     record {
       «source_port» = shownIf (hasPorts protocol (length t)) (numberAt 2 t 0);
       «destination_port» = shownIf (hasPorts protocol (length t)) (numberAt 2 t 2);
-      «icmp_type» = shownIf (hasIcmp protocol (length t)) (getD t 0 0);
-      «icmp_code» = shownIf (hasIcmp protocol (length t)) (getD t 1 0);
+      «icmp_type» = shownIf (hasIcmp family protocol (length t)) (getD t 0 0);
+      «icmp_code» = shownIf (hasIcmp family protocol (length t)) (getD t 1 0);
       flags = shownIf (hasFlags protocol (length t)) (bitAnd (numberAt 2 t 12) 0x0fff);
     }

@@ -63,15 +63,15 @@ struct Judged {
 // ---- What a packet shows (section 4.2.2) ----
 
 // Whether octets are unusable as a packet: too few, another version, or lengths that do not agree.
-fn is_unusable(octets: &[u8]) -> bool
-    ensures { λ r. ⌜ r ≡ isUnusable (now (octets .entry)) ⌝ }
+fn is_unusable(family: Family, octets: &[u8]) -> bool
+    ensures { λ r. ⌜ r ≡ isUnusable family (now (octets .entry)) ⌝ }
 {
     if octets.len() < 20 {
         return true;
     }
     let first = octets[0];
     let version = first >> 4;
-    if version != 4 {
+    if version != family.version {
         return true;
     }
     let words = first & 0x0f;
@@ -140,10 +140,10 @@ fn has_ports(protocol: u8, there: usize) -> bool
 }
 
 // Whether ICMP's type and code are shown.
-fn has_icmp(protocol: u8, there: usize) -> bool
-    ensures { λ r. ⌜ r ≡ hasIcmp protocol there ⌝ }
+fn has_icmp(family: Family, protocol: u8, there: usize) -> bool
+    ensures { λ r. ⌜ r ≡ hasIcmp family protocol there ⌝ }
 {
-    (protocol == 1) & (2 <= there)
+    (protocol == family.icmp) & (2 <= there)
 }
 
 // Whether TCP's flags are shown.
@@ -154,11 +154,11 @@ fn has_flags(protocol: u8, there: usize) -> bool
 }
 
 // The fields that transport octets show under a protocol.
-fn transport_fields(protocol: u8, octets: &[u8]) -> Transport
-    ensures { λ r. ⌜ r ≡ transportFields protocol (now (octets .entry)) ⌝ }
+fn transport_fields(family: Family, protocol: u8, octets: &[u8]) -> Transport
+    ensures { λ r. ⌜ r ≡ transportFields family protocol (now (octets .entry)) ⌝ }
 {
     let ports = has_ports(protocol, octets.len());
-    let icmp = has_icmp(protocol, octets.len());
+    let icmp = has_icmp(family, protocol, octets.len());
     let control = has_flags(protocol, octets.len());
     let flags = number_at(2, octets, 12) as u32;
     Transport {
@@ -171,14 +171,14 @@ fn transport_fields(protocol: u8, octets: &[u8]) -> Transport
 }
 
 // What octets show as a packet.
-pub fn packet_of(octets: &[u8]) -> Sight
-    ensures { λ r. ⌜ r ≡ packetOf (now (octets .entry)) ⌝ }
+pub fn packet_of(family: Family, octets: &[u8]) -> Sight
+    ensures { λ r. ⌜ r ≡ packetOf family (now (octets .entry)) ⌝ }
 {
-    if is_unusable(octets) {
+    if is_unusable(family, octets) {
         return Sight::Unusable;
     }
     let protocol = octet_at(octets, 9);
-    let transport = transport_fields(protocol, transport_octets(octets));
+    let transport = transport_fields(family, protocol, transport_octets(octets));
     Sight::Usable(Packet {
         destination: number_at(4, octets, 16) as u32,
         source: number_at(4, octets, 12) as u32,
@@ -329,8 +329,8 @@ fn covers_address(body: &[u8], address: u32) -> bool
 }
 
 // Whether a packet matches a component, given by its type and body: each type has its rule.
-fn matches_component(kind: u8, body: &[u8], packet: Packet) -> bool
-    ensures { λ r. ⌜ r ≡ componentMatches packet (component kind (now (body .entry))) ⌝ }
+fn matches_component(family: Family, kind: u8, body: &[u8], packet: Packet) -> bool
+    ensures { λ r. ⌜ r ≡ componentMatches family packet (component kind (now (body .entry))) ⌝ }
 {
     let protocol = packet.protocol;
     let transport = packet.transport;
@@ -368,7 +368,7 @@ pub fn matches_rule(family: Family, value: &[u8], packet: Packet) -> bool
         match next {
             Next::Another { kind, next } => {
                 let start = at + 1;
-                if !matches_component(kind, &value[start..next], packet) {
+                if !matches_component(family, kind, &value[start..next], packet) {
                     return false;
                 }
                 at = next;

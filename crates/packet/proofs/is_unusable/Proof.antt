@@ -21,10 +21,10 @@ number-at-requires : tie.Need-number-at-requires
 number-at-requires c κs = search needs
 
 cast-header : tie.Need-cast-header
-cast-header c = omega (arith, words-bounded (c .before .before .before .before .before .before .args .octets .now))
+cast-header c = omega (arith, words-bounded (c .before .before .before .before .before .before .before .args .octets .now))
 
 mul-header : tie.Need-mul-header
-mul-header c = omega (arith, words-bounded (c .before .before .before .before .before .before .args .octets .now))
+mul-header c = omega (arith, words-bounded (c .before .before .before .before .before .before .before .args .octets .now))
 
 returns-4 : tie.Need-returns-4
 returns-4 c = search (by-total, needs)

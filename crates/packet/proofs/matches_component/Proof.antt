@@ -1,8 +1,7 @@
 -- Each return is a row of the definition: an address, one field, either port, a number that every packet shows, or nothing.
 use mathlib.Core.Path.{refl}
-use Rattle.octets.specs.Test.{oneHolds}
-use Rattle.packet.specs.Match.{fieldMatches, fieldsFor, componentMatches}
-use Rattle.packet.proofs.MatchLaws.{on-address, on-field, on-either, on-number, on-nothing}
+use Rattle.packet.specs.Match.{fieldsFor}
+use Rattle.packet.proofs.MatchLaws.{on-destination, on-source, on-field, on-either, on-number, on-nothing}
 use borrow.Author.Needs.{needs}
 use Rattle.packet.proofs.matches_component.Statement.{statement}
 use Rattle.packet.proofs.matches_component.Tie as tie
@@ -56,52 +55,50 @@ list-holds-requires-3 : tie.Need-list-holds-requires-3
 list-holds-requires-3 c κs = search needs
 
 returns : tie.Need-returns
-unfolding componentMatches
-returns c = on-address _ _ _ 1 (c .before .match .keys1) _ _ _ refl (c .covers-address .ensures)
+returns c = search (on-destination, needs)
 
 returns-2 : tie.Need-returns-2
-unfolding componentMatches
-returns-2 c = on-address _ _ _ 2 (c .before .match .keys2) _ _ _ refl (c .covers-address2 .ensures)
+returns-2 c = search (on-source, needs)
 
 returns-3 : tie.Need-returns-3
-unfolding componentMatches fieldsFor oneHolds
-returns-3 c = on-field _ _ _ 3 (c .before .match .keys3) _ _ refl (c .field-matches .ensures)
+unfolding fieldsFor
+returns-3 c = on-field _ _ _ _ 3 (c .before .match .keys3) refl _ _ refl (c .field-matches .ensures)
 
 returns-4 : tie.Need-returns-4
-unfolding componentMatches fieldsFor oneHolds
-returns-4 c = on-either _ _ _ 4 (c .before .before .match .keys4) _ _ _ _ refl (c .before .field-matches2 .ensures) (c .field-matches3 .ensures)
+unfolding fieldsFor
+returns-4 c = on-either _ _ _ _ 4 (c .before .before .match .keys4) refl _ _ _ _ refl (c .before .field-matches2 .ensures) (c .field-matches3 .ensures)
 
 returns-5 : tie.Need-returns-5
-unfolding componentMatches fieldsFor oneHolds
-returns-5 c = on-field _ _ _ 5 (c .before .match .keys5) _ _ refl (c .field-matches4 .ensures)
+unfolding fieldsFor
+returns-5 c = on-field _ _ _ _ 5 (c .before .match .keys5) refl _ _ refl (c .field-matches4 .ensures)
 
 returns-6 : tie.Need-returns-6
-unfolding componentMatches fieldsFor oneHolds
-returns-6 c = on-field _ _ _ 6 (c .before .match .keys6) _ _ refl (c .field-matches5 .ensures)
+unfolding fieldsFor
+returns-6 c = on-field _ _ _ _ 6 (c .before .match .keys6) refl _ _ refl (c .field-matches5 .ensures)
 
 returns-7 : tie.Need-returns-7
-unfolding componentMatches fieldsFor oneHolds
-returns-7 c = on-field _ _ _ 7 (c .before .match .keys7) _ _ refl (c .field-matches6 .ensures)
+unfolding fieldsFor
+returns-7 c = on-field _ _ _ _ 7 (c .before .match .keys7) refl _ _ refl (c .field-matches6 .ensures)
 
 returns-8 : tie.Need-returns-8
-unfolding componentMatches fieldsFor oneHolds
-returns-8 c = on-field _ _ _ 8 (c .before .match .keys8) _ _ refl (c .field-matches7 .ensures)
+unfolding fieldsFor
+returns-8 c = on-field _ _ _ _ 8 (c .before .match .keys8) refl _ _ refl (c .field-matches7 .ensures)
 
 returns-9 : tie.Need-returns-9
-unfolding componentMatches fieldsFor oneHolds
-returns-9 c = on-field _ _ _ 9 (c .before .match .keys9) _ _ refl (c .field-matches8 .ensures)
+unfolding fieldsFor
+returns-9 c = on-field _ _ _ _ 9 (c .before .match .keys9) refl _ _ refl (c .field-matches8 .ensures)
 
 returns-10 : tie.Need-returns-10
-unfolding componentMatches fieldsFor oneHolds fieldMatches
-returns-10 c = on-number _ _ _ 10 (c .before .before .match .keys10) _ _ refl (c .list-holds .ensures)
+unfolding fieldsFor
+returns-10 c = on-number _ _ _ _ 10 (c .before .before .match .keys10) refl _ _ refl (c .list-holds .ensures)
 
 returns-11 : tie.Need-returns-11
-unfolding componentMatches fieldsFor oneHolds fieldMatches
-returns-11 c = on-number _ _ _ 11 (c .before .before .match .keys11) _ _ refl (c .list-holds2 .ensures)
+unfolding fieldsFor
+returns-11 c = on-number _ _ _ _ 11 (c .before .before .match .keys11) refl _ _ refl (c .list-holds2 .ensures)
 
 returns-12 : tie.Need-returns-12
-unfolding componentMatches fieldsFor oneHolds fieldMatches
-returns-12 c = on-number _ _ _ 12 (c .before .before .match .keys12) _ _ refl (c .list-holds3 .ensures)
+unfolding fieldsFor
+returns-12 c = on-number _ _ _ _ 12 (c .before .before .match .keys12) refl _ _ refl (c .list-holds3 .ensures)
 
 returns-13 : tie.Need-returns-13
 returns-13 c = search (on-nothing, needs)

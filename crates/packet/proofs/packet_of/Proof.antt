@@ -22,23 +22,23 @@ transport-fields-requires c κs = search needs
 number-at-requires : tie.Need-number-at-requires
 number-at-requires c κs = search needs
 
-cast-t7 : tie.Need-cast-t7
-cast-t7 c = search needs
+cast-t8 : tie.Need-cast-t8
+cast-t8 c = search needs
 
 number-at-requires-2 : tie.Need-number-at-requires-2
 number-at-requires-2 c κs = search needs
 
-cast-t9 : tie.Need-cast-t9
-cast-t9 c = search needs
-
 cast-t10 : tie.Need-cast-t10
 cast-t10 c = search needs
+
+cast-t11 : tie.Need-cast-t11
+cast-t11 c = search needs
 
 number-at-requires-3 : tie.Need-number-at-requires-3
 number-at-requires-3 c κs = search needs
 
-cast-t13 : tie.Need-cast-t13
-cast-t13 c = search needs
+cast-t14 : tie.Need-cast-t14
+cast-t14 c = search needs
 
 octet-at-requires-2 : tie.Need-octet-at-requires-2
 octet-at-requires-2 c κs = search needs
@@ -62,12 +62,12 @@ packet-of-spec =
     transport-octets-requires
     transport-fields-requires
     number-at-requires
-    cast-t7
+    cast-t8
     number-at-requires-2
-    cast-t9
     cast-t10
+    cast-t11
     number-at-requires-3
-    cast-t13
+    cast-t14
     octet-at-requires-2
     number-at-requires-4
     fragment-data-requires
