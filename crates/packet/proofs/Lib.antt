@@ -1,4 +1,5 @@
 -- The laws of this crate.
+pub mod Examples
 pub mod OperatorTable
 pub mod Theorems
 pub mod HeaderLaws
