@@ -1,20 +1,24 @@
--- The first bits of an address, as a list and as a number. Assumes nothing.
+-- The bits of an address, as a list and as a number. Assumes nothing.
 use mathlib.Core.Path.{_≡_, refl, ap, sym, subst, _∙_}
-use mathlib.Core.Bool.{true, _&&_}
-use mathlib.Core.List.{_∷_}
+use mathlib.Core.Bool.{Bool, true, _&&_}
+use mathlib.Core.List.{List, [], _∷_}
 use Prim.Native.Nat.{ℕ, zero, suc, _+_, _-_, _*_, _/_, _%_, _^_, _≤_, _<_}
 use native.Mathlib.Omega.{arith}
 use native.Mathlib.Decide.{decLt}
-use native.Mathlib.Nat.{mod-lt, mod-one, add-comm, add-suc}
+use native.Mathlib.Nat.{mod-lt, mod-one, add-comm, add-suc, sub-zero, zero-sub, suc-sub-suc}
 use native.Mathlib.Numerals.{add-one}
 use lib.Dec.{eqb}
-use lib.ListN.{length}
-use lib.Seq.{take-all}
-use lib.Pow.{pow-pos, high, low, mod-pow-add, shr-shr, shr-mod}
+use lib.ListN.{length, take, drop}
+use lib.Seq.{take-all, take-nil, length-take-le}
+use lib.Pow.{pow-pos, split, high, low, mod-pow-add, field, shr-shr}
 use borrow.Author.Tests.{eq-eqb, eqb-true}
 use Rattle.octets.specs.Test.{sameList}
 use Rattle.octets.proofs.Cases.{both, same-test}
-use Rattle.prefix.specs.Prefix.{bits, firstBits}
+use Rattle.prefix.specs.Prefix.{bits, bitsBetween}
+
+-- the first n bits of an address of w bits
+abbrev pub firstBits : ℕ → ℕ → ℕ → List ℕ
+firstBits w n a = take n (bits w a)
 
 -- there are w bits
 pub length-bits : (w a : ℕ) → length (bits w a) ≡ w
@@ -29,7 +33,7 @@ first-shifted k zero a = refl
 first-shifted k (suc n) a = rw (add-suc k n) (λ i. (sym (shr-shr a k n) i % 2) ∷ first-shifted k n a i)
 
 -- two numbers are equal where their high and their low parts are
-eqb-parts : (k x y u v : ℕ) → u < 2 ^ k → v < 2 ^ k → eqb (x * 2 ^ k + u) (y * 2 ^ k + v) ≡ eqb x y && eqb u v
+pub eqb-parts : (k x y u v : ℕ) → u < 2 ^ k → v < 2 ^ k → eqb (x * 2 ^ k + u) (y * 2 ^ k + v) ≡ eqb x y && eqb u v
 eqb-parts k x y u v h l =
     same-test (eqb (x * 2 ^ k + u) (y * 2 ^ k + v)) (eqb x y && eqb u v)
     (λ t.
@@ -39,6 +43,10 @@ eqb-parts k x y u v h l =
     (λ t.
     let p = both (eqb x y) (eqb u v) t in
     eq-eqb (x * 2 ^ k + u) (y * 2 ^ k + v) (λ i. eqb-true x y (p .0) i * 2 ^ k + eqb-true u v (p .1) i))
+
+-- numbers with k clear bits are equal where they are once shifted
+pub same-clear : (k a b : ℕ) → a / 2 ^ k ≡ b / 2 ^ k → a % 2 ^ k ≡ 0 → b % 2 ^ k ≡ 0 → a ≡ b
+same-clear k a b e u v = let x = split a k in let y = rw (← e) at (split b k) in omega arith
 
 -- a number of one bit more is that bit, then the rest
 pub top-bit : (n a : ℕ) → a % 2 ^ suc n ≡ a / 2 ^ n % 2 * 2 ^ n + a % 2 ^ n
@@ -57,14 +65,15 @@ module _ (w n a : ℕ) (h : n ≤ w) where
   pub first-of : firstBits w n a ≡ bits n (a / 2 ^ (w - n))
   first-of = let e : w - n + n ≡ w = omega arith in subst (λ (v : ℕ). firstBits v n a ≡ bits n (a / 2 ^ (w - n))) e (first-shifted (w - n) n a)
 
-  pub shifted-fits : a < 2 ^ w → a / 2 ^ (w - n) % 2 ^ n ≡ a / 2 ^ (w - n)
-  shifted-fits l = let e : w ≡ n + (w - n) = omega arith in shr-mod n (w - n) (subst (λ (v : ℕ). a < 2 ^ v) e l)
+  pub cut-shifted : a / 2 ^ (w - n) % 2 ^ n ≡ a % 2 ^ w / 2 ^ (w - n)
+  cut-shifted =
+      let e : n + (w - n) ≡ w = omega arith in
+      sym (subst (λ (v : ℕ). a % 2 ^ v / 2 ^ (w - n) ≡ a / 2 ^ (w - n) % 2 ^ n) e (field a n (w - n)))
 
--- the first n bits of two addresses are the same where the addresses so shifted are equal
-pub same-shifted : (w n a b : ℕ) → n ≤ w → a < 2 ^ w → b < 2 ^ w
-    → sameList (firstBits w n a) (firstBits w n b) ≡ eqb (a / 2 ^ (w - n)) (b / 2 ^ (w - n))
-same-shifted w n a b h l m =
-    rw (first-of w n a h, first-of w n b h, same-number, shifted-fits w n a h l, shifted-fits w n b h m)
+-- the first n bits of two addresses are the same where the addresses, cut to their w bits and so shifted, are equal
+same-shifted : (w n a b : ℕ) → n ≤ w
+    → sameList (firstBits w n a) (firstBits w n b) ≡ eqb (a % 2 ^ w / 2 ^ (w - n)) (b % 2 ^ w / 2 ^ (w - n))
+same-shifted w n a b h = rw (first-of w n a h, first-of w n b h, same-number, cut-shifted w n a h, cut-shifted w n b h)
 
 -- the bits down to where the first n reach are the first n, or all of them
 reached : (w n a : ℕ) → firstBits w (w - (w - n)) a ≡ firstBits w n a
@@ -77,14 +86,46 @@ reached w n a =
           rw (e, take-all w (bits w a) (omega arith), take-all n (bits w a) (omega arith))
     ]
 
--- no bits are the same bits
-pub no-bits : (w n a b : ℕ) → n ≡ 0 → true ≡ sameList (firstBits w n a) (firstBits w n b)
-unfolding sameList
-no-bits w n a b e = rw e
-
--- the first n bits of two addresses, or all of them, are the same where what is left when the others are shifted out is equal
-pub same-first : (w n lowest a b : ℕ) → lowest ≡ w - n → a < 2 ^ w → b < 2 ^ w
-    → eqb (a / 2 ^ lowest) (b / 2 ^ lowest) ≡ sameList (firstBits w n a) (firstBits w n b)
-same-first w n lowest a b is l m =
+-- the first n bits of two addresses, or all of them, are the same where what is left when the others are taken away is equal
+same-first : (w n lowest a b : ℕ) → lowest ≡ w - n → eqb (a % 2 ^ w / 2 ^ lowest) (b % 2 ^ w / 2 ^ lowest) ≡ sameList (firstBits w n a) (firstBits w n b)
+same-first w n lowest a b is =
     let e : w - (w - (w - n)) ≡ lowest = omega arith in
-    rw (← reached w n a, ← reached w n b) (sym (same-shifted w (w - (w - n)) a b (omega arith) l m ∙ rw e))
+    rw (← reached w n a, ← reached w n b) (sym (same-shifted w (w - (w - n)) a b (omega arith) ∙ rw e))
+
+-- behind the first m bits stand the lower ones
+drop-bits : (w m a : ℕ) → drop m (bits w a) ≡ bits (w - m) a
+unfolding bits
+drop-bits w zero a = rw (sub-zero w)
+drop-bits zero (suc m) a = rw (zero-sub (suc m))
+drop-bits (suc w) (suc m) a = rw (suc-sub-suc w m) (drop-bits w m a)
+
+drop-take : {A : Type 0} (m n : ℕ) (l : List A) → drop m (take n l) ≡ take (n - m) (drop m l)
+drop-take zero n l = rw (sub-zero n)
+drop-take (suc m) zero l = rw (zero-sub (suc m))
+drop-take (suc m) (suc n) [] = sym (take-nil (suc n - suc m))
+drop-take (suc m) (suc n) (x ∷ l) = rw (suc-sub-suc n m) (drop-take m n l)
+
+-- the bits from m up to n are the first n - m of those behind the first m
+pub between-first : (w m n a : ℕ) → bitsBetween w m n a ≡ firstBits (w - m) (n - m) a
+between-first w m n a = drop-take m n (bits w a) ∙ ap (take (n - m)) (drop-bits w m a)
+
+pub length-between : (w m n a : ℕ) → n ≤ w → length (bitsBetween w m n a) ≡ n - m
+length-between w m n a h =
+    let e = length-bits (w - m) a in
+    rw (between-first w m n a) (length-take-le (n - m) (bits (w - m) a) (omega arith))
+
+-- no bits are the same bits
+pub no-bits : (w m n a b : ℕ) → n ≤ m → true ≡ sameList (bitsBetween w m n a) (bitsBetween w m n b)
+unfolding sameList
+no-bits w m n a b h = let e : n - m ≡ 0 = omega arith in rw (between-first w m n a, between-first w m n b, e)
+
+-- the bits of two addresses from m up to n are the same where what is left when those before and behind are taken away is equal
+pub same-between : (w m n a b : ℕ) → m ≤ n
+    → sameList (bitsBetween w m n a) (bitsBetween w m n b) ≡ eqb (a % 2 ^ (w - m) / 2 ^ (w - n)) (b % 2 ^ (w - m) / 2 ^ (w - n))
+same-between w m n a b h =
+    rw (between-first w m n a, between-first w m n b) (sym (same-first (w - m) (n - m) (w - n) a b (omega arith)))
+
+-- how the code comes to its answer
+pub by-shifts : (w m n highest lowest a b x y : ℕ) (r : Bool) → highest ≡ w - m → lowest ≡ w - n → m < n → x ≡ a % 2 ^ highest → y ≡ b % 2 ^ highest
+    → r ≡ eqb (x / 2 ^ lowest) (y / 2 ^ lowest) → r ≡ sameList (bitsBetween w m n a) (bitsBetween w m n b)
+by-shifts w m n highest lowest a b x y r up down h e f g = g ∙ rw (e, f, up, down) (sym (same-between w m n a b (omega arith)))

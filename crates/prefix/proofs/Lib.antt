@@ -2,4 +2,6 @@
 pub mod BitLaws
 pub mod BodyLaws
 pub mod ContainLaws
+pub mod Examples
 pub mod PrefixLaws
+pub mod WordLaws

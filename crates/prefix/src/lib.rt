@@ -1,63 +1,203 @@
-// IPv4 prefixes: whether one contains another, which of two comes first, and the prefix that a component's body spells.
+// Prefixes of addresses of any width up to 128 bits, which may begin behind an offset: whether one contains another or covers an
+// address, which of two comes first, and the prefix that a component's body spells.
 ghost use mathlib.Core.Path.{_≡_};
-ghost use Prim.Native.Nat.{_-_};
+ghost use lib.Dec.{eqb};
+ghost use Prim.Native.Nat.{_-_, _/_, _%_, _^_, _≤_, compare};
+ghost use Rattle.octets.specs.Number.{numberAt};
 ghost use Rattle.octets.specs.Order.{ordered};
 ghost use Rattle.octets.specs.Test.{sameList};
-ghost use Rattle.prefix.specs.Prefix.{firstBits, contains, prefixOrder, prefixOf};
+ghost use Rattle.prefix.specs.Prefix.{addressOf, patternOf, bitsBetween, coversAddress, contains, prefixOrder, prefixOf};
 use octets::Order;
 
-// The first `length` bits of an address; a plain prefix has no bit set past them.
+// An address in two words; one of up to 64 bits stands in the low one.
+pub struct Address {
+    pub high: u64,
+    pub low: u64,
+}
+
+// The bits of an address from `offset` up to `length`; a plain prefix has no other bit set.
 pub struct Prefix {
+    pub offset: u32,
     pub length: u32,
-    pub address: u32,
+    pub address: Address,
 }
 
 // How many bits of an address follow its first n.
-fn lowest_place(n: u32) -> u32
-    ensures { λ r. ⌜ r ≡ 32 - n ⌝ }
+fn bits_behind(width: u8, n: u32) -> u32
+    ensures { λ r. ⌜ r ≡ width - n ⌝ }
 {
-    if n < 32 { 32 - n } else { 0 }
+    let bits = width as u32;
+    if n < bits { bits - n } else { 0 }
 }
 
-// Whether the first n bits of two addresses, or all 32, are the same: no bits are, and else what is left when the others are shifted out.
-pub fn same_bits(n: u32, a: u32, b: u32) -> bool
-    ensures { λ r. ⌜ r ≡ sameList (firstBits 32 n a) (firstBits 32 n b) ⌝ }
+// The lowest bits of a word.
+fn low_part(count: u32, word: u64) -> u64
+    ensures { λ r. ⌜ r ≡ word % 2 ^ count ⌝ }
 {
-    if n == 0 {
+    if 64 <= count {
+        return word;
+    }
+    word & ((1u64 << count) - 1)
+}
+
+// A word without its lowest bits.
+fn high_part(count: u32, word: u64) -> u64
+    ensures { λ r. ⌜ r ≡ word / 2 ^ count ⌝ }
+{
+    if 64 <= count {
+        return 0;
+    }
+    word >> count
+}
+
+// The lowest bits of an address.
+pub fn low_bits(count: u32, address: Address) -> Address
+    ensures { λ r. ⌜ addressOf r ≡ addressOf address % 2 ^ count ⌝ }
+{
+    let low = address.low;
+    if 64 <= count {
+        let high = low_part(count - 64, address.high);
+        return Address { high, low };
+    }
+    Address {
+        high: 0,
+        low: low_part(count, low),
+    }
+}
+
+// Whether two addresses are the same without their lowest bits.
+fn same_above(count: u32, a: Address, b: Address) -> bool
+    ensures { λ r. ⌜ r ≡ eqb (addressOf a / 2 ^ count) (addressOf b / 2 ^ count) ⌝ }
+{
+    if 64 <= count {
+        let rest = count - 64;
+        return high_part(rest, a.high) == high_part(rest, b.high);
+    }
+    let x = a.low >> count;
+    let y = b.low >> count;
+    (a.high == b.high) & (x == y)
+}
+
+// Whether the bits of two addresses behind their first `from`, up to their first `to`, are the same: no bits are, and else what is left
+// when those before and behind them are taken away.
+pub fn same_bits(width: u8, from: u32, to: u32, a: Address, b: Address) -> bool
+    ensures { λ r. ⌜ r ≡ sameList (bitsBetween width from to (addressOf a)) (bitsBetween width from to (addressOf b)) ⌝ }
+{
+    if to <= from {
         return true;
     }
-    let lowest = lowest_place(n);
-    let x = a >> lowest;
-    let y = b >> lowest;
-    x == y
+    let highest = bits_behind(width, from);
+    let lowest = bits_behind(width, to);
+    same_above(lowest, low_bits(highest, a), low_bits(highest, b))
+}
+
+// Whether an address has the bits of a pattern.
+pub fn covers_address(width: u8, pattern: Prefix, address: Address) -> bool
+    ensures { λ r. ⌜ r ≡ coversAddress width (patternOf pattern) (addressOf address) ⌝ }
+{
+    same_bits(
+        width,
+        pattern.offset,
+        pattern.length,
+        pattern.address,
+        address,
+    )
 }
 
 // Whether the outer prefix contains the inner one; every prefix contains itself.
-pub fn contains_prefix(outer: Prefix, inner: Prefix) -> bool
-    ensures { λ r. ⌜ r ≡ contains 32 outer inner ⌝ }
+pub fn contains_prefix(width: u8, outer: Prefix, inner: Prefix) -> bool
+    ensures { λ r. ⌜ r ≡ contains width (patternOf outer) (patternOf inner) ⌝ }
 {
+    if outer.offset != inner.offset {
+        return false;
+    }
     if inner.length < outer.length {
         return false;
     }
-    same_bits(outer.length, outer.address, inner.address)
+    covers_address(width, outer, inner.address)
 }
 
-// Which of two prefixes comes first: the more specific if one contains the other, else the lower address.
-pub fn compare_prefixes(first: Prefix, second: Prefix) -> Order
-    ensures { λ r. ⌜ r ≡ ordered (prefixOrder 32 first second) ⌝ }
+// Which of two addresses is the lower.
+fn compare_addresses(a: Address, b: Address) -> Order
+    ensures { λ r. ⌜ r ≡ ordered (compare (addressOf a) (addressOf b)) ⌝ }
 {
-    let nested = contains_prefix(first, second) | contains_prefix(second, first);
+    if a.high != b.high {
+        return octets::compare_numbers(a.high as usize, b.high as usize);
+    }
+    octets::compare_numbers(a.low as usize, b.low as usize)
+}
+
+// Which of two prefixes comes first: that of the lower offset, then the more specific if one contains the other, else the lower address.
+pub fn compare_prefixes(width: u8, first: Prefix, second: Prefix) -> Order
+    ensures { λ r. ⌜ r ≡ ordered (prefixOrder width (patternOf first) (patternOf second)) ⌝ }
+{
+    if first.offset != second.offset {
+        return octets::compare_numbers(first.offset as usize, second.offset as usize);
+    }
+    let nested = contains_prefix(width, first, second) | contains_prefix(width, second, first);
     if nested {
         return octets::compare_numbers(second.length as usize, first.length as usize);
     }
-    octets::compare_numbers(first.address as usize, second.address as usize)
+    compare_addresses(first.address, second.address)
 }
 
-// The prefix that a component's body spells: a length octet, then the address, whose octets not sent are 0.
-pub fn prefix_of(body: &[u8]) -> Prefix
-    ensures { λ r. ⌜ r ≡ prefixOf 32 (now (body .entry)) ⌝ }
+// The number in at most 16 octets that begin at a place, the highest first; each that lies past the end counts as 0.
+fn address_at(count: usize, s: &[u8], at: usize) -> Address
+    requires { ⌜ (count ≤ 16) × (at ≤ 2) ⌝ }
+    ensures { λ r. ⌜ addressOf r ≡ numberAt count (now (s .entry)) at ⌝ }
+{
+    if count <= 8 {
+        return Address {
+            high: 0,
+            low: octets::number_at(count, s, at),
+        };
+    }
+    let rest = count - 8;
+    let high = octets::number_at(rest, s, at);
+    let low = octets::number_at(8, s, at + rest);
+    Address { high, low }
+}
+
+// An address shifted to the right.
+fn shifted(count: u32, address: Address) -> Address
+    ensures { λ r. ⌜ addressOf r ≡ addressOf address / 2 ^ count ⌝ }
+{
+    if count == 0 {
+        return address;
+    }
+    if 64 <= count {
+        return Address {
+            high: 0,
+            low: high_part(count - 64, address.high),
+        };
+    }
+    let back = 64 - count;
+    let high = address.high >> count;
+    let low = (address.high << back) | (address.low >> count);
+    Address { high, low }
+}
+
+// The prefix that a component's body spells: a length octet, an offset octet where there are offsets, then the pattern, whose octets not
+// sent are 0.
+pub fn prefix_of(width: u8, offsets: bool, body: &[u8]) -> Prefix
+    requires { ⌜ width ≤ 128 ⌝ }
+    ensures { λ r. ⌜ patternOf r ≡ prefixOf width offsets (now (body .entry)) ⌝ }
 {
     let length = octets::octet_at(body, 0) as u32;
-    let address = octets::number_at(4, body, 1) as u32;
-    Prefix { length, address }
+    let count = (width / 8) as usize;
+    if !offsets {
+        let address = address_at(count, body, 1);
+        return Prefix {
+            offset: 0,
+            length,
+            address,
+        };
+    }
+    let offset = octets::octet_at(body, 1) as u32;
+    let address = shifted(offset, address_at(count, body, 2));
+    Prefix {
+        offset,
+        length,
+        address,
+    }
 }

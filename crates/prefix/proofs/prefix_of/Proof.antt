@@ -1,5 +1,5 @@
--- Both fields are what the calls answer.
-use Rattle.prefix.specs.Prefix.{prefixOf}
+-- The fields are what the calls answer.
+use Rattle.prefix.proofs.BodyLaws.{no-offset, with-offset}
 use borrow.Author.Needs.{needs}
 use Rattle.prefix.proofs.prefix_of.Statement.{statement}
 use Rattle.prefix.proofs.prefix_of.Tie as tie
@@ -10,16 +10,41 @@ octet-at-requires c κs = search needs
 cast-length : tie.Need-cast-length
 cast-length c = search needs
 
-number-at-requires : tie.Need-number-at-requires
-number-at-requires c κs = search needs
+cast-count : tie.Need-cast-count
+cast-count c = search needs
 
-cast-address : tie.Need-cast-address
-cast-address c = search needs
+address-at-requires : tie.Need-address-at-requires
+address-at-requires c κs = search needs
 
 returns : tie.Need-returns
-unfolding prefixOf
-returns c = λ i. record { length = c .before .octet-at .ensures .0 i; address = c .number-at .ensures .0 i }
+returns c = search (no-offset, needs)
+
+octet-at-requires-2 : tie.Need-octet-at-requires-2
+octet-at-requires-2 c κs = search needs
+
+cast-offset : tie.Need-cast-offset
+cast-offset c = search needs
+
+address-at-requires-2 : tie.Need-address-at-requires-2
+address-at-requires-2 c κs = search needs
+
+shifted-requires : tie.Need-shifted-requires
+shifted-requires c κs = search needs
+
+returns-2 : tie.Need-returns-2
+returns-2 c = search (with-offset, needs)
 
 pub prefix-of-spec : {M : Type 1} → statement M
 prefix-of-spec =
-    tie.close (tie.spec octet-at-requires cast-length number-at-requires cast-address returns)
+    tie.close
+    (tie.spec
+    octet-at-requires
+    cast-length
+    cast-count
+    address-at-requires
+    returns
+    octet-at-requires-2
+    cast-offset
+    address-at-requires-2
+    shifted-requires
+    returns-2)
