@@ -8,10 +8,11 @@ use lib.ListN.{take}
 use Rattle.octets.specs.Test.{every, oneHolds, sameList}
 use Rattle.octets.specs.Number.{numberAt}
 use Rattle.octets.specs.Walk.{walk}
-use Rattle.prefix.specs.Prefix.{bits, contains, prefixOf}
+use Rattle.prefix.specs.Prefix.{bits, coversAddress, prefixOf}
 use Rattle.rule.specs.Family.{ipv4}
-use Rattle.rule.specs.Operator.{endsList, sizeOf, isPrefix, isBitmask, sizeAllowed}
-use Rattle.rule.specs.Component.{pairAt, pairsFrom, prefixEnd, bodyEnd, componentAt}
+use Rattle.rule.specs.Shape.{shapeOf}
+use Rattle.rule.specs.Operator.{endsList, sizeOf}
+use Rattle.rule.specs.Component.{pairAt, pairsFrom, leadOf, offsetAt, prefixEnd, bodyEnd, componentAt}
 use Rattle.rule.specs.Value.{componentsFrom, components}
 use Rattle.rule.specs.Plain.{plainOperand}
 use Rattle.packet.specs.declared.Sight.{Sight}
@@ -21,7 +22,7 @@ use Rattle.packet.specs.Transport.{transportOctets, hasPorts, hasIcmp, h
 use Rattle.packet.specs.Packet.{fieldsOf, packetOf}
 use Rattle.packet.specs.Operator.{numericHolds, bitmaskHolds}
 use Rattle.packet.specs.PairList.{groupsFrom, groups, listHolds}
-use Rattle.packet.specs.Match.{dataFor, holdsFor, bodyHolds, fieldMatches, fieldsFor, coversAddress, componentMatches, matches}
+use Rattle.packet.specs.Match.{holdsFor, bodyHolds, fieldMatches, fieldsFor, bodyCovers, componentMatches, matches}
 
 -- RFC 791's flags and offset: a whole datagram, one with DF, a first, a middle and a last fragment, a first with DF, a middle and a last
 -- with every bit of the offset, and the bit that RFC 791 reserves
@@ -205,8 +206,8 @@ request =
 -- each of them is so
 pub packets : every holds (opening ∷ flags ∷ joined ∷ datagram ∷ later ∷ first ∷ request ∷ []) ≡ true
 unfolding
-    numberAt walk bits sameList contains prefixOf endsList sizeOf isPrefix isBitmask sizeAllowed pairAt pairsFrom prefixEnd bodyEnd
+    numberAt walk bits sameList coversAddress prefixOf shapeOf endsList sizeOf pairAt pairsFrom leadOf offsetAt prefixEnd bodyEnd
     componentAt componentsFrom components plainOperand isUnusable fragmentData transportOctets transportFields fieldsOf packetOf
-    numericHolds bitmaskHolds every oneHolds groupsFrom groups listHolds dataFor holdsFor bodyHolds fieldMatches fieldsFor
-    coversAddress componentMatches matches
+    numericHolds bitmaskHolds every oneHolds groupsFrom groups listHolds holdsFor bodyHolds fieldMatches fieldsFor
+    bodyCovers componentMatches matches
 packets = refl

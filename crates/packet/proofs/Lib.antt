@@ -9,4 +9,5 @@ pub mod OperatorLaws
 pub mod PairListLaws
 pub mod ListLaws
 pub mod MatchLaws
+pub mod PatternLaws
 pub mod PlainLaws

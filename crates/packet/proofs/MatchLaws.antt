@@ -9,67 +9,68 @@ use lib.ListN.{length, take, drop}
 use borrow.Author.Tests.{ltb-true, ne-eqb, not-true, not-false}
 use Rattle.octets.specs.Test.{every, oneHolds}
 use Rattle.octets.specs.Walk.{Walk}
-use Rattle.prefix.specs.Prefix.{contains, prefixOf}
-use Rattle.prefix.specs.declared.Prefix.{Prefix}
+use Rattle.prefix.specs.Prefix.{Pattern, addressOf, coversAddress, prefixOf}
 use Rattle.rule.specs.declared.Family.{Family}
+use Rattle.rule.specs.declared.Shape.{Shape}
 use Rattle.rule.specs.declared.Next.{Next}
 use Rattle.rule.specs.declared.Next.the-variants.{Nothing, Another, Refused}
 use Rattle.rule.specs.declared.Checked.{Checked}
+use Rattle.rule.specs.Shape.{shapeOf}
 use Rattle.rule.specs.Component.{componentAt}
 use Rattle.rule.specs.Value.{Component, componentsFrom, components, component}
 use Rattle.rule.proofs.ValueLaws.{was-found, components-more, components-none, components-refused}
 use Rattle.packet.specs.declared.Field.{Field}
 use Rattle.packet.specs.declared.Field.the-variants.{Shown, Hidden}
 use Rattle.packet.specs.declared.Packet.{Packet}
-use Rattle.packet.specs.Match.{bodyHolds, fieldMatches, fieldsFor, coversAddress, componentMatches, matches}
+use Rattle.packet.specs.Match.{bodyHolds, fieldMatches, fieldsFor, bodyCovers, componentMatches, matches}
 
 -- how `field_matches` comes to each of its answers
-module _ (kind : ℕ) (body : List ℕ) (field : Field) where
-  pub shown-matches : (number : ℕ) (r : Bool) → field ≡ Shown number → r ≡ bodyHolds kind body number → r ≡ fieldMatches kind body field
+module _ (shape : Shape) (body : List ℕ) (field : Field) where
+  pub shown-matches : (number : ℕ) (r : Bool) → field ≡ Shown number → r ≡ bodyHolds shape body number → r ≡ fieldMatches shape body field
   unfolding fieldMatches
   shown-matches number r e f = rw e f
 
-  pub hidden-matches : field ≡ Hidden → false ≡ fieldMatches kind body field
+  pub hidden-matches : field ≡ Hidden → false ≡ fieldMatches shape body field
   unfolding fieldMatches
   hidden-matches e = rw e
 
--- the prefix of a body, and an address as a prefix of all its bits
-pub covered : (body : List ℕ) (address : ℕ) (outer : Prefix) (r : Bool) → outer ≡ prefixOf 32 body
-    → r ≡ contains 32 outer (record { length = 32; address = address }) → r ≡ coversAddress 32 body address
-unfolding coversAddress
-covered body address outer r e f = rw (← e) f
+-- how `body_covers` comes to its answer
+pub covered : (family : Family) (body : List ℕ) (address : ℕ) (pattern : Pattern) (r : Bool) → pattern ≡ prefixOf (family .width) (family .offsets) body
+    → r ≡ coversAddress (family .width) pattern address → r ≡ bodyCovers family body address
+unfolding bodyCovers
+covered family body address pattern r e f = rw (← e) f
 
 -- how `matches_component` comes to each of its answers
 module _ (family : Family) (kind : ℕ) (body : List ℕ) (packet : Packet) where
-  pub on-destination : (r : Bool) → kind ≡ 1 → r ≡ coversAddress 32 body (packet .destination) → r ≡ componentMatches family packet (component kind body)
+  pub on-destination : (r : Bool) → kind ≡ 1 → r ≡ bodyCovers family body (addressOf (packet .destination)) → r ≡ componentMatches family packet (component kind body)
   unfolding componentMatches
   on-destination r is e = rw is e
 
-  pub on-source : (r : Bool) → kind ≡ 2 → r ≡ coversAddress 32 body (packet .source) → r ≡ componentMatches family packet (component kind body)
+  pub on-source : (r : Bool) → kind ≡ 2 → r ≡ bodyCovers family body (addressOf (packet .source)) → r ≡ componentMatches family packet (component kind body)
   unfolding componentMatches
   on-source r is e = rw is e
 
   -- n is the type of a row of the fields, at which that definition computes
-  module _ (n : ℕ) (is : kind ≡ n) (list : ltb 2 n ≡ true) where
-    one-holds : (fields : List Field) → fieldsFor n packet ≡ fields → componentMatches family packet (component kind body) ≡ oneHolds (fieldMatches kind body) fields
+  module _ (n : ℕ) (is : kind ≡ n) (list : ltb 2 n ≡ true) (shape : Shape) (has : shape ≡ shapeOf family kind) where
+    one-holds : (fields : List Field) → fieldsFor n packet ≡ fields → componentMatches family packet (component kind body) ≡ oneHolds (fieldMatches shape body) fields
     unfolding componentMatches
     one-holds fields row =
         let above = ltb-true 2 n list in
-        rw (ne-eqb kind 1 (λ e. omega arith), ne-eqb kind 2 (λ e. omega arith), is, row)
+        rw (ne-eqb kind 1 (λ e. omega arith), ne-eqb kind 2 (λ e. omega arith), ← has, is, row)
 
-    pub on-field : (field : Field) (r : Bool) → fieldsFor n packet ≡ field ∷ [] → r ≡ fieldMatches kind body field
+    pub on-field : (field : Field) (r : Bool) → fieldsFor n packet ≡ field ∷ [] → r ≡ fieldMatches shape body field
         → r ≡ componentMatches family packet (component kind body)
     unfolding oneHolds
-    on-field field r row e = e ∙ sym (one-holds (field ∷ []) row ∙ or-false (fieldMatches kind body field))
+    on-field field r row e = e ∙ sym (one-holds (field ∷ []) row ∙ or-false (fieldMatches shape body field))
 
-    pub on-either : (one other : Field) (a b : Bool) → fieldsFor n packet ≡ one ∷ other ∷ [] → a ≡ fieldMatches kind body one
-        → b ≡ fieldMatches kind body other → a || b ≡ componentMatches family packet (component kind body)
+    pub on-either : (one other : Field) (a b : Bool) → fieldsFor n packet ≡ one ∷ other ∷ [] → a ≡ fieldMatches shape body one
+        → b ≡ fieldMatches shape body other → a || b ≡ componentMatches family packet (component kind body)
     unfolding oneHolds
-    on-either one other a b row e f = rw (e, f) (sym (one-holds (one ∷ other ∷ []) row ∙ rw (or-false (fieldMatches kind body other))))
+    on-either one other a b row e f = rw (e, f) (sym (one-holds (one ∷ other ∷ []) row ∙ rw (or-false (fieldMatches shape body other))))
 
-    pub on-number : («data» : ℕ) (r : Bool) → fieldsFor n packet ≡ Shown «data» ∷ [] → r ≡ bodyHolds kind body «data»
+    pub on-number : («data» : ℕ) (r : Bool) → fieldsFor n packet ≡ Shown «data» ∷ [] → r ≡ bodyHolds shape body «data»
         → r ≡ componentMatches family packet (component kind body)
-    on-number «data» r row e = on-field (Shown «data») r row (shown-matches kind body (Shown «data») «data» r refl e)
+    on-number «data» r row e = on-field (Shown «data») r row (shown-matches shape body (Shown «data») «data» r refl e)
 
 -- a type that has no row matches nothing
 pub on-nothing : (family : Family) (kind : ℕ) (body : List ℕ) (packet : Packet) → (kind ≡ 1 → ⊥) → (kind ≡ 2 → ⊥) → (kind ≡ 3 → ⊥) → (kind ≡ 4 → ⊥) → (kind ≡ 5 → ⊥)

@@ -22,6 +22,6 @@ module _ (family : Family) (s : List ℕ) (no-use : Bool) (says : no-use ≡ isU
   pub usable : (t : List ℕ) (d o p l x f g : ℕ) (transport : Transport) → no-use ≡ false
       → d ≡ numberAt 4 s 16 → o ≡ numberAt 4 s 12 → p ≡ getD s 9 0 → l ≡ numberAt 2 s 2 → x ≡ getD s 1 0 → f ≡ numberAt 2 s 6 → g ≡ fragmentData f
       → t ≡ transportOctets s → transport ≡ transportFields family p t
-      → Usable (record { destination = d; source = o; protocol = Shown p; length = l; dscp = x / 4; fragment = g; transport = transport }) ≡ packetOf family s
+      → Usable (record { destination = record { high = 0; low = d }; source = record { high = 0; low = o }; protocol = Shown p; length = l; dscp = x / 4; fragment = g; transport = transport }) ≡ packetOf family s
   unfolding packetOf fieldsOf
   usable t d o p l x f g transport h d′ o′ p′ l′ x′ f′ g′ t′ r′ = rw (← says, h, d′, o′, r′, p′, l′, x′, g′, f′, t′)

@@ -5,21 +5,22 @@ use mathlib.Core.Path.{_≡_, refl, ap, _∙_}
 use mathlib.Core.Bool.{Bool, true, false, _&&_, _||_, and-false}
 use mathlib.Core.List.{List, [], _∷_}
 use mathlib.Core.Logic.{_↔_}
-use Prim.Native.Nat.{ℕ, _%_, _<_, _≤_}
+use Prim.Native.Nat.{ℕ, _+_, _-_, _*_, _%_, _^_, _<_, _≤_}
 use native.Mathlib.Omega.{arith}
-use lib.Bits.{bitAnd, and-mask}
+use lib.Bits.{bitAnd, and-mask, and-block, and-zero-r}
 use lib.Dec.{leb, ltb, eqb}
 use lib.ListN.{length, getD}
-use borrow.Author.Tests.{eqb-true, eqb-false, eq-eqb, leb-true, lt-leb}
+use borrow.Author.Tests.{eqb-true, eqb-false, leb-true, lt-leb}
 use Rattle.octets.specs.Test.{every, oneHolds, Each}
 use Rattle.octets.specs.Number.{numberAt}
 use Rattle.octets.proofs.Cases.{by-test, apart, both}
 use Rattle.octets.proofs.Facts.{Octets, below}
 use Rattle.rule.specs.declared.Family.{Family}
-use Rattle.rule.specs.Operator.{sizeOf, isBitmask}
+use Rattle.rule.specs.declared.Shape.{Shape}
 use Rattle.rule.specs.Component.{Pair}
 use Rattle.rule.specs.Value.{Component, components}
 use Rattle.rule.specs.Plain.{plainOperand}
+use Rattle.rule.proofs.PlainLaws.{operand-small}
 use Rattle.rule.proofs.ComponentsLaws.{each-found}
 use Rattle.packet.specs.declared.Field.the-variants.{Hidden}
 use Rattle.packet.specs.declared.Transport.{Transport}
@@ -28,8 +29,9 @@ use Rattle.packet.specs.declared.Sight.the-variants.{Usable, Unusable}
 use Rattle.packet.specs.Header.{headerWords, fragmentField, fragmentOffset, isUnusable, protocol}
 use Rattle.packet.specs.Transport.{transportOctets, transportFields}
 use Rattle.packet.specs.Packet.{fieldsOf, packetOf}
+use Rattle.packet.specs.Operator.{bitmaskHolds}
 use Rattle.packet.specs.PairList.{joins, listHolds}
-use Rattle.packet.specs.Match.{dataFor, holdsFor, pairHolds, fieldMatches, noField, fieldsFor, componentMatches, matches}
+use Rattle.packet.specs.Match.{holdsFor, pairHolds, fieldMatches, noField, fieldsFor, componentMatches, matches}
 use Rattle.packet.proofs.OperatorLaws.{numeric-row}
 use Rattle.packet.proofs.TransportLaws.{later-not-found}
 use Rattle.packet.proofs.PairListLaws.{from-first}
@@ -121,34 +123,44 @@ later-fragment family value s packet seen later asks =
 pub first-and : (test : Pair → Bool) (p q : Pair) (ps : List Pair) → test p ≡ test q → listHolds test (p ∷ ps) ≡ listHolds test (q ∷ ps)
 first-and test p q ps e = rw (from-first test p ps, from-first test q ps, e)
 
--- a numeric list is judged on the data as it is
-whole-data : (kind operator «data» : ℕ) → isBitmask kind ≡ false → dataFor kind operator «data» ≡ «data»
-unfolding dataFor isBitmask
-whole-data kind operator «data» numeric = by-test (eqb kind 9) (λ t. let z : true ≡ false = rw t at numeric in apart (cc)) (λ t. rw t)
-
 -- a numeric list of one range, at least a and at most b, is that range; of a DSCP value the bits to be ignored are no matter
-pub one-range : (kind «data» : ℕ) (p q : Pair) → isBitmask kind ≡ false → p .operator < 256 → q .operator < 256
+pub one-range : (shape : Shape) («data» : ℕ) (p q : Pair) → shape .bitmask ≡ false → p .operator < 256 → q .operator < 256
     → bitAnd (p .operator) 7 ≡ 3 → bitAnd (q .operator) 7 ≡ 5 → joins q ≡ true
-    → listHolds (pairHolds kind «data») (p ∷ q ∷ []) ≡ leb (plainOperand kind (p .value)) «data» && leb «data» (plainOperand kind (q .value))
+    → listHolds (pairHolds shape «data») (p ∷ q ∷ [])
+    ≡ leb (plainOperand (shape .ignored) (p .value)) «data» && leb «data» (plainOperand (shape .ignored) (q .value))
 unfolding holdsFor
-one-range kind «data» p q numeric small₁ small₂ least most and =
-    from-first (pairHolds kind «data») p (q ∷ [])
+one-range shape «data» p q numeric small₁ small₂ least most and =
+    from-first (pairHolds shape «data») p (q ∷ [])
     ∙ rw (
       and,
       numeric,
-      whole-data kind (p .operator) «data» numeric,
-      whole-data kind (q .operator) «data» numeric,
-      ← numeric-row (p .operator) «data» (plainOperand kind (p .value)) small₁ 3 refl least,
-      ← numeric-row (q .operator) «data» (plainOperand kind (q .value)) small₂ 5 refl most,
+      ← numeric-row (p .operator) «data» (plainOperand (shape .ignored) (p .value)) small₁ 3 refl least,
+      ← numeric-row (q .operator) «data» (plainOperand (shape .ignored) (q .value)) small₂ 5 refl most,
     )
 
--- of a number without its top bits the low octet is the number's own
-low-octet : (n : ℕ) → bitAnd (bitAnd n 0x0fff) 0xff ≡ n % 256
-low-octet n = and-mask (bitAnd n 0x0fff) 8 ∙ rw (and-mask n 12) (omega arith)
+-- a bitmask operator sees of the data what AND leaves of it
+mask-alone : (operator a b value : ℕ) → bitAnd a value ≡ bitAnd b value → bitmaskHolds operator a value ≡ bitmaskHolds operator b value
+unfolding bitmaskHolds
+mask-alone operator a b value e = rw e
 
--- 01: "Flags data is transport octet 13 counted from 0": of the two-octet form the low octet is that one
-pub flags-octet : (operator : ℕ) (t : List ℕ) → Octets t → sizeOf operator ≡ 1 → dataFor 9 operator (bitAnd (numberAt 2 t 12) 0x0fff) ≡ getD t 13 0
-unfolding dataFor numberAt
-flags-octet operator t octets one =
-    let h = octets 13 in
-    rw (eq-eqb (sizeOf operator) 1 one) (low-octet (numberAt 2 t 12) ∙ omega arith)
+two-octets : (t : List ℕ) → numberAt 2 t 12 ≡ getD t 12 0 * 256 + getD t 13 0
+unfolding numberAt
+two-octets t = omega arith
+
+-- of a number below 256, AND with one of two octets sees the low octet alone
+low-octet : (high low value : ℕ) → low < 256 → value < 256 → bitAnd (bitAnd (high * 256 + low) 0x0fff) value ≡ bitAnd low value
+low-octet high low value h k =
+    let e : bitAnd (high * 256 + low) 0x0fff ≡ high % 16 * 2 ^ 8 + low = and-mask (high * 256 + low) 12 ∙ omega arith in
+    let z : value ≡ 0 * 2 ^ 8 + value = omega arith in
+    rw e (ap (bitAnd (high % 16 * 2 ^ 8 + low)) z ∙ and-block 8 (high % 16) 0 low value h k ∙ rw (and-zero-r (high % 16)) (omega arith))
+
+-- 01: "Flags data is transport octet 13 counted from 0": a bitmask pair whose value has one octet holds of the two-octet form where it
+-- holds of that octet
+pub flags-octet : (shape : Shape) (p : Pair) (t : List ℕ) → Octets t → shape .bitmask ≡ true → p .value < 256
+    → pairHolds shape (bitAnd (numberAt 2 t 12) 0x0fff) p ≡ pairHolds shape (getD t 13 0) p
+unfolding holdsFor
+flags-octet shape p t octets mask one =
+    let wanted = plainOperand (shape .ignored) (p .value) in
+    rw mask
+    (mask-alone (p .operator) _ _ wanted
+    (rw (two-octets t) (low-octet (getD t 12 0) (getD t 13 0) wanted (octets 13) (operand-small (shape .ignored) (p .value) wanted refl one))))

@@ -1,14 +1,14 @@
 -- Whether a packet matches a rule (RFC 8955 section 4.2): when it matches each of the rule's components. A prefix is matched
--- by an address that it contains, a list of pairs by a field of the packet; a field that the packet hides matches no list.
+-- by an address that it covers, a list of pairs by a field of the packet; a field that the packet hides matches no list.
 use Prim.Native.Nat.{ℕ}
 use mathlib.Core.Bool.{Bool, false, cond}
 use mathlib.Core.List.{List, [], _∷_}
-use lib.Bits.{bitAnd}
 use lib.Dec.{eqb}
 use Rattle.octets.specs.Test.{every, oneHolds}
-use Rattle.prefix.specs.Prefix.{contains, prefixOf}
+use Rattle.prefix.specs.Prefix.{addressOf, coversAddress, prefixOf}
 use Rattle.rule.specs.declared.Family.{Family}
-use Rattle.rule.specs.Operator.{sizeOf, isBitmask}
+use Rattle.rule.specs.declared.Shape.{Shape}
+use Rattle.rule.specs.Shape.{shapeOf}
 use Rattle.rule.specs.Component.{Pair, pairsFrom}
 use Rattle.rule.specs.Value.{Component, components}
 use Rattle.rule.specs.Plain.{plainOperand}
@@ -18,31 +18,25 @@ use Rattle.packet.specs.declared.Packet.{Packet}
 use Rattle.packet.specs.Operator.{numericHolds, bitmaskHolds}
 use Rattle.packet.specs.PairList.{listHolds}
 
--- Section 4.2.2.9: a value of two octets "matches octets 13 and 14 of the TCP header", as which a packet shows its flags, and one of a
--- single octet "matches octet 14", the low one.
-unfoldable pub dataFor : ℕ → ℕ → ℕ → ℕ
-dataFor kind operator «data» = cond (eqb kind 9) (cond (eqb (sizeOf operator) 1) (bitAnd «data» 0xff) «data») «data»
-
--- Whether a pair in a list of the given type holds of the data. Sections 4.2.2.11 and 4.2.2.12: the bits of a DSCP or fragment value
--- that are to be ignored, those that the plain spelling clears, count as 0.
-unfoldable pub holdsFor : ℕ → ℕ → ℕ → ℕ → Bool
-holdsFor kind operator value «data» =
-    let judged = dataFor kind operator «data» in
-    let wanted = plainOperand kind value in
-    cond (isBitmask kind) (bitmaskHolds operator judged wanted) (numericHolds operator judged wanted)
+-- Whether an operator and a value of a list hold of the data. Sections 4.2.2.11 and 4.2.2.12: the bits of a DSCP or fragment value that
+-- are to be ignored, those that the plain spelling clears, count as 0.
+unfoldable pub holdsFor : Shape → ℕ → ℕ → ℕ → Bool
+holdsFor shape operator value «data» =
+    let wanted = plainOperand (shape .ignored) value in
+    cond (shape .bitmask) (bitmaskHolds operator «data» wanted) (numericHolds operator «data» wanted)
 
 -- The same of a pair.
-abbrev pub pairHolds : ℕ → ℕ → Pair → Bool
-pairHolds kind «data» pair = holdsFor kind (pair .operator) (pair .value) «data»
+abbrev pub pairHolds : Shape → ℕ → Pair → Bool
+pairHolds shape «data» pair = holdsFor shape (pair .operator) (pair .value) «data»
 
--- Whether the list that a body of the given type is holds of the data.
-unfoldable pub bodyHolds : ℕ → List ℕ → ℕ → Bool
-bodyHolds kind body «data» = listHolds (pairHolds kind «data») (pairsFrom kind body 0 .items)
+-- Whether the list that a body of the given shape is holds of the data.
+unfoldable pub bodyHolds : Shape → List ℕ → ℕ → Bool
+bodyHolds shape body «data» = listHolds (pairHolds shape «data») (pairsFrom (shape .largest) body 0 .items)
 
 -- Whether the list holds of a field. 01: "Otherwise that component never matches, whatever its operators": so of a hidden one.
-unfoldable pub fieldMatches : ℕ → List ℕ → Field → Bool
-fieldMatches kind body (Shown «data») = bodyHolds kind body «data»
-fieldMatches kind body Hidden = false
+unfoldable pub fieldMatches : Shape → List ℕ → Field → Bool
+fieldMatches shape body (Shown «data») = bodyHolds shape body «data»
+fieldMatches shape body Hidden = false
 
 -- What a type that has no row here is judged on: no field, so that it matches no packet. No component of a rule comes to it.
 abbrev pub noField : List Field
@@ -63,16 +57,16 @@ fieldsFor kind packet =
     (cond (eqb kind 11) (Shown (packet .dscp) ∷ [])
     (cond (eqb kind 12) (Shown (packet .fragment) ∷ []) noField)))))))))
 
--- Whether the prefix that a body spells contains an address of w bits.
-unfoldable pub coversAddress : ℕ → List ℕ → ℕ → Bool
-coversAddress w body address = contains w (prefixOf w body) (record { length = w; address = address })
+-- Whether the prefix that a body spells covers an address.
+unfoldable pub bodyCovers : Family → List ℕ → ℕ → Bool
+bodyCovers family body address = coversAddress (family .width) (prefixOf (family .width) (family .offsets) body) address
 
 -- Whether a packet matches a component: types 1 (destination) and 2 (source) by an address, every other by a field.
 unfoldable pub componentMatches : Family → Packet → Component → Bool
 componentMatches family packet component =
-    cond (eqb (component .kind) 1) (coversAddress 32 (component .body) (packet .destination))
-    (cond (eqb (component .kind) 2) (coversAddress 32 (component .body) (packet .source))
-    (oneHolds (fieldMatches (component .kind) (component .body)) (fieldsFor (component .kind) packet)))
+    cond (eqb (component .kind) 1) (bodyCovers family (component .body) (addressOf (packet .destination)))
+    (cond (eqb (component .kind) 2) (bodyCovers family (component .body) (addressOf (packet .source)))
+    (oneHolds (fieldMatches (shapeOf family (component .kind)) (component .body)) (fieldsFor (component .kind) packet)))
 
 -- Section 4.2: a packet matches a rule where it matches all components of the rule's value.
 unfoldable pub matches : Family → List ℕ → Packet → Bool

@@ -2,6 +2,7 @@
 use Prim.Native.Nat.{ℕ}
 use mathlib.Core.Bool.{cond}
 use mathlib.Core.List.{List}
+use Rattle.prefix.specs.declared.Address.{Address}
 use Rattle.rule.specs.declared.Family.{Family}
 use Rattle.packet.specs.declared.Field.the-variants.{Shown}
 use Rattle.packet.specs.declared.Packet.{Packet}
@@ -10,12 +11,16 @@ use Rattle.packet.specs.declared.Sight.the-variants.{Usable, Unusable}
 use Rattle.packet.specs.Header.{isUnusable, destination, source, protocol, totalLength, dscp, fragmentField, fragmentData}
 use Rattle.packet.specs.Transport.{transportOctets, transportFields}
 
+-- An address of up to 64 bits, which stands in the low one of its two words.
+abbrev pub oneWord : ℕ → Address
+oneWord number = record { high = 0; low = number }
+
 -- The fields of a usable packet. 01: "Length data is the total length field".
 unfoldable pub fieldsOf : Family → List ℕ → Packet
 fieldsOf family s =
     record {
-      destination = destination s;
-      source = source s;
+      destination = oneWord (destination s);
+      source = oneWord (source s);
       protocol = Shown (protocol s);
       length = totalLength s;
       dscp = dscp s;

@@ -39,7 +39,8 @@ hasFlags protocol there = eqb protocol 6 && leb 14 there
 abbrev pub shownIf : Bool → ℕ → Field
 shownIf holds number = cond holds (Shown number) Hidden
 
--- The fields that transport octets show. Flags are in their two-octet form, 01: "octets 12 and 13 with the top four bits as 0".
+-- The fields that transport octets show. Flags are in their two-octet form, 01: "octets 12 and 13 with the top four bits as 0"; a value of
+-- one octet asks for no bit above those of octet 13 (`flags-octet` in proofs/Theorems.antt).
 unfoldable pub transportFields : Family → ℕ → List ℕ → Transport
 transportFields family protocol t =
     record {

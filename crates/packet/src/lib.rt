@@ -2,23 +2,25 @@
 // pairs asks of a field, and whether a packet matches a rule. `packet_of` alone reads the packet's octets; what follows goes by what
 // it found. Every public function answers whatever octets it is lent.
 ghost use mathlib.Core.Path.{_≡_};
-ghost use Prim.Native.Nat.{_<_};
+ghost use Prim.Native.Nat.{_+_, _<_, _≤_};
 ghost use lib.ListN.{length};
+ghost use Rattle.prefix.specs.Prefix.{addressOf};
 ghost use Rattle.rule.specs.Value.{component};
 ghost use Rattle.packet.specs.Header.{isUnusable, fragmentData};
 ghost use Rattle.packet.specs.Transport.{transportFound, transportOctets, shownIf, hasPorts, hasIcmp, hasFlags, transportFields};
 ghost use Rattle.packet.specs.Packet.{packetOf};
 ghost use Rattle.packet.specs.Operator.{numericHolds, bitmaskHolds};
 ghost use Rattle.packet.specs.Judging.{withPair, judgePair};
-ghost use Rattle.packet.specs.Match.{dataFor, holdsFor, bodyHolds, fieldMatches, coversAddress, componentMatches, matches};
+ghost use Rattle.packet.specs.Match.{holdsFor, bodyHolds, fieldMatches, bodyCovers, componentMatches, matches};
 use octets::bit_if;
 use octets::least;
 use octets::number_at;
 use octets::octet_at;
-use prefix::Prefix;
+use prefix::Address;
 use rule::Family;
 use rule::Next;
 use rule::NextPair;
+use rule::Shape;
 
 // ---- Answers ----
 
@@ -39,8 +41,8 @@ pub struct Transport {
 
 // What a packet shows.
 pub struct Packet {
-    pub destination: u32,
-    pub source: u32,
+    pub destination: Address,
+    pub source: Address,
     pub protocol: Field,
     pub length: u32,
     pub dscp: u8,
@@ -180,8 +182,14 @@ pub fn packet_of(family: Family, octets: &[u8]) -> Sight
     let protocol = octet_at(octets, 9);
     let transport = transport_fields(family, protocol, transport_octets(octets));
     Sight::Usable(Packet {
-        destination: number_at(4, octets, 16) as u32,
-        source: number_at(4, octets, 12) as u32,
+        destination: Address {
+            high: 0,
+            low: number_at(4, octets, 16),
+        },
+        source: Address {
+            high: 0,
+            low: number_at(4, octets, 12),
+        },
         protocol: Field::Shown(protocol as u32),
         length: number_at(2, octets, 2) as u32,
         dscp: octet_at(octets, 1) >> 2,
@@ -226,29 +234,15 @@ fn bitmask_holds(operator: u8, data: u64, value: u64) -> bool
 
 // ---- Lists of pairs (section 4.2.1.1) ----
 
-// The data that a pair of a type is judged on: of TCP flags only the low octet where the value has one octet.
-fn data_for(kind: u8, operator: u8, data: u64) -> u64
-    ensures { λ r. ⌜ r ≡ dataFor kind operator «data» ⌝ }
+// Whether a pair of a list holds of the data; bits of its value that are to be ignored count as 0.
+fn pair_holds(shape: Shape, operator: u8, value: u64, data: u64) -> bool
+    ensures { λ r. ⌜ r ≡ holdsFor shape operator value «data» ⌝ }
 {
-    if kind != 9 {
-        return data;
+    let wanted = rule::plain_operand(shape.ignored, value);
+    if shape.bitmask {
+        return bitmask_holds(operator, data, wanted);
     }
-    if rule::size_of(operator) == 1 {
-        return data & 0xff;
-    }
-    data
-}
-
-// Whether a pair of a list of the given type holds of the data; bits of its value that are to be ignored count as 0.
-fn pair_holds(kind: u8, operator: u8, value: u64, data: u64) -> bool
-    ensures { λ r. ⌜ r ≡ holdsFor kind operator value «data» ⌝ }
-{
-    let judged = data_for(kind, operator, data);
-    let wanted = rule::plain_operand(kind, value);
-    if rule::is_bitmask(kind) {
-        return bitmask_holds(operator, judged, wanted);
-    }
-    numeric_holds(operator, judged, wanted)
+    numeric_holds(operator, data, wanted)
 }
 
 // A list judged one pair further: a pair that AND joins goes with the group before it, any other begins a new group.
@@ -261,22 +255,29 @@ fn with_pair(judged: Judged, joined: bool, holds: bool) -> Judged
     }
 }
 
-// A list judged one pair further, by the pair at a place; the first pair's AND is ignored.
-fn judge_pair(kind: u8, body: &[u8], at: usize, data: u64, judged: Judged) -> Judged
-    requires { ⌜ at < length (now body) ⌝ }
-    ensures { λ r. ⌜ r ≡ judgePair (now (body .entry)) kind at «data» judged ⌝ }
+// A list judged one pair further, by the pair from one place up to another; the first pair's AND is ignored.
+fn judge_pair(
+    shape: Shape,
+    body: &[u8],
+    at: usize,
+    next: usize,
+    data: u64,
+    judged: Judged,
+) -> Judged
+    requires { ⌜ (at < next) × ((next ≤ length (now body)) × (next ≤ at + 9)) ⌝ }
+    ensures { λ r. ⌜ r ≡ judgePair shape (now (body .entry)) at next «data» judged ⌝ }
 {
     let operator = octet_at(body, at);
-    let size = rule::size_of(operator);
-    let value = number_at(size, body, at + 1);
+    let start = at + 1;
+    let value = number_at(next - start, body, start);
     let joined = (operator & 0x40 != 0) & (at != 0);
-    let holds = pair_holds(kind, operator, value, data);
+    let holds = pair_holds(shape, operator, value, data);
     with_pair(judged, joined, holds)
 }
 
-// Whether the list that a body of the given type is holds of the data: an OR of ANDs, in one pass.
-fn list_holds(kind: u8, body: &[u8], data: u64) -> bool
-    ensures { λ r. ⌜ r ≡ bodyHolds kind (now (body .entry)) «data» ⌝ }
+// Whether the list that a body is holds of the data: an OR of ANDs, in one pass.
+fn list_holds(shape: Shape, body: &[u8], data: u64) -> bool
+    ensures { λ r. ⌜ r ≡ bodyHolds shape (now (body .entry)) «data» ⌝ }
 {
     let mut judged = Judged {
         found: false,
@@ -284,14 +285,14 @@ fn list_holds(kind: u8, body: &[u8], data: u64) -> bool
     };
     let mut at = 0;
     loop {
-        let pair = rule::pair_at(kind, body, at);
+        let pair = rule::pair_at(shape.largest, body, at);
         match pair {
             NextPair::More(next) => {
-                judged = judge_pair(kind, body, at, data, judged);
+                judged = judge_pair(shape, body, at, next, data, judged);
                 at = next;
             }
-            NextPair::Last(_) => {
-                let whole = judge_pair(kind, body, at, data, judged);
+            NextPair::Last(end) => {
+                let whole = judge_pair(shape, body, at, end, data, judged);
                 return whole.found | whole.group;
             }
             NextPair::Refused {
@@ -306,32 +307,31 @@ fn list_holds(kind: u8, body: &[u8], data: u64) -> bool
 
 // ---- Components and rules (section 4.2) ----
 
-// Whether the list that a body of the given type is holds of a field; of a hidden one it never does.
-fn field_matches(kind: u8, body: &[u8], field: Field) -> bool
-    ensures { λ r. ⌜ r ≡ fieldMatches kind (now (body .entry)) field ⌝ }
+// Whether the list that a body is holds of a field; of a hidden one it never does.
+fn field_matches(shape: Shape, body: &[u8], field: Field) -> bool
+    ensures { λ r. ⌜ r ≡ fieldMatches shape (now (body .entry)) field ⌝ }
 {
     match field {
-        Field::Shown(number) => list_holds(kind, body, number as u64),
+        Field::Shown(number) => list_holds(shape, body, number as u64),
         Field::Hidden => false,
     }
 }
 
-// Whether the prefix that a body spells contains an address.
-fn covers_address(body: &[u8], address: u32) -> bool
-    ensures { λ r. ⌜ r ≡ coversAddress 32 (now (body .entry)) address ⌝ }
+// Whether the prefix that a body spells covers an address.
+fn body_covers(family: Family, body: &[u8], address: Address) -> bool
+    requires { ⌜ family .width ≤ 128 ⌝ }
+    ensures { λ r. ⌜ r ≡ bodyCovers family (now (body .entry)) (addressOf address) ⌝ }
 {
-    let outer = prefix::prefix_of(body);
-    let inner = Prefix {
-        length: 32,
-        address,
-    };
-    prefix::contains_prefix(outer, inner)
+    let pattern = prefix::prefix_of(family.width, family.offsets, body);
+    prefix::covers_address(family.width, pattern, address)
 }
 
 // Whether a packet matches a component, given by its type and body: each type has its rule.
 fn matches_component(family: Family, kind: u8, body: &[u8], packet: Packet) -> bool
+    requires { ⌜ family .width ≤ 128 ⌝ }
     ensures { λ r. ⌜ r ≡ componentMatches family packet (component kind (now (body .entry))) ⌝ }
 {
+    let shape = rule::shape_of(family, kind);
     let protocol = packet.protocol;
     let transport = packet.transport;
     let source_port = transport.source_port;
@@ -340,18 +340,18 @@ fn matches_component(family: Family, kind: u8, body: &[u8], packet: Packet) -> b
     let icmp_code = transport.icmp_code;
     let flags = transport.flags;
     match kind {
-        1 => covers_address(body, packet.destination),
-        2 => covers_address(body, packet.source),
-        3 => field_matches(kind, body, protocol),
-        4 => field_matches(kind, body, source_port) | field_matches(kind, body, destination_port),
-        5 => field_matches(kind, body, destination_port),
-        6 => field_matches(kind, body, source_port),
-        7 => field_matches(kind, body, icmp_type),
-        8 => field_matches(kind, body, icmp_code),
-        9 => field_matches(kind, body, flags),
-        10 => list_holds(kind, body, packet.length as u64),
-        11 => list_holds(kind, body, packet.dscp as u64),
-        12 => list_holds(kind, body, packet.fragment as u64),
+        1 => body_covers(family, body, packet.destination),
+        2 => body_covers(family, body, packet.source),
+        3 => field_matches(shape, body, protocol),
+        4 => field_matches(shape, body, source_port) | field_matches(shape, body, destination_port),
+        5 => field_matches(shape, body, destination_port),
+        6 => field_matches(shape, body, source_port),
+        7 => field_matches(shape, body, icmp_type),
+        8 => field_matches(shape, body, icmp_code),
+        9 => field_matches(shape, body, flags),
+        10 => list_holds(shape, body, packet.length as u64),
+        11 => list_holds(shape, body, packet.dscp as u64),
+        12 => list_holds(shape, body, packet.fragment as u64),
         // No component of a rule has another type.
         _ => false,
     }
@@ -359,6 +359,7 @@ fn matches_component(family: Family, kind: u8, body: &[u8], packet: Packet) -> b
 
 // Whether a packet matches a rule, given by its value: whether it matches each component.
 pub fn matches_rule(family: Family, value: &[u8], packet: Packet) -> bool
+    requires { ⌜ family .width ≤ 128 ⌝ }
     ensures { λ r. ⌜ r ≡ matches family (now (value .entry)) packet ⌝ }
 {
     let mut at = 0;

@@ -50,7 +50,7 @@ module _ (bitmask first : Bool) (x : ℕ) (small : x < 256) where
       octet (λ y. plainOperator bitmask first (plainOperator bitmask first y)) (plainOperator bitmask first)
       (masked (λ f. allBelow 256 (λ y. eqb (f (f y)) (f y)) ≡ true) refl refl refl refl bitmask first) x small
 
-  operator-small : plainOperator bitmask first x < 256
+  pub operator-small : plainOperator bitmask first x < 256
   operator-small =
       ltb-true _ _
       (below 256 (λ y. ltb (plainOperator bitmask first y) 256) (masked (λ f. allBelow 256 (λ y. ltb (f y) 256) ≡ true) refl refl refl refl bitmask first) x small)

@@ -7,11 +7,11 @@ use Rattle.packet.proofs.judge_pair.Tie as tie
 octet-at-requires : tie.Need-octet-at-requires
 octet-at-requires c κs = search needs
 
-size-of-requires : tie.Need-size-of-requires
-size-of-requires c κs = search needs
+add-start : tie.Need-add-start
+add-start c = search needs
 
-add-number-at : tie.Need-add-number-at
-add-number-at c = search needs
+sub-number-at : tie.Need-sub-number-at
+sub-number-at c = search needs
 
 number-at-requires : tie.Need-number-at-requires
 number-at-requires c κs = search needs
@@ -30,8 +30,8 @@ judge-pair-spec =
     tie.close
     (tie.spec
     octet-at-requires
-    size-of-requires
-    add-number-at
+    add-start
+    sub-number-at
     number-at-requires
     pair-holds-requires
     with-pair-requires

@@ -9,10 +9,10 @@ use Rattle.packet.proofs.list_holds.Statement.{statement}
 use Rattle.packet.proofs.list_holds.Tie as tie
 
 abbrev Inv-loop : tie.InvT-loop
-Inv-loop kind body «data» judged₀ at₀ judged at = bodyHolds kind body «data» ≡ bodyTo kind body «data» at judged
+Inv-loop shape body «data» judged₀ at₀ judged at = bodyHolds shape body «data» ≡ bodyTo shape body «data» at judged
 
 abbrev μ-loop : tie.MeasureT-loop
-μ-loop kind body «data» judged₀ at₀ judged at = length body - at
+μ-loop shape body «data» judged₀ at₀ judged at = length body - at
 
 loop-holds : tie.Need-loop-holds Inv-loop μ-loop
 loop-holds c = search (body-start, needs)
@@ -24,7 +24,7 @@ enum-known-pair : tie.Need-enum-known-pair Inv-loop μ-loop
 enum-known-pair c = search needs
 
 judge-pair-requires : tie.Need-judge-pair-requires Inv-loop μ-loop
-judge-pair-requires c κs = search (more-inside, needs)
+judge-pair-requires c κs = more-inside _ _ _ _ _ (c .before .before .before .pair-at .ensures) (c .before .pair .given .1)
 
 loop-less : tie.Need-loop-less Inv-loop μ-loop
 loop-less c = search (more-nearer, needs)
@@ -32,17 +32,17 @@ loop-less c = search (more-nearer, needs)
 loop-again : tie.Need-loop-again Inv-loop μ-loop
 loop-again c = search (list-on, needs)
 
-enum-told : tie.Need-enum-told Inv-loop μ-loop
-enum-told c = search needs
+enum-known-pair-2 : tie.Need-enum-known-pair-2 Inv-loop μ-loop
+enum-known-pair-2 c = search needs
 
 judge-pair-requires-2 : tie.Need-judge-pair-requires-2 Inv-loop μ-loop
-judge-pair-requires-2 c κs = search (last-inside, needs)
+judge-pair-requires-2 c κs = last-inside _ _ _ _ _ (c .before .before .before .pair-at .ensures) (c .before .pair2 .given .1)
 
 returns : tie.Need-returns Inv-loop μ-loop
 returns c = search (list-last, needs)
 
-enum-told-2 : tie.Need-enum-told-2 Inv-loop μ-loop
-enum-told-2 c = search needs
+enum-told : tie.Need-enum-told Inv-loop μ-loop
+enum-told c = search needs
 
 returns-2 : tie.Need-returns-2 Inv-loop μ-loop
 returns-2 c = search (list-cut, needs)
@@ -59,8 +59,8 @@ list-holds-spec =
     judge-pair-requires
     loop-less
     loop-again
-    enum-told
+    enum-known-pair-2
     judge-pair-requires-2
     returns
-    enum-told-2
+    enum-told
     returns-2)

@@ -6,11 +6,14 @@ use borrow.Author.Needs.{needs}
 use Rattle.packet.proofs.matches_component.Statement.{statement}
 use Rattle.packet.proofs.matches_component.Tie as tie
 
-covers-address-requires : tie.Need-covers-address-requires
-covers-address-requires c κs = search needs
+shape-of-requires : tie.Need-shape-of-requires
+shape-of-requires c κs = search needs
 
-covers-address-requires-2 : tie.Need-covers-address-requires-2
-covers-address-requires-2 c κs = search needs
+body-covers-requires : tie.Need-body-covers-requires
+body-covers-requires c κs = search needs
+
+body-covers-requires-2 : tie.Need-body-covers-requires-2
+body-covers-requires-2 c κs = search needs
 
 field-matches-requires : tie.Need-field-matches-requires
 field-matches-requires c κs = search needs
@@ -62,43 +65,43 @@ returns-2 c = search (on-source, needs)
 
 returns-3 : tie.Need-returns-3
 unfolding fieldsFor
-returns-3 c = on-field _ _ _ _ 3 (c .before .match .keys3) refl _ _ refl (c .field-matches .ensures)
+returns-3 c = on-field _ _ _ _ 3 (c .before .match .keys3) refl _ (search needs) _ _ refl (c .field-matches .ensures)
 
 returns-4 : tie.Need-returns-4
 unfolding fieldsFor
-returns-4 c = on-either _ _ _ _ 4 (c .before .before .match .keys4) refl _ _ _ _ refl (c .before .field-matches2 .ensures) (c .field-matches3 .ensures)
+returns-4 c = on-either _ _ _ _ 4 (c .before .before .match .keys4) refl _ (search needs) _ _ _ _ refl (c .before .field-matches2 .ensures) (c .field-matches3 .ensures)
 
 returns-5 : tie.Need-returns-5
 unfolding fieldsFor
-returns-5 c = on-field _ _ _ _ 5 (c .before .match .keys5) refl _ _ refl (c .field-matches4 .ensures)
+returns-5 c = on-field _ _ _ _ 5 (c .before .match .keys5) refl _ (search needs) _ _ refl (c .field-matches4 .ensures)
 
 returns-6 : tie.Need-returns-6
 unfolding fieldsFor
-returns-6 c = on-field _ _ _ _ 6 (c .before .match .keys6) refl _ _ refl (c .field-matches5 .ensures)
+returns-6 c = on-field _ _ _ _ 6 (c .before .match .keys6) refl _ (search needs) _ _ refl (c .field-matches5 .ensures)
 
 returns-7 : tie.Need-returns-7
 unfolding fieldsFor
-returns-7 c = on-field _ _ _ _ 7 (c .before .match .keys7) refl _ _ refl (c .field-matches6 .ensures)
+returns-7 c = on-field _ _ _ _ 7 (c .before .match .keys7) refl _ (search needs) _ _ refl (c .field-matches6 .ensures)
 
 returns-8 : tie.Need-returns-8
 unfolding fieldsFor
-returns-8 c = on-field _ _ _ _ 8 (c .before .match .keys8) refl _ _ refl (c .field-matches7 .ensures)
+returns-8 c = on-field _ _ _ _ 8 (c .before .match .keys8) refl _ (search needs) _ _ refl (c .field-matches7 .ensures)
 
 returns-9 : tie.Need-returns-9
 unfolding fieldsFor
-returns-9 c = on-field _ _ _ _ 9 (c .before .match .keys9) refl _ _ refl (c .field-matches8 .ensures)
+returns-9 c = on-field _ _ _ _ 9 (c .before .match .keys9) refl _ (search needs) _ _ refl (c .field-matches8 .ensures)
 
 returns-10 : tie.Need-returns-10
 unfolding fieldsFor
-returns-10 c = on-number _ _ _ _ 10 (c .before .before .match .keys10) refl _ _ refl (c .list-holds .ensures)
+returns-10 c = on-number _ _ _ _ 10 (c .before .before .match .keys10) refl _ (search needs) _ _ refl (c .list-holds .ensures)
 
 returns-11 : tie.Need-returns-11
 unfolding fieldsFor
-returns-11 c = on-number _ _ _ _ 11 (c .before .before .match .keys11) refl _ _ refl (c .list-holds2 .ensures)
+returns-11 c = on-number _ _ _ _ 11 (c .before .before .match .keys11) refl _ (search needs) _ _ refl (c .list-holds2 .ensures)
 
 returns-12 : tie.Need-returns-12
 unfolding fieldsFor
-returns-12 c = on-number _ _ _ _ 12 (c .before .before .match .keys12) refl _ _ refl (c .list-holds3 .ensures)
+returns-12 c = on-number _ _ _ _ 12 (c .before .before .match .keys12) refl _ (search needs) _ _ refl (c .list-holds3 .ensures)
 
 returns-13 : tie.Need-returns-13
 returns-13 c = search (on-nothing, needs)
@@ -107,8 +110,9 @@ pub matches-component-spec : {M : Type 1} → statement M
 matches-component-spec =
     tie.close
     (tie.spec
-    covers-address-requires
-    covers-address-requires-2
+    shape-of-requires
+    body-covers-requires
+    body-covers-requires-2
     field-matches-requires
     field-matches-requires-2
     field-matches-requires-3

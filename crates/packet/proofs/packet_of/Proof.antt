@@ -22,14 +22,8 @@ transport-fields-requires c κs = search needs
 number-at-requires : tie.Need-number-at-requires
 number-at-requires c κs = search needs
 
-cast-t8 : tie.Need-cast-t8
-cast-t8 c = search needs
-
 number-at-requires-2 : tie.Need-number-at-requires-2
 number-at-requires-2 c κs = search needs
-
-cast-t10 : tie.Need-cast-t10
-cast-t10 c = search needs
 
 cast-t11 : tie.Need-cast-t11
 cast-t11 c = search needs
@@ -62,9 +56,7 @@ packet-of-spec =
     transport-octets-requires
     transport-fields-requires
     number-at-requires
-    cast-t8
     number-at-requires-2
-    cast-t10
     cast-t11
     number-at-requires-3
     cast-t14

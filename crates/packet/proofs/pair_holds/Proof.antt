@@ -1,17 +1,11 @@
--- The type chooses the operator.
+-- The shape chooses the operator.
 use Rattle.packet.proofs.ListLaws.{holds-mask, holds-number}
 use borrow.Author.Needs.{needs}
 use Rattle.packet.proofs.pair_holds.Statement.{statement}
 use Rattle.packet.proofs.pair_holds.Tie as tie
 
-data-for-requires : tie.Need-data-for-requires
-data-for-requires c κs = search needs
-
 plain-operand-requires : tie.Need-plain-operand-requires
 plain-operand-requires c κs = search needs
-
-is-bitmask-requires : tie.Need-is-bitmask-requires
-is-bitmask-requires c κs = search needs
 
 bitmask-holds-requires : tie.Need-bitmask-holds-requires
 bitmask-holds-requires c κs = search needs
@@ -29,9 +23,7 @@ pub pair-holds-spec : {M : Type 1} → statement M
 pair-holds-spec =
     tie.close
     (tie.spec
-    data-for-requires
     plain-operand-requires
-    is-bitmask-requires
     bitmask-holds-requires
     returns
     numeric-holds-requires
