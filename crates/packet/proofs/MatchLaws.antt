@@ -98,7 +98,7 @@ abbrev pub matchesFrom : Family → List ℕ → Packet → ℕ → ℕ → Bool
 matchesFrom family v packet at previous =
     every (componentMatches family packet) (componentsFrom family v (record { at = at; previous = previous }) .items)
 
-pub from-start : (family : Family) (v : List ℕ) (packet : Packet) → matches family v packet ≡ matchesFrom family v packet 0 0
+pub from-start : (family : Family) (v : List ℕ) (packet : Packet) → matches family v packet ≡ matchesFrom family v packet (family .head) 0
 unfolding matches components
 from-start family v packet = refl
 

@@ -362,7 +362,7 @@ pub fn matches_rule(family: Family, value: &[u8], packet: Packet) -> bool
     requires { ⌜ family .width ≤ 128 ⌝ }
     ensures { λ r. ⌜ r ≡ matches family (now (value .entry)) packet ⌝ }
 {
-    let mut at = 0;
+    let mut at = family.head;
     let mut previous = 0;
     loop {
         let next = rule::next_component(family, value, at, previous);
