@@ -6,12 +6,12 @@ pub mod Refusal
 pub mod ComponentLaws
 pub mod ReaderLaws
 pub mod ValueLaws
+pub mod ComponentsLaws
 pub mod PlainLaws
 pub mod ClearedLaws
 pub mod SpellingLaws
 pub mod FillLaws
 pub mod ReadingLaws
 pub mod WritingLaws
-pub mod ComponentsLaws
 pub mod RoundTripLaws
 pub mod Examples

@@ -2,7 +2,7 @@
 -- list the same pairs, each plain, and a value is accepted or refused as its plain spelling is. Assumes nothing.
 use mathlib.Core.Path.{_≡_, refl, sym, ap, ap₂, subst, _∙_}
 use mathlib.Core.Bool.{Bool, true, false, cond}
-use mathlib.Core.List.{List, [], _∷_, map}
+use mathlib.Core.List.{List, [], _∷_, _++_, map}
 use mathlib.Core.Logic.{⊎-elim}
 use Prim.Native.Nat.{ℕ, zero, suc, _+_, _-_, _/_, _<_, _≤_}
 use native.Mathlib.Omega.{arith}
@@ -12,7 +12,7 @@ use native.Mathlib.Nat.{add-zero, zero-add}
 use lib.Dec.{leb, ltb}
 use lib.ListN.{length, getD, take, drop, drop-of-length-le, List·getD-eq-default}
 use lib.Seq.{drop-cons, drop-drop, getD-drop}
-use borrow.Author.Tests.{lt-ltb, leb-false, leb-true, ltb-true, ltb-false}
+use borrow.Author.Tests.{lt-ltb, lt-leb, leb-false, leb-true, ltb-true, ltb-false}
 use Rattle.octets.specs.Number.{numberAt}
 use Rattle.octets.specs.Walk.{Walk, before}
 use Rattle.octets.proofs.Cases.{by-test}
@@ -29,16 +29,18 @@ use Rattle.rule.specs.declared.BodyEnd.the-variants.{At, Refused as Refu
 use Rattle.rule.specs.declared.Next.{Next}
 use Rattle.rule.specs.declared.Next.the-variants.{Nothing, Another, Refused as RefusedNext}
 use Rattle.rule.specs.declared.Checked.{Checked}
+use Rattle.rule.specs.declared.Checked.the-variants.{Accepted}
 use Rattle.rule.specs.Shape.{shapeOf}
 use Rattle.rule.specs.Operator.{endsList, sizeOf}
 use Rattle.rule.specs.Component.{pairAt, Pair, pairOf, pairsFrom, leadOf, offsetAt, prefixEnd, bodyEnd, found, componentAt}
-use Rattle.rule.specs.Value.{Component, between, atStart, componentsFrom, components, checkValue}
+use Rattle.rule.specs.Value.{Component, spelled, between, headOf, atStart, componentsFrom, components, checkValue}
 use Rattle.rule.specs.Plain.{expectedAtStart, bodyOf, patternAfter, operandAfter, after, plainOperand, clearedOctet, plainFrom, plain}
 use Rattle.rule.specs.PlainComponent.{plainPair, plainPairs, plainComponent}
 use Rattle.rule.proofs.ShapeLaws.{one-octet-or-whole}
 use Rattle.rule.proofs.OperatorLaws.{size-positive}
 use Rattle.rule.proofs.ComponentLaws.{pair-cases, lead-with, lead-without, offset-with, offset-without, prefix-cases, prefix-missing, component-cases, pairs-more, pairs-last, pairs-refused, pairs-ind}
 use Rattle.rule.proofs.ValueLaws.{was-found, components-more, components-none, components-refused, components-ind}
+use Rattle.rule.proofs.ComponentsLaws.{spelled-whole}
 use Rattle.rule.proofs.PlainLaws.{length-plain-from, length-plain, starts-with-kind, starts-with-head, whole-operand, after-length-offset, after-length, after-offset}
 use Rattle.rule.proofs.ClearedLaws.{size-kept, end-kept}
 
@@ -397,6 +399,23 @@ module _ (family : Family) (v : List ℕ) where
             subst (λ n. Expects family start v n Kind) (sym none) first
       ]
 
+  -- and the head is kept
+  octets-kept : (n : ℕ) (w : List ℕ) → take (suc n) (plainFrom family (Head (suc n)) w) ≡ take (suc n) w
+  unfolding plainFrom after clearedOctet
+  octets-kept n [] = refl
+  octets-kept zero (x ∷ xs) = refl
+  octets-kept (suc n) (x ∷ xs) =
+      let e : suc (suc n) - 1 ≡ suc n = omega arith in
+      rw (lt-leb (suc (suc n)) 1 (omega arith), e) (ap (λ (l : List ℕ). x ∷ l) (octets-kept n xs))
+
+  pub head-kept : headOf family (plain family v) ≡ headOf family v
+  unfolding plain
+  head-kept = go (family .head) (expectedAtStart family) (λ h. sym (starts-with-head family h))
+    where
+      go : (n : ℕ) (e : Expected) → ((n ≡ 0 → ⊥) → e ≡ Head n) → take n (plainFrom family e v) ≡ take n v
+      go zero e starts = refl
+      go (suc n) e starts = rw (starts (λ z. omega arith)) (octets-kept n v)
+
 module _ (family : Family) (v : List ℕ) (o : Octets v) where
   same-walk : componentsFrom family (plain family v) (atStart family) ≡ plainWalk family (componentsFrom family v (atStart family))
   unfolding WalkSame plain
@@ -411,3 +430,7 @@ module _ (family : Family) (v : List ℕ) (o : Octets v) where
   pub check-plain : checkValue family (plain family v) ≡ checkValue family v
   unfolding checkValue
   check-plain = rw (length-plain family v, same-walk)
+
+  -- the plain spelling of an accepted value is its head and its components in the plain spelling, one after the other
+  pub plain-whole : checkValue family v ≡ Accepted → headOf family v ++ spelled (map (plainComponent family) (components family v)) ≡ plain family v
+  plain-whole ok = rw (← head-kept family v, ← components-plain) (spelled-whole family (plain family v) (check-plain ∙ ok))

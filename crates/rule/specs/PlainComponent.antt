@@ -1,6 +1,6 @@
 -- The plain spelling of a component, of a list's pairs and of one pair, as a reader has them: a component keeps its type, and a pair of a list
--- its size. That the plain spelling of a value has just these components, and a plain list just these pairs, are the laws
--- `components-plain` and `pairs-plain`.
+-- its size. That the plain spelling of an accepted value is its head and just these components, and a plain list just these pairs, are
+-- the laws `plain-whole` and `pairs-plain`.
 use mathlib.Core.Bool.{Bool, false}
 use mathlib.Core.List.{List, [], _∷_}
 use Rattle.rule.specs.declared.Family.{Family}

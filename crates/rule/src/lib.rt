@@ -373,17 +373,16 @@ pub fn check_value(family: Family, value: &[u8]) -> Checked
             place: 0,
         };
     }
-    let end = value.len();
-    if (end == 0) | (end == family.head) {
+    if (value.len() == 0) | (value.len() == family.head) {
         return Checked::Refused {
             number: 2,
             place: 0,
         };
     }
-    if end < family.head {
+    if value.len() < family.head {
         return Checked::Refused {
             number: 6,
-            place: end,
+            place: value.len(),
         };
     }
     let mut at = family.head;

@@ -10,10 +10,10 @@ use Rattle.rule.proofs.check_value.Statement.{statement}
 use Rattle.rule.proofs.check_value.Tie as tie
 
 abbrev Inv-loop : tie.InvT-loop
-Inv-loop family value end at₀ previous₀ at previous = checkValue family value ≡ accepts family value at previous
+Inv-loop family value at₀ previous₀ at previous = checkValue family value ≡ accepts family value at previous
 
 abbrev μ-loop : tie.MeasureT-loop
-μ-loop family value end at₀ previous₀ at previous = length value - at
+μ-loop family value at₀ previous₀ at previous = length value - at
 
 returns : tie.Need-returns Inv-loop μ-loop
 returns c = search (check-long, needs)
