@@ -1,7 +1,7 @@
 -- Laws of communities: the kind of each type, what a community of each kind adds, and what one community more adds.
 use Prim.Native.Nat.{ℕ, suc, _+_, _-_, _/_, _%_, _^_, _<_, _≤_}
 use mathlib.Core.Path.{_≡_}
-use mathlib.Core.Bool.{Bool, true, false, cond, not}
+use mathlib.Core.Bool.{Bool, true, false, cond, not, _||_}
 use mathlib.Core.List.{List}
 use native.Mathlib.Nat.{sub-zero}
 use native.Mathlib.Omega.{arith}
@@ -9,19 +9,21 @@ use borrow.Author.Tests.{ne-eqb, ltb-false, eqb-true, not-false}
 use lib.Bits.{bitAnd, and-mask}
 use lib.Dec.{ltb, eqb}
 use lib.ListN.{length}
+use Rattle.octets.specs.Bit.{has}
+use Rattle.octets.specs.Number.{numberAt}
 use Rattle.octets.proofs.Cases.{neither}
+use Rattle.rate.specs.declared.Rate.{Rate}
+use Rattle.rate.specs.declared.Rate.the-variants.{Number, NotANumber}
 use Rattle.action.specs.declared.Actions.{Actions}
 use Rattle.action.specs.declared.Given.{Given}
 use Rattle.action.specs.declared.Kind.{Kind}
-use Rattle.action.specs.declared.Kind.the-variants.{Redirect, Other}
-use Rattle.action.specs.declared.Rate.{Rate}
-use Rattle.action.specs.declared.Rate.the-variants.{Number, NotANumber}
+use Rattle.action.specs.declared.Kind.the-variants.{ByteRate, PacketRate, TrafficAction, Redirect, Marking, Other}
 use Rattle.action.specs.declared.Reading.{Reading}
 use Rattle.action.specs.declared.Reading.the-variants.{Read, Unsound}
-use Rattle.action.specs.Given.{smallerOf}
-use Rattle.action.specs.Rate.{rateOf}
-use Rattle.octets.specs.Number.{numberAt}
-use Rattle.action.specs.Actions.{noActions, isRedirect, kindOf, rateIn, smallestRate, withRate, withKind, withCommunity, withCommunities, communitiesAt, andThen, wrongLength, actionsOf}
+use Rattle.action.specs.Given.{given, smallerOf, firstOf}
+use Rattle.action.specs.Actions.{noActions, isRedirect, rateIn, communitiesAt, wrongLength, actionsOf}
+use Rattle.action.specs.Reading.{kindOf, withByteRate, withPacketRate, withFlags, withMarking, withRedirect, withRate, withKind, withCommunity, withCommunities, andThen}
+use Rattle.action.proofs.ReadingLaws.{by-reading}
 
 -- A type that is none of the four single ones is a redirect or is skipped.
 pub last-kind : (type : ℕ) (r : Bool) → (type ≡ 0x8006 → ⊥) → (type ≡ 0x800c → ⊥) → (type ≡ 0x8007 → ⊥) → (type ≡ 0x8009 → ⊥)
@@ -30,32 +32,49 @@ unfolding kindOf
 last-kind type r b p t m h =
     rw (ne-eqb type 0x8006 b, ne-eqb type 0x800c p, ne-eqb type 0x8007 t, ne-eqb type 0x8009 m, h)
 
-module _ (before : Given) (c : ℕ) (r : Rate) (read : r ≡ rateOf (bitAnd c 0xffff_ffff)) where
-  -- A rate in a community that is a number counts with the one before it.
-  pub smaller-rate : (g s : Given) → r ≡ Number g → s ≡ smallerOf before g → Number s ≡ smallestRate before (rateIn c)
-  unfolding smallestRate
-  smaller-rate g s h k = rw (← (and-mask c 32), ← read, h, k)
+-- What a community c, read as x, adds to the actions a, by its kind: they become b, or are refused.
+module _ (a : Actions) (c x : ℕ) (k : Kind) (here : x ≡ c) (kind : k ≡ kindOf (x / 2 ^ 48)) where
+  known : (want : Kind) (r : Reading) → k ≡ want → withKind want a x ≡ r → withCommunity a c ≡ r
+  unfolding withCommunity
+  known want r h e = rw (← here, ← kind, h) e
 
-  -- A rate in a community that is not a number stays so.
-  pub no-rate : r ≡ NotANumber → NotANumber ≡ smallestRate before (rateIn c)
-  unfolding smallestRate
-  no-rate h = rw (← (and-mask c 32), ← read, h)
+  module _ (r : Rate) (read : r ≡ rateIn x) (is : r ≡ NotANumber) where
+    pub refuses-byte-rate : k ≡ ByteRate → withCommunity a c ≡ Unsound
+    unfolding withKind withRate
+    refuses-byte-rate h = known ByteRate _ h (rw (← read, is))
 
--- What a community adds is what its kind adds.
-pub known : (kind : Kind) (a : Actions) (c : ℕ) (r : Reading) → kindOf (c / 2 ^ 48) ≡ kind → r ≡ withKind kind a c → r ≡ withCommunity a c
-unfolding withCommunity
-known kind a c r h e = rw h e
+    pub refuses-packet-rate : k ≡ PacketRate → withCommunity a c ≡ Unsound
+    unfolding withKind withRate
+    refuses-packet-rate h = known PacketRate _ h (rw (← read, is))
 
-module _ (change : Given → Actions) (r : Rate) where
-  -- A rate that is a number changes its field.
-  pub rate-read : (g : Given) → r ≡ Number g → Read (change g) ≡ withRate change r
-  unfolding withRate
-  rate-read g h = rw h
+  module _ (b : Actions) where
+    pub takes-byte-rate : (r : Rate) (n : ℕ) (g s : Given) → k ≡ ByteRate → r ≡ rateIn x → r ≡ Number n → g ≡ given n
+        → s ≡ smallerOf (a .bytes) g → b ≡ withByteRate a s → withCommunity a c ≡ Read b
+    unfolding withKind withRate
+    takes-byte-rate r n g s h read is g-is s-is b-is = known ByteRate _ h (rw (← read, is, b-is, s-is, g-is))
 
-  -- A rate that is not a number is refused.
-  pub rate-refused : r ≡ NotANumber → Unsound ≡ withRate change r
-  unfolding withRate
-  rate-refused h = rw h
+    pub takes-packet-rate : (r : Rate) (n : ℕ) (g s : Given) → k ≡ PacketRate → r ≡ rateIn x → r ≡ Number n → g ≡ given n
+        → s ≡ smallerOf (a .packets) g → b ≡ withPacketRate a s → withCommunity a c ≡ Read b
+    unfolding withKind withRate
+    takes-packet-rate r n g s h read is g-is s-is b-is = known PacketRate _ h (rw (← read, is, b-is, s-is, g-is))
+
+    pub takes-flags : k ≡ TrafficAction → b ≡ withFlags a (a .sample || has x 0x02) (a .onward || has x 0x01) → withCommunity a c ≡ Read b
+    unfolding withKind
+    takes-flags h b-is = known TrafficAction _ h (rw b-is)
+
+    pub takes-marking : (g s : Given) → k ≡ Marking → g ≡ given (bitAnd x 0x3f) → s ≡ firstOf (a .marking) g → b ≡ withMarking a s
+        → withCommunity a c ≡ Read b
+    unfolding withKind
+    takes-marking g s h g-is s-is b-is = known Marking _ h (rw (b-is, s-is, g-is, and-mask x 6))
+
+    pub takes-redirect : (g s : Given) → k ≡ Redirect → g ≡ given x → s ≡ firstOf (a .redirect) g → b ≡ withRedirect a s
+        → withCommunity a c ≡ Read b
+    unfolding withKind
+    takes-redirect g s h g-is s-is b-is = known Redirect _ h (rw (b-is, s-is, g-is))
+
+    pub skipped : k ≡ Other → b ≡ a → withCommunity a c ≡ Read b
+    unfolding withKind
+    skipped h b-is = known Other _ h (rw b-is)
 
 -- How far the communities have been read: the actions so far and the rest give the whole answer.
 pub record Reached (s : List ℕ) (a : Actions) (at : ℕ) : Type 0 where
@@ -66,19 +85,17 @@ pub record Reached (s : List ℕ) (a : Actions) (at : ℕ) : Type 0 where
 
 -- A wrong length is refused.
 pub refused : (s : List ℕ) → wrongLength (length s) ≡ true → Unsound ≡ actionsOf s
-unfolding actionsOf
-refused s h = rw h
+refused s h = rw (by-reading s, h)
 
 -- Before the first community.
 pub start : (s : List ℕ) (a : Actions) → wrongLength (length s) ≡ false → a ≡ noActions → Reached s a 0
-unfolding actionsOf
 start s a h e =
     let both = neither (ltb 512 (length s)) (not (eqb (length s % 8) 0)) h in
     record {
       few = ltb-false 512 (length s) (both .0);
       within = omega arith;
       whole = rw sub-zero (eqb-true (length s % 8) 0 (not-false (eqb (length s % 8) 0) (both .1)));
-      goes-on = rw (h, e, sub-zero);
+      goes-on = rw (by-reading s, h, e, sub-zero);
     }
 
 module _ (s : List ℕ) (a : Actions) (at : ℕ) (reached : Reached s a at) where

@@ -1,18 +1,15 @@
 -- Laws of merging: it is associative, merging with no actions changes nothing but T, and T is never carried.
 use mathlib.Core.Path.{_≡_, refl}
-use mathlib.Core.Bool.{Bool, true, false, or-false, _||_}
+use mathlib.Core.Bool.{true, false, or-false}
+use Rattle.rate.specs.Rate.{rateGiven}
 use Rattle.action.specs.declared.Actions.{Actions}
 use Rattle.action.specs.Given.{smallerOf, firstOf}
-use Rattle.action.specs.Actions.{noActions, withFlags}
+use Rattle.action.specs.Actions.{noActions}
 use Rattle.action.specs.Merging.{merged}
 use Rattle.action.specs.Possible.{couldBe}
-use Rattle.action.proofs.GivenLaws.{smaller-assoc, first-assoc, fine-smaller, fine-first, smaller-absent, first-absent}
+use Rattle.action.specs.Reading.{withFlags}
+use Rattle.action.proofs.GivenLaws.{smaller-assoc, first-assoc, or-assoc, fine-smaller, fine-first, smaller-absent, first-absent}
 use Rattle.action.proofs.PossibleLaws.{could, could-be, sixBits, redirectType}
-use Rattle.action.specs.Rate.{rateGiven}
-
-or-assoc : (a b c : Bool) → a || b || c ≡ a || (b || c)
-or-assoc true b c = refl
-or-assoc false b c = refl
 
 pub merged-assoc : (a b c : Actions) → merged (merged a b) c ≡ merged a (merged b c)
 unfolding merged

@@ -14,17 +14,19 @@ use Rattle.octets.specs.Number.{octetsOf}
 use Rattle.octets.proofs.Cases.{by-test}
 use Rattle.octets.proofs.Facts.{Octets, octets-append}
 use Rattle.octets.proofs.NumberLaws.{number-behind, length-octetsOf, octets-octetsOf, number-octets}
+use Rattle.rate.specs.Rate.{rateGiven}
+use Rattle.rate.proofs.RatesGiven.{sound}
 use Rattle.action.specs.declared.Actions.{Actions}
 use Rattle.action.specs.declared.Given.{Given}
 use Rattle.action.specs.declared.Kind.{Kind}
 use Rattle.action.specs.declared.Kind.the-variants.{ByteRate, PacketRate, TrafficAction, Redirect, Marking}
 use Rattle.action.specs.declared.Reading.the-variants.{Read}
 use Rattle.action.specs.Given.{absent, given, smallerOf, firstOf}
-use Rattle.action.specs.Rate.{rateGiven}
-use Rattle.action.specs.Actions.{noActions, withByteRate, withPacketRate, withFlags, withMarking, withRedirect, isRedirect, kindOf, rateIn, smallestRate, withRate, withKind, withCommunity, withCommunities, wrongLength, communitiesAt, actionsOf}
+use Rattle.action.specs.Actions.{noActions, isRedirect, rateIn, wrongLength, communitiesAt, actionsOf}
 use Rattle.action.specs.Possible.{couldBe}
+use Rattle.action.specs.Reading.{kindOf, withByteRate, withPacketRate, withFlags, withMarking, withRedirect, withRate, withKind, withCommunity, withCommunities}
 use Rattle.action.proofs.GivenLaws.{Fine, by-fine}
-use Rattle.action.proofs.RatesGiven.{sound}
+use Rattle.action.proofs.ReadingLaws.{by-reading}
 use Rattle.action.proofs.PossibleLaws.{Could, could, sixBits, redirectType}
 
 communities-past : (n : ℕ) (s t : List ℕ) (at : ℕ) → communitiesAt n (s ++ t) (length s + at) ≡ communitiesAt n t at
@@ -107,9 +109,9 @@ adds-kind kind type low a b p q h k =
 
 -- A rate that some single gives, of either kind.
 adds-rate : (kind : Kind) (type : ℕ) (change : Given → Actions) → type < 2 ^ 16 → kindOf type ≡ kind
-    → ((c : ℕ) → withKind kind (change absent) c ≡ withRate change (smallestRate absent (rateIn c)))
+    → ((c : ℕ) → withKind kind (change absent) c ≡ withRate (λ n. change (smallerOf absent (given n))) (rateIn c))
     → (m : ℕ) → rateGiven m ≡ true → Adds (change absent) (change (given m))
-unfolding smallestRate smallerOf withRate
+unfolding smallerOf firstOf withRate
 adds-rate kind type change p h same m g =
     let s = sound m g in
     let below = s .1 in
@@ -166,7 +168,6 @@ right-length octets count h p = rw (le-ltb 512 octets (omega arith), eq-eqb (oct
 
 -- Every actions that could be are those of some communities.
 pub possible-read : (a : Actions) → couldBe a ≡ true → (s : List ℕ) × (Octets s) × (length s ≤ 512) × (actionsOf s ≡ Read a)
-unfolding actionsOf
 possible-read a h =
     let p = says a (could a h) in
     let few = p .few in
@@ -174,4 +175,4 @@ possible-read a h =
     let long = length-written (p .communities) in
     let count : length s / 8 ≡ length (p .communities) = omega arith in
     let right = right-length (length s) (length (p .communities)) long (omega arith) in
-    (s, written-octets (p .communities), omega arith, rw (right, count, communities-written (p .communities) (p .fit)) (p .reads))
+    (s, written-octets (p .communities), omega arith, rw (by-reading s, right, count, communities-written (p .communities) (p .fit)) (p .reads))

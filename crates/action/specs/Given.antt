@@ -1,7 +1,7 @@
 -- Numbers that may be missing, as a rule need not limit, mark or redirect. A missing number stands as 0, and a present 0 is another thing.
-use Prim.Native.Nat.{ℕ}
+use Prim.Native.Nat.{ℕ, min}
 use mathlib.Core.Bool.{Bool, true, false, cond, _&&_}
-use lib.Dec.{ltb, eqb}
+use lib.Dec.{eqb}
 use Rattle.action.specs.declared.Given.{Given}
 
 -- No number.
@@ -12,13 +12,13 @@ absent = record { present = false; number = 0 }
 abbrev pub given : ℕ → Given
 given n = record { present = true; number = n }
 
--- 01: "smallest rate of each kind": the smaller of two, or the one that is there; of equal ones the first.
-unfoldable pub smallerOf : Given → Given → Given
-smallerOf a b = cond (a .present) (cond (b .present && ltb (b .number) (a .number)) b a) b
-
 -- 01: "first marking, first redirect": the first that is there.
 unfoldable pub firstOf : Given → Given → Given
 firstOf a b = cond (a .present) a b
+
+-- 01: "smallest rate of each kind": the smaller of two that are there, or the one that is.
+unfoldable pub smallerOf : Given → Given → Given
+smallerOf a b = cond (a .present && b .present) (given (min (a .number) (b .number))) (firstOf a b)
 
 -- A number that is there passes the test; one that is absent is 0.
 unfoldable pub allowed : Given → Bool → Bool

@@ -1,6 +1,6 @@
 -- The definitions of this crate, in the order in which to read them.
-pub mod Rate
 pub mod Given
 pub mod Actions
 pub mod Merging
 pub mod Possible
+pub mod Reading

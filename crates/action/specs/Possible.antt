@@ -2,9 +2,9 @@
 use Prim.Native.Nat.{_/_, _^_}
 use mathlib.Core.Bool.{Bool, _&&_}
 use lib.Dec.{ltb}
+use Rattle.rate.specs.Rate.{rateGiven}
 use Rattle.action.specs.declared.Actions.{Actions}
 use Rattle.action.specs.Given.{allowed}
-use Rattle.action.specs.Rate.{rateGiven}
 use Rattle.action.specs.Actions.{isRedirect}
 
 -- Rates are numbers that some single gives, a marking has six bits, a redirect is a community of that type, and a missing number is 0.

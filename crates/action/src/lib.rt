@@ -1,22 +1,17 @@
-// Filtering actions (RFC 8955 section 7): rates, the actions of a rule's communities, and merging over several matching rules.
+// Filtering actions (RFC 8955 section 7): the actions of a rule's communities, and merging over several matching rules.
 ghost use mathlib.Core.Path.{_≡_};
-ghost use Prim.Native.Nat.{_<_, _%_, _^_};
-ghost use Rattle.action.specs.Rate.{rateOf, wholeOf, rateGiven};
+ghost use Prim.Native.Nat.{min};
 ghost use Rattle.action.specs.Given.{given, smallerOf, firstOf, allowed};
-ghost use Rattle.action.specs.Actions.{noActions, isRedirect, kindOf, rateIn, smallestRate, withCommunity, actionsOf};
+ghost use Rattle.action.specs.Actions.{noActions, isRedirect, rateIn, actionsOf};
 ghost use Rattle.action.specs.Merging.{merged};
 ghost use Rattle.action.specs.Possible.{couldBe};
+ghost use Rattle.action.specs.Reading.{kindOf};
+use rate::Rate;
 
 // A number that may be missing; a missing one is 0.
 pub struct Given {
     pub present: bool,
     pub number: u64,
-}
-
-// What a rate gives, as actions hold it: a number, or nothing to go by.
-pub enum Rate {
-    Number(Given),
-    NotANumber,
 }
 
 // What rules ask for: limits, S as `sample`, T as `onward`, a marking, and the redirect community.
@@ -55,81 +50,34 @@ fn given_of(number: u64) -> Given
     }
 }
 
-// The number that a single without its sign gives, by the size of its exponent.
-fn whole_of(exponent: u32, fraction: u32) -> u64
-    requires { ⌜ fraction < 2 ^ 23 ⌝ }
-    ensures { λ r. ⌜ r ≡ wholeOf exponent fraction ⌝ }
+// The lesser of two numbers.
+fn lesser(a: u64, b: u64) -> u64
+    ensures { λ r. ⌜ r ≡ min a b ⌝ }
 {
-    if (exponent == 0) & (fraction == 0) {
-        return 0;
-    }
-    if exponent < 127 {
-        return 1;
-    }
-    if 190 <= exponent {
-        return 0x8000_0000_0000_0000;
-    }
-    let digits = 0x80_0000 + fraction as u64;
-    if 150 <= exponent {
-        let up = exponent - 150;
-        return digits << up;
-    }
-    let down = 150 - exponent;
-    digits >> down
+    if a < b { a } else { b }
 }
 
-// The number that a single gives as a rate, cut into sign, exponent and fraction.
-pub fn rate_of(single: u32) -> Rate
-    ensures { λ r. ⌜ r ≡ rateOf single ⌝ }
-{
-    let sign = single >> 31;
-    let exponent = (single >> 23) & 0xff;
-    let fraction = single & 0x7f_ffff;
-    if (exponent == 255) & (fraction != 0) {
-        return Rate::NotANumber;
-    }
-    if sign != 0 {
-        return Rate::Number(given_of(0));
-    }
-    let number = whole_of(exponent, fraction);
-    Rate::Number(given_of(number))
-}
-
-// Is a number one that some rate gives?
-pub fn is_rate(number: u64) -> bool
-    ensures { λ r. ⌜ r ≡ rateGiven number ⌝ }
-{
-    if 0x8000_0000_0000_0000 < number {
-        return false;
-    }
-    let mut rest = number;
-    while 0x100_0000 <= rest {
-        if rest % 2 != 0 {
-            return false;
-        }
-        rest = rest / 2;
-    }
-    true
-}
-
-// The smaller of two rates, or the one that is there; of equal ones the first.
-fn smaller_of(first: Given, second: Given) -> Given
-    ensures { λ r. ⌜ r ≡ smallerOf first second ⌝ }
-{
-    if !first.present {
-        return second;
-    }
-    if second.present & (second.number < first.number) {
-        return second;
-    }
-    first
-}
-
-// The first of two that is there.
+// The first of two that is there; its parts are put together anew, since a copy of the whole is slower.
 fn first_of(first: Given, second: Given) -> Given
     ensures { λ r. ⌜ r ≡ firstOf first second ⌝ }
 {
-    if first.present { first } else { second }
+    if first.present {
+        return given_of(first.number);
+    }
+    Given {
+        present: second.present,
+        number: second.number,
+    }
+}
+
+// The smaller of two rates that are there, or the one that is.
+fn smaller_of(first: Given, second: Given) -> Given
+    ensures { λ r. ⌜ r ≡ smallerOf first second ⌝ }
+{
+    if first.present & second.present {
+        return given_of(lesser(first.number, second.number));
+    }
+    first_of(first, second)
 }
 
 // A rule that asks for nothing.
@@ -176,56 +124,16 @@ fn kind_of(octets: u64) -> Kind
     }
 }
 
-// The smallest rate of a kind: the smaller of the one before and the one in a community, its last four octets.
-fn smallest_rate(before: Given, community: u64) -> Rate
-    ensures { λ r. ⌜ r ≡ smallestRate before (rateIn community) ⌝ }
+// The rate in a community: its last four octets.
+fn rate_in(community: u64) -> Rate
+    ensures { λ r. ⌜ r ≡ rateIn community ⌝ }
 {
     let single = community & 0xffff_ffff;
-    let Rate::Number(rate) = rate_of(single as u32) else {
-        return Rate::NotANumber;
-    };
-    let smaller = smaller_of(before, rate);
-    Rate::Number(smaller)
+    rate::rate_of(single as u32)
 }
 
-// What a community adds to the actions told so far: its kind says which field is changed, S and T together, none where it is skipped.
-fn with_community(actions: Actions, community: u64) -> Reading
-    ensures { λ r. ⌜ r ≡ withCommunity actions community ⌝ }
-{
-    let mut next = actions;
-    let kind = kind_of(community >> 48);
-    match kind {
-        Kind::ByteRate => {
-            let Rate::Number(rate) = smallest_rate(actions.bytes, community) else {
-                return Reading::Unsound;
-            };
-            next.bytes = rate;
-        }
-        Kind::PacketRate => {
-            let Rate::Number(rate) = smallest_rate(actions.packets, community) else {
-                return Reading::Unsound;
-            };
-            next.packets = rate;
-        }
-        Kind::TrafficAction => {
-            next.sample = actions.sample | (community & 0x02 != 0);
-            next.onward = actions.onward | (community & 0x01 != 0);
-        }
-        Kind::Marking => {
-            let marking = first_of(actions.marking, given_of(community & 0x3f));
-            next.marking = marking;
-        }
-        Kind::Redirect => {
-            let redirect = first_of(actions.redirect, given_of(community));
-            next.redirect = redirect;
-        }
-        Kind::Other => {}
-    }
-    Reading::Read(next)
-}
-
-// The actions of a rule, from the octets of its communities; unsound at a length that is not 0 to 64 communities, or at a rate that is
-// not a number.
+// The actions of a rule, from the octets of its communities: each changes the field of its kind, S and T together; unsound at a length
+// that is not 0 to 64 communities, or at a rate that is not a number.
 pub fn actions_of(communities: &[u8]) -> Reading
     ensures { λ r. ⌜ r ≡ actionsOf (now (communities .entry)) ⌝ }
 {
@@ -237,10 +145,31 @@ pub fn actions_of(communities: &[u8]) -> Reading
     let mut at = 0;
     while at < length {
         let community = octets::number_at(8, communities, at);
-        let Reading::Read(next) = with_community(actions, community) else {
-            return Reading::Unsound;
-        };
-        actions = next;
+        match kind_of(community >> 48) {
+            Kind::ByteRate => {
+                let Rate::Number(rate) = rate_in(community) else {
+                    return Reading::Unsound;
+                };
+                actions.bytes = smaller_of(actions.bytes, given_of(rate));
+            }
+            Kind::PacketRate => {
+                let Rate::Number(rate) = rate_in(community) else {
+                    return Reading::Unsound;
+                };
+                actions.packets = smaller_of(actions.packets, given_of(rate));
+            }
+            Kind::TrafficAction => {
+                actions.sample = actions.sample | (community & 0x02 != 0);
+                actions.onward = actions.onward | (community & 0x01 != 0);
+            }
+            Kind::Marking => {
+                actions.marking = first_of(actions.marking, given_of(community & 0x3f));
+            }
+            Kind::Redirect => {
+                actions.redirect = first_of(actions.redirect, given_of(community));
+            }
+            Kind::Other => {}
+        }
         at += 8;
     }
     Reading::Read(actions)
@@ -254,11 +183,12 @@ pub fn merge(earlier: Actions, later: Actions) -> Actions
     let packets = smaller_of(earlier.packets, later.packets);
     let marking = first_of(earlier.marking, later.marking);
     let redirect = first_of(earlier.redirect, later.redirect);
+    let onward = false;
     Actions {
         bytes,
         packets,
         sample: earlier.sample | later.sample,
-        onward: false,
+        onward,
         marking,
         redirect,
     }
@@ -279,8 +209,8 @@ fn is_allowed(given: Given, passes: bool) -> bool
 pub fn could_be(actions: Actions) -> bool
     ensures { λ r. ⌜ r ≡ couldBe actions ⌝ }
 {
-    let bytes = is_allowed(actions.bytes, is_rate(actions.bytes.number));
-    let packets = is_allowed(actions.packets, is_rate(actions.packets.number));
+    let bytes = is_allowed(actions.bytes, rate::is_rate(actions.bytes.number));
+    let packets = is_allowed(actions.packets, rate::is_rate(actions.packets.number));
     let marking = is_allowed(actions.marking, actions.marking.number < 64);
     let redirect = is_allowed(actions.redirect, is_redirect(actions.redirect.number >> 48));
     bytes & packets & marking & redirect

@@ -8,7 +8,7 @@ use lib.Bits.{bitAnd}
 use lib.Dec.{ltb, eqb, lit<}
 use lib.ListN.{length, getD, take, drop, length-append, length-drop, take-append-drop}
 use lib.Seq.{drop-at, take-all}
-use borrow.Author.Tests.{ltb-true, lt-ltb, le-ltb, leb-true, eqb-true, ne-eqb, not-true, not-false}
+use borrow.Author.Tests.{ltb-true, lt-ltb, le-ltb, eqb-true, ne-eqb, not-true, not-false}
 use Rattle.octets.specs.Number.{numberAt}
 use Rattle.octets.proofs.Cases.{by-test, apart, both}
 use Rattle.octets.proofs.Facts.{Octets, below}
@@ -18,7 +18,8 @@ use Rattle.action.specs.declared.Actions.{Actions}
 use Rattle.action.specs.declared.Given.{Given}
 use Rattle.octets.specs.Bit.{bitIf}
 use Rattle.action.specs.Actions.{flagsOf}
-use Rattle.action.specs.Rate.{rateGiven, fitsSignificand}
+use Rattle.rate.specs.Rate.{rateGiven}
+use Rattle.rate.proofs.RatesGiven.{at-most}
 use Rattle.action.proofs.GivenLaws.{Fine, by-fine}
 use Rattle.action.proofs.PossibleLaws.{could, sixBits, redirectType}
 use Rattle.action.specs.Possible.{couldBe}
@@ -108,8 +109,7 @@ fine-small : (test : ℕ → Bool) (limit : ℕ) → ((n : ℕ) → test n ≡ t
 fine-small test limit small some = by-fine test (λ g. g .number < limit) small some
 
 rate-small : (n : ℕ) → rateGiven n ≡ true → n < 256 ^ 8
-unfolding rateGiven
-rate-small n h = omega (arith, leb-true n (2 ^ 63) (both _ (fitsSignificand 40 n) h .0))
+rate-small n h = omega (arith, at-most n h)
 
 redirect-small : (n : ℕ) → redirectType n ≡ true → n < 256 ^ 8
 redirect-small n h =

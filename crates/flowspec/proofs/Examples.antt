@@ -14,7 +14,7 @@ use Rattle.rule.specs.Family.{ipv4}
 use Rattle.rule.specs.Reading.{fieldSize, fieldLength, firstRule, oneRule}
 use Rattle.rule.specs.Writing.{lengthField}
 use Rattle.order.specs.Precedence.{bodyOrder, componentOrder, componentsOrder, precedence}
-use Rattle.action.specs.Rate.{scaled, wholePart, wholeOf, rateOfParts, rateOf}
+use Rattle.rate.specs.Rate.{scaled, wholePart, wholeOf, rateOfParts, rateOf}
 use Rattle.packet.specs.Header.{isUnusable, fragmentData}
 use Rattle.packet.specs.Transport.{transportOctets, transportFields}
 use Rattle.packet.specs.Packet.{fieldsOf, packetOf}

@@ -11,9 +11,9 @@ use Rattle.rule.specs.Value.{checkValue}
 use Rattle.rule.specs.Reading.{fieldSize, fieldLength}
 use Rattle.rule.specs.Writing.{lengthField}
 use Rattle.order.specs.Precedence.{precedence}
-use Rattle.action.specs.declared.Rate.{Rate}
-use Rattle.action.specs.declared.Rate.the-variants.{Number, NotANumber}
-use Rattle.action.specs.Rate.{rateOf}
+use Rattle.rate.specs.declared.Rate.{Rate}
+use Rattle.rate.specs.declared.Rate.the-variants.{Number, NotANumber}
+use Rattle.rate.specs.Rate.{rateOf}
 use Rattle.packet.specs.declared.Sight.{Sight}
 use Rattle.packet.specs.declared.Sight.the-variants.{Usable, Unusable}
 use Rattle.packet.specs.Packet.{packetOf}
@@ -38,7 +38,7 @@ checkedAs (Refused number place) = number ∷ place ∷ []
 
 -- The number that a rate gives, or 13.
 abbrev pub ratedAs : Rate → List ℕ
-ratedAs (Number found) = 0 ∷ found .number ∷ []
+ratedAs (Number n) = 0 ∷ n ∷ []
 ratedAs NotANumber = 13 ∷ []
 
 -- 1 where the packet matches, 0 where it does not, 12 where it is unusable.

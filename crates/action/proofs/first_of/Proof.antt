@@ -1,15 +1,19 @@
 -- The first of two numbers that is there: the definition's own test.
+use borrow.Author.Needs.{needs}
 use Rattle.action.specs.Given.{firstOf}
+use Rattle.action.proofs.GivenLaws.{first-there}
 use Rattle.action.proofs.first_of.Statement.{statement}
 use Rattle.action.proofs.first_of.Tie as tie
 
+given-of-requires : tie.Need-given-of-requires
+given-of-requires c κs = search needs
+
 returns : tie.Need-returns
-unfolding firstOf
-returns c = rw (c .if1 .taken)
+returns c = first-there _ _ _ (c .before .if1 .taken) (c .given-of .ensures)
 
 returns-2 : tie.Need-returns-2
 unfolding firstOf
 returns-2 c = rw (c .if1 .left)
 
 pub first-of-spec : {M : Type 1} → statement M
-first-of-spec = tie.close (tie.spec returns returns-2)
+first-of-spec = tie.close (tie.spec given-of-requires returns returns-2)

@@ -2,7 +2,7 @@
 use mathlib.Core.Path.{ap, sym}
 use mathlib.Core.Bool.{true, false}
 use borrow.Author.Needs.{needs}
-use Rattle.action.specs.Actions.{kindOf}
+use Rattle.action.specs.Reading.{kindOf}
 use Rattle.action.proofs.Communities.{last-kind}
 use Rattle.action.proofs.kind_of.Statement.{statement}
 use Rattle.action.proofs.kind_of.Tie as tie

@@ -1,21 +1,23 @@
--- The smaller of two numbers that may be missing: the definition's own tests.
+-- The smaller of two numbers that may be missing: the definition's own test.
 use borrow.Author.Needs.{needs}
-use borrow.Author.Tests.{not-true, not-false}
-use Rattle.action.specs.Given.{smallerOf}
+use Rattle.action.proofs.GivenLaws.{smaller-there, smaller-missing}
 use Rattle.action.proofs.smaller_of.Statement.{statement}
 use Rattle.action.proofs.smaller_of.Tie as tie
 
+lesser-requires : tie.Need-lesser-requires
+lesser-requires c κs = search needs
+
+given-of-requires : tie.Need-given-of-requires
+given-of-requires c κs = search needs
+
 returns : tie.Need-returns
-unfolding smallerOf
-returns c = rw (not-true (c .before .before .args .first .present) (c .if1 .taken))
+returns c = smaller-there _ _ _ _ (c .before .before .if1 .taken) (c .before .lesser .ensures) (c .given-of .ensures)
+
+first-of-requires : tie.Need-first-of-requires
+first-of-requires c κs = search needs
 
 returns-2 : tie.Need-returns-2
-unfolding smallerOf
-returns-2 c = let a = c .before .before .before .before .before .before .args in rw (not-false (a .first .present) (search needs), c .if2 .taken)
-
-returns-3 : tie.Need-returns-3
-unfolding smallerOf
-returns-3 c = let a = c .before .before .before .before .before .before .args in rw (not-false (a .first .present) (search needs), c .if2 .left)
+returns-2 c = smaller-missing _ _ _ (c .before .if1 .left) (c .first-of .ensures)
 
 pub smaller-of-spec : {M : Type 1} → statement M
-smaller-of-spec = tie.close (tie.spec returns returns-2 returns-3)
+smaller-of-spec = tie.close (tie.spec lesser-requires given-of-requires returns first-of-requires returns-2)

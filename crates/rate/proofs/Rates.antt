@@ -9,10 +9,8 @@ use borrow.Author.Tests.{eq-eqb, ne-eqb, eqb-false}
 use lib.Dec.{eqb, lit<, lit≤}
 use lib.Bits.{bitAnd, and-mask}
 use lib.Pow.{pow-add, pow-mono, pow-pos, shl-lt, shl-exact, shl-shr}
-use Rattle.action.specs.declared.Given.{Given}
-use Rattle.action.specs.declared.Rate.the-variants.{Number, NotANumber}
-use Rattle.action.specs.Given.{given}
-use Rattle.action.specs.Rate.{scaled, wholePart, wholeOf, rateOf, rateOfParts}
+use Rattle.rate.specs.declared.Rate.the-variants.{Number, NotANumber}
+use Rattle.rate.specs.Rate.{scaled, wholePart, wholeOf, rateOf, rateOfParts}
 
 -- The whole part over any unit and any limit.
 abbrev limited : ℕ → ℕ → ℕ → ℕ
@@ -115,10 +113,10 @@ pub not-a-number : (s e f : ℕ) → eqb e 255 && not (eqb f 0) ≡ true → Not
 unfolding rateOfParts
 not-a-number s e f h = rw h
 
-pub negative : (s e f : ℕ) (g : Given) → eqb e 255 && not (eqb f 0) ≡ false → (s ≡ 0 → ⊥) → g ≡ given 0 → Number g ≡ rateOfParts s e f
+pub negative : (s e f : ℕ) → eqb e 255 && not (eqb f 0) ≡ false → (s ≡ 0 → ⊥) → Number 0 ≡ rateOfParts s e f
 unfolding rateOfParts
-negative s e f g h k z = rw (h, ne-eqb s 0 k, z)
+negative s e f h k = rw (h, ne-eqb s 0 k)
 
-pub not-negative : (s e f : ℕ) (g : Given) → eqb e 255 && not (eqb f 0) ≡ false → s ≡ 0 → g ≡ given (wholeOf e f) → Number g ≡ rateOfParts s e f
+pub not-negative : (s e f n : ℕ) → eqb e 255 && not (eqb f 0) ≡ false → s ≡ 0 → n ≡ wholeOf e f → Number n ≡ rateOfParts s e f
 unfolding rateOfParts
-not-negative s e f g h k w = rw (h, eq-eqb s 0 k, w)
+not-negative s e f n h k w = rw (h, eq-eqb s 0 k, w)

@@ -2,9 +2,9 @@
 use mathlib.Core.Path.{_∙_, sym}
 use native.Mathlib.Omega.{arith}
 use borrow.Author.Needs.{needs}
-use Rattle.action.proofs.RatesGiven.{Halving, halved, past-limit, within-limit, fits-small, fits-odd}
-use Rattle.action.proofs.is_rate.Statement.{statement}
-use Rattle.action.proofs.is_rate.Tie as tie
+use Rattle.rate.proofs.RatesGiven.{Halving, halved, past-limit, within-limit, fits-small, fits-odd}
+use Rattle.rate.proofs.is_rate.Statement.{statement}
+use Rattle.rate.proofs.is_rate.Tie as tie
 
 abbrev Inv-loop : tie.InvT-loop
 Inv-loop number rest₀ rest = Halving number rest

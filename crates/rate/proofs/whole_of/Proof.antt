@@ -1,8 +1,8 @@
 -- The number of a single without its sign. Each return is one size of the exponent and the law of that size.
 use borrow.Author.Needs.{needs}
-use Rattle.action.proofs.Rates.{whole-zero, whole-below-one, whole-past-limit, whole-up, whole-down}
-use Rattle.action.proofs.whole_of.Statement.{statement}
-use Rattle.action.proofs.whole_of.Tie as tie
+use Rattle.rate.proofs.Rates.{whole-zero, whole-below-one, whole-past-limit, whole-up, whole-down}
+use Rattle.rate.proofs.whole_of.Statement.{statement}
+use Rattle.rate.proofs.whole_of.Tie as tie
 
 returns : tie.Need-returns
 returns c = search (whole-zero, needs)

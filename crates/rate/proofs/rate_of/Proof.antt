@@ -2,29 +2,21 @@
 use mathlib.Core.Path.{_∙_}
 use lib.Bits.{mask-lt}
 use borrow.Author.Needs.{needs}
-use Rattle.action.proofs.Rates.{by-masks, not-a-number, negative, not-negative}
-use Rattle.action.proofs.rate_of.Statement.{statement}
-use Rattle.action.proofs.rate_of.Tie as tie
+use Rattle.rate.proofs.Rates.{by-masks, not-a-number, negative, not-negative}
+use Rattle.rate.proofs.rate_of.Statement.{statement}
+use Rattle.rate.proofs.rate_of.Tie as tie
 
 returns : tie.Need-returns
 returns c = not-a-number _ _ _ (search needs) ∙ by-masks _
 
-given-of-requires : tie.Need-given-of-requires
-given-of-requires c κs = search needs
-
 returns-2 : tie.Need-returns-2
-returns-2 c = negative _ _ _ _ (search needs) (search needs) (search needs) ∙ by-masks _
+returns-2 c = negative _ _ _ (search needs) (search needs) ∙ by-masks _
 
 whole-of-requires : tie.Need-whole-of-requires
 whole-of-requires c κs = mask-lt (c .before .before .args .single) 23
-
-given-of-requires-2 : tie.Need-given-of-requires-2
-given-of-requires-2 c κs = search needs
 
 returns-3 : tie.Need-returns-3
 returns-3 c = not-negative _ _ _ _ (search needs) (search needs) (cc) ∙ by-masks _
 
 pub rate-of-spec : {M : Type 1} → statement M
-rate-of-spec =
-    tie.close
-    (tie.spec returns given-of-requires returns-2 whole-of-requires given-of-requires-2 returns-3)
+rate-of-spec = tie.close (tie.spec returns returns-2 whole-of-requires returns-3)

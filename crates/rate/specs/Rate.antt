@@ -4,9 +4,8 @@
 use Prim.Native.Nat.{ℕ, zero, suc, _+_, _*_, _-_, _/_, _%_, _^_, min, max}
 use mathlib.Core.Bool.{Bool, cond, not, _&&_, _||_}
 use lib.Dec.{leb, ltb, eqb}
-use Rattle.action.specs.declared.Rate.{Rate}
-use Rattle.action.specs.declared.Rate.the-variants.{Number, NotANumber}
-use Rattle.action.specs.Given.{given}
+use Rattle.rate.specs.declared.Rate.{Rate}
+use Rattle.rate.specs.declared.Rate.the-variants.{Number, NotANumber}
 
 -- The value of a single without its sign, times 2^149 (IEEE 754-1985 section 3.2.1). Infinity, exponent 255 with no fraction, comes out
 -- above 2^63 and so needs no case.
@@ -21,10 +20,6 @@ wholePart value = cond (eqb value 0) 0 (min (2 ^ 63) (max 1 (value / 2 ^ 149)))
 unfoldable pub wholeOf : ℕ → ℕ → ℕ
 wholeOf exponent fraction = wholePart (scaled exponent fraction)
 
--- A number as the answer to a rate.
-abbrev pub number : ℕ → Rate
-number n = Number (given n)
-
 -- Exponent 255 with a fraction is not a number, whatever the sign (IEEE 754-1985 section 3.2.1).
 abbrev pub isNotANumber : ℕ → ℕ → Bool
 isNotANumber exponent fraction = eqb exponent 255 && not (eqb fraction 0)
@@ -32,7 +27,7 @@ isNotANumber exponent fraction = eqb exponent 255 && not (eqb fraction 0)
 -- 01: "Negative, either zero, and minus infinity give 0 (drop)": the sign alone decides, and plus zero has the number 0 as it is.
 unfoldable pub rateOfParts : ℕ → ℕ → ℕ → Rate
 rateOfParts sign exponent fraction =
-    cond (isNotANumber exponent fraction) NotANumber (cond (eqb sign 0) (number (wholeOf exponent fraction)) (number 0))
+    cond (isNotANumber exponent fraction) NotANumber (cond (eqb sign 0) (Number (wholeOf exponent fraction)) (Number 0))
 
 -- A rate, cut into sign, exponent and fraction.
 unfoldable pub rateOf : ℕ → Rate

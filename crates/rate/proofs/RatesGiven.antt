@@ -10,12 +10,9 @@ use borrow.Author.Tests.{ltb-true, leb-true, lt-ltb, le-ltb, le-leb, lt-leb, eq-
 use lib.Dec.{leb, eqb, lit<, lit≤}
 use lib.Pow.{shl-lt, shl-exact, pow-mono, pow-pos, high, low}
 use Rattle.octets.proofs.Cases.{apart}
-use Rattle.action.specs.declared.Given.{Given}
-use Rattle.action.specs.declared.Rate.the-variants.{Number, NotANumber}
-use Rattle.action.specs.Given.{given}
-use Rattle.action.specs.Rate.{fitsSignificand, rateGiven, wholeOf, rateOf, rateOfParts, number, isNotANumber}
-use Rattle.action.proofs.GivenLaws.{Fine, fine-given}
-use Rattle.action.proofs.Rates.{whole-zero, whole-below-one, whole-past-limit, whole-up, whole-down}
+use Rattle.rate.specs.declared.Rate.the-variants.{Number, NotANumber}
+use Rattle.rate.specs.Rate.{fitsSignificand, rateGiven, wholeOf, rateOf, rateOfParts, isNotANumber}
+use Rattle.rate.proofs.Rates.{whole-zero, whole-below-one, whole-past-limit, whole-up, whole-down}
 
 -- Above 2^63 nothing passes, and up to it the halvings decide.
 pub past-limit : (n : ℕ) → 2 ^ 63 < n → false ≡ rateGiven n
@@ -25,6 +22,11 @@ past-limit n h = rw (lt-leb n (2 ^ 63) h)
 pub within-limit : (n : ℕ) → n ≤ 2 ^ 63 → fitsSignificand 40 n ≡ rateGiven n
 unfolding rateGiven
 within-limit n h = rw (le-leb n (2 ^ 63) h)
+
+-- What passes is at most 2^63.
+pub at-most : (n : ℕ) → rateGiven n ≡ true → n ≤ 2 ^ 63
+unfolding rateGiven
+at-most n h = leb-true n (2 ^ 63) (and-eq-true-iff (leb n (2 ^ 63)) (fitsSignificand 40 n) .0 h .0)
 
 -- One look at a number: below 2^24 it passes, from there on an odd one fails, and an even one passes as its half does.
 pub fits-small : (k n : ℕ) → n < 2 ^ 24 → fitsSignificand k n ≡ true
@@ -105,22 +107,22 @@ whole-given e f b =
         (given-small ((2 ^ 23 + f) / 2 ^ (150 - e)) (let d = div-le-self (2 ^ 23 + f) (2 ^ (150 - e)) in omega arith))
     middle (no h) l m = rw (← (whole-up e f b (omega arith) m)) (given-times (2 ^ 23 + f) (e - 150) (omega arith) (omega arith))
 
-given-number : (nan positive : Bool) (n : ℕ) (g : Given) → rateGiven n ≡ true
-    → cond nan NotANumber (cond positive (number n) (number 0)) ≡ Number g → Fine rateGiven g
-given-number true positive n g p h = apart (cc)
-given-number false true n g p h = let e : given n ≡ g = cc in rw (← e) (fine-given rateGiven n p)
-given-number false false n g p h = let e : given 0 ≡ g = cc in rw (← e) (fine-given rateGiven 0 (given-small 0 (lit< tt)))
+given-number : (nan positive : Bool) (whole n : ℕ) → rateGiven whole ≡ true
+    → cond nan NotANumber (cond positive (Number whole) (Number 0)) ≡ Number n → rateGiven n ≡ true
+given-number true positive whole n p h = apart (cc)
+given-number false true whole n p h = let e : whole ≡ n = cc in rw (← e) p
+given-number false false whole n p h = let e : 0 ≡ n = cc in rw (← e) (given-small 0 (lit< tt))
 
 -- Every rate read passes.
-pub complete : (single : ℕ) (g : Given) → rateOf single ≡ Number g → Fine rateGiven g
+pub complete : (single n : ℕ) → rateOf single ≡ Number n → rateGiven n ≡ true
 unfolding rateOf rateOfParts
-complete single g h =
+complete single n h =
     let e = single / 2 ^ 23 % 2 ^ 8 in
     let f = single % 2 ^ 23 in
-    given-number (isNotANumber e f) (eqb (single / 2 ^ 31) 0) (wholeOf e f) g (whole-given e f (mod-lt single (lit< tt))) h
+    given-number (isNotANumber e f) (eqb (single / 2 ^ 31) 0) (wholeOf e f) n (whole-given e f (mod-lt single (lit< tt))) h
 
 -- A single with no sign, by its exponent and fraction.
-joined : (e f : ℕ) → e < 255 → f < 2 ^ 23 → rateOf (e * 2 ^ 23 + f) ≡ number (wholeOf e f)
+joined : (e f : ℕ) → e < 255 → f < 2 ^ 23 → rateOf (e * 2 ^ 23 + f) ≡ Number (wholeOf e f)
 unfolding rateOf rateOfParts
 joined e f p q =
     rw (
@@ -246,7 +248,7 @@ parts-of n h =
     ]
 
 -- Every number that passes is read from some single.
-pub sound : (n : ℕ) → rateGiven n ≡ true → (single : ℕ) × (single < 2 ^ 32) × (rateOf single ≡ number n)
+pub sound : (n : ℕ) → rateGiven n ≡ true → (single : ℕ) × (single < 2 ^ 32) × (rateOf single ≡ Number n)
 sound n h =
     let p = parts-of n h in
-    (p .exponent * 2 ^ 23 + p .fraction, omega arith, joined (p .exponent) (p .fraction) (p .below) (p .fits) ∙ ap number (p .gives))
+    (p .exponent * 2 ^ 23 + p .fraction, omega arith, joined (p .exponent) (p .fraction) (p .below) (p .fits) ∙ ap Number (p .gives))
