@@ -5,3 +5,4 @@ pub mod Communities
 pub mod PossibleLaws
 pub mod MergingLaws
 pub mod Written
+pub mod Examples
