@@ -41,7 +41,7 @@ end-alike table other e =
           let one = one-first-match k l other packet lent part rest stands stood (rw e at x) y in (one .0, one .1 .0);
     }
 
-tie : (o : Ordering) → isEq o ≡ true → o ≡ Ordering·eq
+pub tie : (o : Ordering) → isEq o ≡ true → o ≡ Ordering·eq
 tie Ordering·lt e = apart (cc)
 tie Ordering·eq e = refl
 tie Ordering·gt e = apart (cc)

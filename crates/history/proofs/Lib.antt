@@ -3,3 +3,4 @@ pub mod HistoryLaws
 pub mod AgreeLaws
 pub mod Happens
 pub mod OperatorTheorems
+pub mod Worked

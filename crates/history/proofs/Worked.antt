@@ -1,0 +1,231 @@
+-- **Demand 3 is about something**: the worked histories of specs/Worked.antt happen, by computation; what the theorems on histories say of
+-- them is that the first ends in a table which holds mail and not ping, and that the second, which agrees with it, ends alike; and the
+-- table at their end judges a packet as matched. Assumes nothing.
+use mathlib.Core.Path.{_≡_, refl, sym, ap, _∙_}
+use mathlib.Core.Bool.{Bool, true, false, cond}
+use mathlib.Core.List.{List, [], _∷_, List·Memᴰ}
+use mathlib.Core.Option.{none, some}
+use Prim.Native.Nat.{ℕ, zero, suc}
+use native.Mathlib.Omega.{arith}
+use lib.Dec.{ltb, isEq}
+use lib.ListN.{replicate}
+use borrow.Author.Tests.{ltb-true}
+use Rattle.octets.specs.Number.{numberAt, octetsOf}
+use Rattle.octets.specs.Test.{every, oneHolds, allZero, sameList}
+use Rattle.octets.specs.Walk.{walk}
+use Rattle.octets.proofs.Cases.{by-test, apart, both}
+use Rattle.octets.proofs.Facts.{Octets}
+use Rattle.prefix.specs.Prefix.{bits, contains, prefixOf}
+use Rattle.rule.specs.declared.Reading.the-variants.{Rule}
+use Rattle.rule.specs.Component.{pairAt, pairsFrom, prefixEnd, bodyEnd, componentAt}
+use Rattle.rule.specs.Operator.{endsList, sizeOf, isPrefix, isBitmask, sizeAllowed}
+use Rattle.rule.specs.Plain.{bodyOf, operandAfter, after, plainOperator, plainOperand, plainAddress, clearedOctet, plainFrom, plain}
+use Rattle.rule.specs.Reading.{fieldSize, fieldLength, firstRule, oneRule, valueOf}
+use Rattle.rule.specs.Value.{componentsFrom, components, checkValue}
+use Rattle.rule.specs.Family.{ipv4}
+use Rattle.order.specs.Key.{bodyKey, keyOf, keysOf, RuleKey, keyOrder}
+use Rattle.order.proofs.KeyLaws.{key-order}
+use Rattle.route.specs.Destination.{destinationFor, destinationAmong, destinationOf}
+use Rattle.route.specs.Feasible.{covers, moreSpecific, longer, matched, bestMatch, undisputed, judged, feasible}
+use Rattle.route.specs.Route.{routeAt, routesOf, plainPrefix, rises, rising, soundRoutes}
+use Rattle.action.specs.declared.Reading.the-variants.{Read}
+use Rattle.action.specs.Actions.{kindOf, smallestRate, withRate, withKind, withCommunity, withCommunities, communitiesAt, actionsOf, flagsOf}
+use Rattle.action.specs.Given.{smallerOf, firstOf, allowed}
+use Rattle.action.specs.Merging.{merged}
+use Rattle.action.specs.Possible.{couldBe}
+use Rattle.action.specs.Rate.{scaled, wholePart, wholeOf, rateOfParts, rateOf, fitsSignificand, rateGiven}
+use Rattle.packet.specs.Header.{isUnusable, fragmentData}
+use Rattle.packet.specs.Match.{dataFor, holdsFor, bodyHolds, fieldMatches, fieldFor, coversAddress, eitherPort, componentMatches, matches}
+use Rattle.packet.specs.Operator.{numericHolds}
+use Rattle.packet.specs.Packet.{fieldsOf, packetOf}
+use Rattle.packet.specs.PairList.{groupsFrom, groups, listHolds}
+use Rattle.packet.specs.Transport.{transportOctets, transportFields}
+use Rattle.entry.specs.Entry.{plainValue, possible, Entry, entryKey}
+use Rattle.entry.specs.Record.{writtenFields, readFields, fieldsOf as entryFieldsOf, recordOf, actionsIn, entryOf, goodRecord}
+use Rattle.table.specs.Change.{holds, removed, hasRoom, inserted, withdrawn}
+use Rattle.table.specs.Lookup.{collected, mergedOnto, verdictOf, verdictFor}
+use Rattle.table.specs.Sound.{joined, tableOf, soundTable}
+use Rattle.table.specs.Walk.{recordAt, recordsFrom, records, entries}
+use Rattle.flowspec.specs.declared.Change.the-variants.{Done, Refused}
+use Rattle.flowspec.specs.declared.Looked.{Looked}
+use Rattle.flowspec.specs.declared.Request.the-variants.{Announce}
+use Rattle.flowspec.specs.Announce.{changeOf, asked, announcing, withdrawing}
+use Rattle.flowspec.specs.Feasibility.{readWithRoutes, isFeasible}
+use Rattle.flowspec.specs.Look.{seen, lookingUp}
+use Rattle.flowspec.specs.Told.{lookupTold, done}
+use Rattle.flowspec.specs.Promise.{LooksUp}
+use Rattle.flowspec.proofs.TableLaws.{announce-kept, withdraw-kept}
+use Rattle.history.specs.History.{announced, withdrew, deedOf, emptyTable, endOf, lastCounted, inForceAfter, Agree, FromEmpty, HoldsExactly, EndAlike}
+use Rattle.history.specs.Worked.{policy, mail, mailValue, mailSpelled, ping, pingValue, dropping, droppingSpelled, drops, marks, mailEntry, mailTable, pingTable, bothTable, owned, foreign, spelled, pinged, worked, other, mailTo}
+use Rattle.history.proofs.HistoryLaws.{history-holds}
+use Rattle.history.proofs.AgreeLaws.{tie, histories-alike}
+
+-- octets, by a test
+octets-each : (s : List ℕ) → every (λ x. ltb x 256) s ≡ true → Octets s
+unfolding every
+octets-each [] e = λ i. omega arith
+octets-each (x ∷ s) e =
+    first (octets-each s (both (ltb x 256) (every (λ x. ltb x 256) s) e .1))
+  where
+    first : Octets s → Octets (x ∷ s)
+    first h zero = ltb-true x 256 (both (ltb x 256) (every (λ x. ltb x 256) s) e .0)
+    first h (suc i) = h i
+
+-- all that is computed: what each call answers and leaves, what it asks, that rules and their keys are as they look, and two lookups
+record Computed : Type 0 where
+  pub announces : announcing policy owned (emptyTable 96) ≡ record { answer = Done; table = mailTable }
+  pub adds : announcing policy pinged mailTable ≡ record { answer = Done; table = bothTable }
+  pub removes : announcing policy foreign bothTable ≡ record { answer = Refused 8 0; table = pingTable }
+  pub again : announcing policy owned pingTable ≡ record { answer = Done; table = bothTable }
+  pub withdraws : withdrawing ping bothTable ≡ record { answer = Done; table = mailTable }
+  pub withdrawsNone : withdrawing ping (emptyTable 96) ≡ record { answer = Refused 14 0; table = emptyTable 96 }
+  pub announcesSpelled : announcing policy spelled (emptyTable 96) ≡ record { answer = Done; table = mailTable }
+  pub askedOwned : asked policy owned ≡ Announce 1 12 drops true
+  pub askedForeign : asked policy foreign ≡ Announce 1 12 drops false
+  pub askedSpelled : asked policy spelled ≡ Announce 2 12 drops true
+  pub askedPinged : asked policy pinged ≡ Announce 1 8 marks true
+  pub readPing : oneRule ipv4 ping ≡ Rule 1 8
+  pub plainMail : plain mailValue ≡ mailValue
+  pub plainSpelled : plain (valueOf mailSpelled 2 12) ≡ mailValue
+  pub plainPing : plain pingValue ≡ pingValue
+  pub read : actionsOf dropping ≡ Read drops
+  pub readSpelled : actionsOf droppingSpelled ≡ Read drops
+  pub differ : isEq (keyOrder (keysOf ipv4 mailValue) (keysOf ipv4 pingValue)) ≡ false
+  pub octetsMail : every (λ x. ltb x 256) mail ≡ true
+  pub octetsSpelled : every (λ x. ltb x 256) mailSpelled ≡ true
+  pub octetsPing : every (λ x. ltb x 256) ping ≡ true
+  pub inForce : inForceAfter policy worked (entryKey ipv4 mailEntry) ≡ some mailEntry
+  pub gone : inForceAfter policy worked (keysOf ipv4 pingValue) ≡ none
+  pub judgesMatched : lookupTold (lookingUp mailTable (mailTo 5)) ≡ done (1 ∷ 1 ∷ 0 ∷ 0 ∷ 0 ∷ 0 ∷ [])
+  pub judgesUnmatched : lookupTold (lookingUp mailTable (mailTo 200)) ≡ done (replicate 6 0)
+
+computed : Computed
+unfolding
+    numberAt octetsOf every oneHolds allZero sameList walk bits contains prefixOf pairAt pairsFrom prefixEnd bodyEnd componentAt endsList sizeOf
+    isPrefix isBitmask sizeAllowed bodyOf operandAfter after plainOperator plainOperand plainAddress clearedOctet plainFrom plain fieldSize
+    fieldLength firstRule oneRule componentsFrom components checkValue bodyKey keyOf keysOf destinationFor destinationAmong destinationOf covers
+    moreSpecific longer matched bestMatch undisputed judged feasible routeAt routesOf plainPrefix rises rising soundRoutes kindOf smallestRate
+    withRate withKind withCommunity withCommunities communitiesAt actionsOf flagsOf smallerOf firstOf allowed merged couldBe scaled wholePart wholeOf
+    rateOfParts rateOf fitsSignificand rateGiven isUnusable fragmentData dataFor holdsFor bodyHolds fieldMatches fieldFor coversAddress eitherPort
+    componentMatches matches numericHolds fieldsOf packetOf groupsFrom groups listHolds transportOctets transportFields plainValue possible
+    writtenFields readFields entryFieldsOf recordOf actionsIn entryOf goodRecord holds removed hasRoom inserted withdrawn collected mergedOnto
+    verdictOf verdictFor joined tableOf soundTable recordAt recordsFrom records entries changeOf asked announcing withdrawing readWithRoutes
+    isFeasible seen lookingUp
+computed =
+    record {
+      announces = refl;
+      adds = refl;
+      removes = refl;
+      again = refl;
+      withdraws = refl;
+      withdrawsNone = refl;
+      announcesSpelled = refl;
+      askedOwned = refl;
+      askedForeign = refl;
+      askedSpelled = refl;
+      askedPinged = refl;
+      readPing = refl;
+      plainMail = refl;
+      plainSpelled = refl;
+      plainPing = refl;
+      read = refl;
+      readSpelled = refl;
+      differ = refl;
+      octetsMail = refl;
+      octetsSpelled = refl;
+      octetsPing = refl;
+      inForce = refl;
+      gone = refl;
+      judgesMatched = refl;
+      judgesUnmatched = refl;
+    }
+
+-- **both histories happen**
+pub worked-happened : FromEmpty policy 96 worked
+worked-happened =
+    let rule = octets-each mail (computed .octetsMail) in
+    record {
+      fits = omega arith;
+      given = ((rule, omega arith), ((octets-each ping (computed .octetsPing), omega arith), ((rule, omega arith), ((rule, omega arith), (tt, tt)))));
+      happened = (
+        announce-kept policy owned (emptyTable 96) _ Done mailTable (computed .announces) refl refl,
+        (
+          announce-kept policy pinged mailTable _ Done bothTable (computed .adds) refl refl,
+          (
+            announce-kept policy foreign bothTable _ (Refused 8 0) pingTable (computed .removes) refl refl,
+            (
+              announce-kept policy owned pingTable _ Done bothTable (computed .again) refl refl,
+              (withdraw-kept ping bothTable _ Done mailTable (computed .withdraws) refl refl, tt),
+            ),
+          ),
+        ),
+      );
+    }
+
+pub other-happened : FromEmpty policy 96 other
+other-happened =
+    record {
+      fits = omega arith;
+      given = (tt, ((octets-each mailSpelled (computed .octetsSpelled), omega arith), tt));
+      happened = (
+        withdraw-kept ping (emptyTable 96) _ (Refused 14 0) (emptyTable 96) (computed .withdrawsNone) refl refl,
+        (announce-kept policy spelled (emptyTable 96) _ Done mailTable (computed .announcesSpelled) refl refl, tt),
+      );
+    }
+
+-- **the first ends in a table that holds exactly what is in force**: mail, with its originator and actions, and not ping
+pub worked-holds : HoldsExactly policy worked (endOf (emptyTable 96) worked)
+worked-holds = history-holds policy 96 worked worked-happened
+
+pub mail-held : List·Memᴰ mailEntry (entries (endOf (emptyTable 96) worked))
+mail-held = worked-holds .exactly mailEntry .1 (computed .inForce)
+
+pub ping-gone : (e : Entry) → entryKey ipv4 e ≡ keysOf ipv4 pingValue → List·Memᴰ e (entries (endOf (emptyTable 96) worked)) → ⊥
+ping-gone e same stands =
+    let left : none ≡ some e = sym (computed .gone) ∙ ap (inForceAfter policy worked) (sym same) ∙ worked-holds .exactly e .0 stands in
+    apart (cc)
+
+-- **a packet to mail's host is matched** there by one rule, which drops it; one to a host outside its prefix is not
+pub mail-matched : (answer : Looked) (kept : List (List ℕ)) → LooksUp (endOf (emptyTable 96) worked) (mailTo 5) answer kept
+    → lookupTold answer ≡ done (1 ∷ 1 ∷ 0 ∷ 0 ∷ 0 ∷ 0 ∷ [])
+mail-matched answer kept p = ap lookupTold (p .is) ∙ computed .judgesMatched
+
+pub mail-unmatched : (answer : Looked) (kept : List (List ℕ)) → LooksUp (endOf (emptyTable 96) worked) (mailTo 200) answer kept
+    → lookupTold answer ≡ done (replicate 6 0)
+mail-unmatched answer kept p = ap lookupTold (p .is) ∙ computed .judgesUnmatched
+
+-- the last counted calls of each, by the rule that they are about
+module _ (k : RuleKey) where
+  abbrev aboutMail : Bool
+  aboutMail = isEq (keyOrder k (keysOf ipv4 mailValue))
+
+  abbrev aboutPing : Bool
+  aboutPing = isEq (keyOrder k (keysOf ipv4 pingValue))
+
+  last-worked : deedOf (lastCounted policy k worked)
+      ≡ cond aboutPing (some withdrew) (cond aboutMail (some (announced 7 (Read drops))) none)
+  last-worked =
+      rw (computed .askedOwned, computed .askedForeign, computed .askedPinged, computed .readPing, computed .plainMail, computed .plainPing)
+      (by-test aboutPing (λ e. rw e) (λ e. by-test aboutMail (λ f. rw (e, f, computed .read)) (λ f. rw (e, f))))
+
+  last-other : deedOf (lastCounted policy k other)
+      ≡ cond aboutMail (some (announced 7 (Read drops))) (cond aboutPing (some withdrew) none)
+  last-other =
+      rw (computed .askedSpelled, computed .readPing, computed .plainSpelled, computed .plainPing)
+      (by-test aboutMail (λ e. rw (e, computed .readSpelled)) (λ e. by-test aboutPing (λ f. rw (e, f)) (λ f. rw (e, f))))
+
+  not-both : aboutMail ≡ true → aboutPing ≡ false
+  not-both e = rw (key-order .only k (keysOf ipv4 mailValue) (tie _ e)) (computed .differ)
+
+  same-deed : deedOf (lastCounted policy k worked) ≡ deedOf (lastCounted policy k other)
+  same-deed =
+      last-worked
+      ∙ by-test aboutMail (λ e. rw (e, not-both e)) (λ e. rw e)
+      ∙ sym last-other
+
+-- **the two agree, and end alike**
+pub worked-agree : Agree policy worked other
+worked-agree k = same-deed k
+
+pub worked-alike : EndAlike (endOf (emptyTable 96) worked) (endOf (emptyTable 96) other)
+worked-alike = histories-alike policy 96 worked other worked-happened other-happened worked-agree
