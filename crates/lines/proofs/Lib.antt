@@ -7,3 +7,4 @@ pub mod PrintLaws
 pub mod ListLaws
 pub mod ServeLaws
 pub mod Unique
+pub mod DoorLaws
