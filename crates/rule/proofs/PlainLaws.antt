@@ -61,6 +61,16 @@ module _ (family : Family) where
   length-kept [] = refl
   length-kept (x ∷ r) = refl
 
+-- what is expected behind a prefix's length and offset
+module _ (bits offset : ℕ) where
+  pub pattern-none : bits ≤ offset → Kind ≡ patternAfter bits offset
+  unfolding patternAfter
+  pattern-none h = rw (le-leb _ _ h)
+
+  pub pattern-some : offset < bits → Address (bits - offset) ≡ patternAfter bits offset
+  unfolding patternAfter
+  pattern-some h = rw (lt-leb _ _ h)
+
 -- what is expected where a value begins
 module _ (family : Family) where
   pub starts-with-kind : family .head ≡ 0 → Kind ≡ expectedAtStart family

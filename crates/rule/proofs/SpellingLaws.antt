@@ -41,7 +41,7 @@ use Rattle.rule.proofs.OperatorLaws.{size-positive}
 use Rattle.rule.proofs.ComponentLaws.{pair-cases, lead-with, lead-without, offset-with, offset-without, prefix-cases, prefix-missing, component-cases, pairs-more, pairs-last, pairs-refused, pairs-ind}
 use Rattle.rule.proofs.ValueLaws.{was-found, components-more, components-none, components-refused, components-ind}
 use Rattle.rule.proofs.ComponentsLaws.{spelled-whole}
-use Rattle.rule.proofs.PlainLaws.{length-plain-from, length-plain, starts-with-kind, starts-with-head, whole-operand, after-length-offset, after-length, after-offset}
+use Rattle.rule.proofs.PlainLaws.{length-plain-from, length-plain, starts-with-kind, starts-with-head, pattern-none, pattern-some, whole-operand, after-length-offset, after-length, after-offset}
 use Rattle.rule.proofs.ClearedLaws.{size-kept, end-kept}
 
 -- the octet at a place is as expected, where the first is as `start` says: from there on the spelling is that of what is left
@@ -206,14 +206,13 @@ module _ (family : Family) (start : Expected) (v : List ℕ) where
   -- and so behind those of its pattern
   pattern-passed : (bits offset i : ℕ) → Expects family start v i (patternAfter bits offset) → i + (bits - offset + 7) / 8 ≤ length v
       → Expects family start v (i + (bits - offset + 7) / 8) Kind
-  unfolding patternAfter
   pattern-passed bits offset i x k =
-      by-test (leb bits offset)
-      (λ t.
-      let z = leb-true bits offset t in
-      let e : i ≡ i + (bits - offset + 7) / 8 = omega arith in
-      rw (← e) (rw t at x))
-      (λ t. let z = leb-false bits offset t in prefix-passed (bits - offset) (bits - offset) i (omega arith) (rw t at x) (omega arith) k)
+      elim (decLt offset bits) [
+        | yes h ↦ prefix-passed (bits - offset) (bits - offset) i (omega arith) (rw (← pattern-some bits offset h) at x) (omega arith) k
+        | no h ↦
+            let e : i ≡ i + (bits - offset + 7) / 8 = omega arith in
+            rw (← e) (rw (← pattern-none bits offset (omega arith)) at x)
+      ]
 
   module _ (at : ℕ) (x : Expects family start v at Length) (inside : at < length v) where
     -- behind the length octet the offset is as it was, and then the pattern is expected
