@@ -6,5 +6,6 @@ pub mod ReadLaws
 pub mod PrintLaws
 pub mod ListLaws
 pub mod ServeLaws
+pub mod InputLaws
 pub mod Unique
 pub mod DoorLaws

@@ -4,4 +4,5 @@ pub mod Form
 pub mod Answer
 pub mod Serve
 pub mod Gather
+pub mod Input
 pub mod Promise
