@@ -118,7 +118,7 @@ pub fn contains_prefix(width: u8, outer: Prefix, inner: Prefix) -> bool
 }
 
 // Which of two addresses is the lower.
-fn compare_addresses(a: Address, b: Address) -> Order
+pub fn compare_addresses(a: Address, b: Address) -> Order
     ensures { λ r. ⌜ r ≡ ordered (compare (addressOf a) (addressOf b)) ⌝ }
 {
     if a.high != b.high {

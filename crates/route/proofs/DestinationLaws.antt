@@ -1,31 +1,29 @@
 -- The destination of a value: types rise strictly, so only the first component can be of type 1. Assumes nothing.
 use mathlib.Core.Path.{_≡_, refl, sym, ap, _∙_}
 use mathlib.Core.List.{List}
-use Prim.Native.Nat.{ℕ, _-_, _≤_}
+use Prim.Native.Nat.{ℕ, _≤_}
 use native.Mathlib.Omega.{arith}
 use borrow.Author.Tests.{eq-eqb, ne-eqb}
 use Rattle.octets.specs.Walk.{Walk}
 use Rattle.prefix.specs.declared.Prefix.{Prefix}
-use Rattle.prefix.specs.Prefix.{prefixOf}
+use Rattle.prefix.specs.Prefix.{patternOf, prefixOf}
 use Rattle.rule.specs.declared.Family.{Family}
 use Rattle.rule.specs.declared.Next.{Next}
 use Rattle.rule.specs.declared.Next.the-variants.{Nothing, Another, Refused}
 use Rattle.rule.specs.declared.Checked.{Checked}
-use Rattle.rule.specs.Family.{ipv4}
 use Rattle.rule.specs.Component.{componentAt}
 use Rattle.rule.specs.Value.{Component, between, componentsFrom, components}
 use Rattle.rule.proofs.ValueLaws.{Found, was-found, components-more, components-none, components-refused, components-ind}
-use Rattle.route.specs.declared.Destination.{Destination}
-use Rattle.route.specs.declared.Destination.the-variants.{Missing, At}
-use Rattle.route.specs.Destination.{destinationFor, destinationAmong, destinationOf}
+use Rattle.route.specs.Destination.{Destination, Missing, At, destinationFor, destinationAmong, destinationOf}
 
 -- how `destination_for` comes to its answers
-module _ (kind : ℕ) (body : List ℕ) where
-  pub one-prefix : (p : Prefix) → kind ≡ 1 → p ≡ prefixOf 32 body → At p ≡ destinationFor ipv4 (record { kind = kind; body = body }) Missing
+module _ (family : Family) (kind : ℕ) (body : List ℕ) where
+  pub one-prefix : (p : Prefix) → kind ≡ 1 → patternOf p ≡ prefixOf (family .width) (family .offsets) body
+      → At (patternOf p) ≡ destinationFor family (record { kind = kind; body = body }) Missing
   unfolding destinationFor
   one-prefix p h e = rw (eq-eqb kind 1 h, e)
 
-  pub other-kind : (kind ≡ 1 → ⊥) → Missing ≡ destinationFor ipv4 (record { kind = kind; body = body }) Missing
+  pub other-kind : (kind ≡ 1 → ⊥) → Missing ≡ destinationFor family (record { kind = kind; body = body }) Missing
   unfolding destinationFor
   other-kind h = rw (ne-eqb kind 1 h)
 
@@ -47,12 +45,9 @@ module _ (family : Family) (v : List ℕ) where
   parts w = w .items
 
   -- how `destination_of` comes to its answers
-  module _ (given : Family) (four : given ≡ family) (next : Next) (is : next ≡ componentAt given v 0 0) where
-    found : componentAt family v 0 0 ≡ next
-    found = rw (← four) (sym is)
-
+  module _ (next : Next) (is : next ≡ componentAt family v 0 0) where
     pub first-found : (kind behind : ℕ) → next ≡ Another kind behind → Found family v 0 0 kind behind
-    first-found kind behind e = was-found family v 0 0 kind behind (found ∙ e)
+    first-found kind behind e = was-found family v 0 0 kind behind (sym is ∙ e)
 
     pub by-first : (kind behind : ℕ) (r : Destination) → next ≡ Another kind behind
         → r ≡ destinationFor family (record { kind = kind; body = between v 1 behind }) Missing → r ≡ destinationOf family v
@@ -60,13 +55,13 @@ module _ (family : Family) (v : List ℕ) where
     by-first kind behind r e s =
         let f = first-found kind behind e in
         let given = f .given in
-        let c = ap parts (components-more family v 0 0 kind behind (found ∙ e)) in
+        let c = ap parts (components-more family v 0 0 kind behind (sym is ∙ e)) in
         s ∙ rw (c, later behind kind (omega arith))
 
     pub by-none : next ≡ Nothing → Missing ≡ destinationOf family v
     unfolding destinationOf components destinationAmong parts
-    by-none e = rw (ap parts (components-none family v 0 0 (found ∙ e)))
+    by-none e = rw (ap parts (components-none family v 0 0 (sym is ∙ e)))
 
     pub by-refused : (number place : ℕ) → next ≡ Refused number place → Missing ≡ destinationOf family v
     unfolding destinationOf components destinationAmong parts
-    by-refused number place e = rw (ap parts (components-refused family v 0 0 number place (found ∙ e)))
+    by-refused number place e = rw (ap parts (components-refused family v 0 0 number place (sym is ∙ e)))

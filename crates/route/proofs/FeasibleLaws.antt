@@ -4,36 +4,28 @@ use mathlib.Core.Path.{_≡_, refl, ap, sym, _∙_}
 use mathlib.Core.Bool.{Bool, true, false, cond, _||_}
 use mathlib.Core.List.{List, [], _∷_, List·Memᴰ, List·Memᴰ·head, List·Memᴰ·tail, List·Memᴰ·cases-cons, List·Memᴰ·not-nil}
 use mathlib.Core.Logic.{_↔_, ⊎-elim}
-use Prim.Native.Nat.{ℕ, _^_, _≤_, _<_}
+use Prim.Native.Nat.{ℕ, zero, suc, _+_, _/_, _^_, _≤_, _<_}
 use native.Mathlib.Omega.{arith}
 use lib.Dec.{ltb}
-use lib.ListN.{getD}
+use lib.ListN.{length, getD}
 use borrow.Author.Tests.{ltb-true, ltb-false}
 use Rattle.octets.specs.Test.{every}
 use Rattle.octets.proofs.Cases.{by-test, apart}
-use Rattle.prefix.specs.declared.Prefix.{Prefix}
-use Rattle.prefix.specs.Prefix.{WellFormed}
-use Rattle.prefix.proofs.ContainLaws.{nested, contains-both-ways}
-use Rattle.route.specs.declared.Route.{Route}
-use Rattle.route.specs.declared.Destination.the-variants.{Missing, At}
-use Rattle.route.specs.declared.BestMatch.{BestMatch}
-use Rattle.route.specs.declared.BestMatch.the-variants.{Nothing, Found}
-use Rattle.route.specs.Route.{routesOf, rising, soundRoutes}
-use Rattle.route.specs.Feasible.{covers, moreSpecific, longer, matched, bestMatch, undisputed, judged, feasible}
+use Rattle.prefix.specs.Prefix.{Pattern, WellFormed}
+use Rattle.prefix.proofs.ContainLaws.{nested, other-offset, contains-both-ways}
+use Rattle.rule.specs.declared.Family.{Family}
+use Rattle.rule.specs.Family.{Fits}
+use Rattle.route.specs.Route.{Route, routeAt, routesFrom, routesOf, rising, soundRoutes}
+use Rattle.route.specs.Destination.{Missing, At}
+use Rattle.route.specs.Feasible.{Longest, BestMatch, Nothing, Found, covers, moreSpecific, longer, matched, bestMatch, undisputed, judged, feasible}
 use Rattle.route.proofs.SoundLaws.{only-once, sound-rising, sound-formed}
 
--- section 6 b) in its own words: the unicast route with the longest possible prefix length covering the destination
-pub record Longest (w : ℕ) (d : Prefix) (rs : List Route) (r : Route) : Type 0 where
-  pub among : List·Memᴰ r rs
-  pub covering : covers w d r ≡ true
-  pub longest : (s : Route) → List·Memᴰ s rs → covers w d s ≡ true → s .prefix .length ≤ r .prefix .length
-
 -- a route is a match where it covers the destination
-covering-match : (w : ℕ) (d : Prefix) (r : Route) → covers w d r ≡ true → matched w d r ≡ Found r
+covering-match : (w : ℕ) (d : Pattern) (r : Route) → covers w d r ≡ true → matched w d r ≡ Found r
 unfolding matched
 covering-match w d r e = rw e
 
-no-match : (w : ℕ) (d : Prefix) (r : Route) → covers w d r ≡ false → matched w d r ≡ Nothing
+no-match : (w : ℕ) (d : Pattern) (r : Route) → covers w d r ≡ false → matched w d r ≡ Nothing
 unfolding matched
 no-match w d r e = rw e
 
@@ -44,7 +36,7 @@ found-stays r Nothing e = apart (cc)
 found-stays r (Found s) e =
     by-test (ltb (r .prefix .length) (s .prefix .length)) (λ t. let f = rw t at e in apart (cc)) (λ t. let f = rw t at e in apart (cc))
 
-pub none-covers : (w : ℕ) (d : Prefix) (rs : List Route) → bestMatch w d rs ≡ Nothing → (s : Route) → List·Memᴰ s rs → covers w d s ≡ false
+pub none-covers : (w : ℕ) (d : Pattern) (rs : List Route) → bestMatch w d rs ≡ Nothing → (s : Route) → List·Memᴰ s rs → covers w d s ≡ false
 unfolding bestMatch longer
 none-covers w d [] e s m = absurd (List·Memᴰ·not-nil m)
 none-covers w d (r ∷ rs) e s m =
@@ -54,15 +46,15 @@ none-covers w d (r ∷ rs) e s m =
     ⊎-elim (λ f. rw f t) below (List·Memᴰ·cases-cons m))
 
 -- no route that covers the destination is longer than n
-abbrev AtMost : ℕ → Prefix → List Route → ℕ → Type 0
+abbrev AtMost : ℕ → Pattern → List Route → ℕ → Type 0
 AtMost w d rs n = (s : Route) → List·Memᴰ s rs → covers w d s ≡ true → s .prefix .length ≤ n
 
-at-most : (w : ℕ) (d : Prefix) (r : Route) (rs : List Route) (n : ℕ) → (covers w d r ≡ true → r .prefix .length ≤ n) → AtMost w d rs n
+at-most : (w : ℕ) (d : Pattern) (r : Route) (rs : List Route) (n : ℕ) → (covers w d r ≡ true → r .prefix .length ≤ n) → AtMost w d rs n
     → AtMost w d (r ∷ rs) n
 at-most w d r rs n h k s m c = ⊎-elim (λ e. rw e (h (rw e at c))) (λ l. k s l c) (List·Memᴰ·cases-cons m)
 
 -- the longest of a route and others: the one, or the longest of the others
-module _ (w : ℕ) (d : Prefix) (s : Route) (rs : List Route) where
+module _ (w : ℕ) (d : Pattern) (s : Route) (rs : List Route) where
   first : covers w d s ≡ true → AtMost w d rs (s .prefix .length) → Longest w d (s ∷ rs) s
   first c k = record { among = List·Memᴰ·head refl; covering = c; longest = at-most w d s rs (s .prefix .length) (λ e. omega arith) k }
 
@@ -70,7 +62,7 @@ module _ (w : ℕ) (d : Prefix) (s : Route) (rs : List Route) where
   still t T h = record { among = List·Memᴰ·tail (T .among); covering = T .covering; longest = at-most w d s rs (t .prefix .length) h (T .longest) }
 
 -- one covering route before others, by the best match of those
-module _ (w : ℕ) (d : Prefix) (s : Route) (rs : List Route) (c : covers w d s ≡ true) where
+module _ (w : ℕ) (d : Pattern) (s : Route) (rs : List Route) (c : covers w d s ≡ true) where
   alone : bestMatch w d rs ≡ Nothing → Longest w d (s ∷ rs) s
   alone none = first w d s rs c (λ t m e. let f = none-covers w d rs none t m in apart (cc))
 
@@ -88,7 +80,7 @@ module _ (w : ℕ) (d : Prefix) (s : Route) (rs : List Route) (c : covers w d s 
       rw (← same) (first w d s rs c (λ u m f. let k = T .longest u m f in omega arith)))
 
 -- the best match is the longest
-pub best-longest : (w : ℕ) (d : Prefix) (rs : List Route) (r : Route) → bestMatch w d rs ≡ Found r → Longest w d rs r
+pub best-longest : (w : ℕ) (d : Pattern) (rs : List Route) (r : Route) → bestMatch w d rs ≡ Found r → Longest w d rs r
 unfolding bestMatch longer
 best-longest w d [] r e = apart (cc)
 best-longest w d (s ∷ rs) r e =
@@ -101,7 +93,7 @@ best-longest w d (s ∷ rs) r e =
     go (Found u) f t g below = before w d s rs t u (below u f) r (rw f at g)
 
 -- routes that rise, each with a well-formed prefix, have one longest at most
-pub one-longest : (w : ℕ) (d : Prefix) (rs : List Route) → rising rs ≡ true → ((r : Route) → List·Memᴰ r rs → WellFormed w (r .prefix))
+pub one-longest : (w : ℕ) (d : Pattern) (rs : List Route) → rising rs ≡ true → ((r : Route) → List·Memᴰ r rs → WellFormed w (r .prefix))
     → (r s : Route) → Longest w d rs r → Longest w d rs s → r ≡ s
 unfolding covers
 one-longest w d rs rise formed r s R S =
@@ -113,7 +105,7 @@ one-longest w d rs rise formed r s R S =
     (contains-both-ways w (r .prefix) (s .prefix) (formed r (R .among)) (formed s (S .among)) there back)
 
 -- and among them the longest is the best match
-pub longest-best : (w : ℕ) (d : Prefix) (rs : List Route) → rising rs ≡ true → ((r : Route) → List·Memᴰ r rs → WellFormed w (r .prefix))
+pub longest-best : (w : ℕ) (d : Pattern) (rs : List Route) → rising rs ≡ true → ((r : Route) → List·Memᴰ r rs → WellFormed w (r .prefix))
     → (r : Route) → Longest w d rs r → bestMatch w d rs ≡ Found r
 longest-best w d rs rise formed r R = go (bestMatch w d rs) refl
   where
@@ -121,28 +113,30 @@ longest-best w d rs rise formed r R = go (bestMatch w d rs) refl
     go Nothing e = let f = none-covers w d rs e r (R .among) in let g = R .covering in apart (cc)
     go (Found s) e = e ∙ ap Found (one-longest w d rs rise formed s r (best-longest w d rs s e) R)
 
--- so among the routes that sound words spell, each word a number of w bits, the best match is the one longest route
-pub sound-best : (w : ℕ) (d : Prefix) (ws : List ℕ) → soundRoutes w ws ≡ true → ((i : ℕ) → getD ws i 0 < 2 ^ w)
-    → (r : Route) → (bestMatch w d (routesOf ws) ≡ Found r) ↔ Longest w d (routesOf ws) r
-sound-best w d ws sound fits r =
-    (best-longest w d (routesOf ws) r, longest-best w d (routesOf ws) (sound-rising w ws sound) (sound-formed w ws sound fits) r)
+-- **The best match** among the routes that sound words spell, each word of 32 bits, is the one longest route.
+pub sound-best : (family : Family) → Fits family → (d : Pattern) (ws : List ℕ) → soundRoutes family ws ≡ true → ((i : ℕ) → getD ws i 0 < 2 ^ 32)
+    → (r : Route) → (bestMatch (family .width) d (routesOf family ws) ≡ Found r) ↔ Longest (family .width) d (routesOf family ws) r
+sound-best family F d ws sound fits r = (
+  best-longest (family .width) d (routesOf family ws) r,
+  longest-best (family .width) d (routesOf family ws) (sound-rising family ws sound) (sound-formed family ws sound F fits) r,
+)
 
 -- the routes that matter: those that cover the destination or lie strictly inside it
-abbrev pub matters : ℕ → Prefix → Route → Bool
+abbrev pub matters : ℕ → Pattern → Route → Bool
 matters w d r = covers w d r || moreSpecific w d r
 
 abbrev pub only : {A : Type 0} → (A → Bool) → List A → List A
 only test [] = []
 only test (x ∷ xs) = cond (test x) (x ∷ only test xs) (only test xs)
 
-best-only : (w : ℕ) (d : Prefix) (rs : List Route) → bestMatch w d (only (matters w d) rs) ≡ bestMatch w d rs
+best-only : (w : ℕ) (d : Pattern) (rs : List Route) → bestMatch w d (only (matters w d) rs) ≡ bestMatch w d rs
 unfolding bestMatch longer
 best-only w d [] = refl
 best-only w d (r ∷ rs) =
     by-test (covers w d r) (λ e. rw (e, best-only w d rs))
     (λ e. by-test (moreSpecific w d r) (λ f. rw (e, f, best-only w d rs)) (λ f. rw (e, f, no-match w d r e, best-only w d rs)))
 
-undisputed-only : (w : ℕ) (d : Prefix) (rs : List Route) (n : ℕ) → undisputed w d n (only (matters w d) rs) ≡ undisputed w d n rs
+undisputed-only : (w : ℕ) (d : Pattern) (rs : List Route) (n : ℕ) → undisputed w d n (only (matters w d) rs) ≡ undisputed w d n rs
 unfolding undisputed every
 undisputed-only w d [] n = refl
 undisputed-only w d (r ∷ rs) n =
@@ -150,7 +144,7 @@ undisputed-only w d (r ∷ rs) n =
     (λ e. by-test (moreSpecific w d r) (λ f. rw (e, f, f, undisputed-only w d rs n)) (λ f. rw (e, f, undisputed-only w d rs n)))
 
 -- destinations with the same best match, whose routes more specific are of the same neighbour ASes, are judged alike
-pub judged-alike : (w : ℕ) (d e : Prefix) (originator : ℕ) (rs ss : List Route) → bestMatch w d rs ≡ bestMatch w e ss
+pub judged-alike : (w : ℕ) (d e : Pattern) (originator : ℕ) (rs ss : List Route) → bestMatch w d rs ≡ bestMatch w e ss
     → ((n : ℕ) → undisputed w d n rs ≡ undisputed w e n ss) → judged w d originator rs ≡ judged w e originator ss
 unfolding judged
 judged-alike w d e originator rs ss b u = go (bestMatch w e ss) refl
@@ -160,22 +154,37 @@ judged-alike w d e originator rs ss b u = go (bestMatch w e ss) refl
     go (Found r) f = rw (judged, b, f, u (r .neighbour))
 
 -- a destination is judged by the routes that matter
-pub judged-only : (w : ℕ) (d : Prefix) (originator : ℕ) (rs : List Route) → judged w d originator (only (matters w d) rs) ≡ judged w d originator rs
+pub judged-only : (w : ℕ) (d : Pattern) (originator : ℕ) (rs : List Route) → judged w d originator (only (matters w d) rs) ≡ judged w d originator rs
 judged-only w d originator rs = judged-alike w d d originator (only (matters w d) rs) rs (best-only w d rs) (undisputed-only w d rs)
 
 -- lists with the same routes that matter judge a rule alike
-pub feasible-alike : (w : ℕ) (setting : Bool) (d : Prefix) (originator : ℕ) (rs ss : List Route) → only (matters w d) rs ≡ only (matters w d) ss
-    → feasible w setting (At d) originator rs ≡ feasible w setting (At d) originator ss
+pub feasible-alike : (w : ℕ) (allowed : Bool) (d : Pattern) (originator : ℕ) (rs ss : List Route) → only (matters w d) rs ≡ only (matters w d) ss
+    → feasible w allowed (At d) originator rs ≡ feasible w allowed (At d) originator ss
 unfolding feasible
-feasible-alike w setting d originator rs ss e =
+feasible-alike w allowed d originator rs ss e =
     sym (judged-only w d originator rs) ∙ ap (judged w d originator) e ∙ judged-only w d originator ss
 
--- a rule with a destination is judged the same whatever the setting, and one with none is feasible exactly where the setting allows it
-pub whatever-setting : (w : ℕ) (s t : Bool) (d : Prefix) (originator : ℕ) (rs : List Route)
+-- a rule with a destination is judged the same whatever is allowed, and one with none is feasible exactly where that is
+pub whatever-allowed : (w : ℕ) (s t : Bool) (d : Pattern) (originator : ℕ) (rs : List Route)
     → feasible w s (At d) originator rs ≡ feasible w t (At d) originator rs
 unfolding feasible
-whatever-setting w s t d originator rs = refl
+whatever-allowed w s t d originator rs = refl
 
-pub by-setting : (w : ℕ) (s : Bool) (originator : ℕ) (rs : List Route) → feasible w s Missing originator rs ≡ s
+pub by-allowed : (w : ℕ) (s : Bool) (originator : ℕ) (rs : List Route) → feasible w s Missing originator rs ≡ s
 unfolding feasible
-by-setting w s originator rs = refl
+by-allowed w s originator rs = refl
+
+-- RFC 8956 section 5: a destination with an offset is covered by no route, and so infeasible whatever is allowed
+module _ (family : Family) (ws : List ℕ) (d : Pattern) (h : d .offset ≡ 0 → ⊥) where
+  elsewhere : (at : ℕ) → covers (family .width) d (routeAt family ws at) ≡ false
+  unfolding covers routeAt
+  elsewhere at = sym (other-offset (family .width) (routeAt family ws at .prefix) d (λ e. h (sym e)))
+
+  none-matches : (n at : ℕ) → bestMatch (family .width) d (routesFrom family n ws at) ≡ Nothing
+  unfolding bestMatch routesFrom longer
+  none-matches zero at = refl
+  none-matches (suc n) at = rw (no-match (family .width) d (routeAt family ws at) (elsewhere at)) (none-matches n (at + family .words))
+
+  pub offset-infeasible : (allowed : Bool) (originator : ℕ) → feasible (family .width) allowed (At d) originator (routesOf family ws) ≡ false
+  unfolding feasible judged routesOf
+  offset-infeasible allowed originator = rw (judged, none-matches (length ws / family .words) 0)

@@ -6,23 +6,26 @@ use mathlib.Core.List.{List}
 use Prim.Native.Nat.{ℕ, _+_, _-_, _≤_, _<_}
 use native.Mathlib.Omega.{arith}
 use lib.Dec.{ltb, eqb}
-use lib.ListN.{length, drop}
+use lib.ListN.{length}
 use borrow.Author.Tests.{lt-ltb, le-ltb, ltb-true, ltb-false, eq-eqb, ne-eqb, eqb-true, eqb-false, not-true, not-false}
 use Rattle.octets.specs.Test.{every}
 use Rattle.octets.proofs.Cases.{by-test}
+use Rattle.prefix.specs.Prefix.{Pattern, patternOf, contains}
 use Rattle.prefix.specs.declared.Prefix.{Prefix}
-use Rattle.prefix.specs.Prefix.{contains}
-use Rattle.route.specs.declared.Route.{Route}
-use Rattle.route.specs.declared.Destination.{Destination}
-use Rattle.route.specs.declared.Destination.the-variants.{Missing, At}
-use Rattle.route.specs.declared.BestMatch.{BestMatch}
-use Rattle.route.specs.declared.BestMatch.the-variants.{Nothing, Found}
+use Rattle.rule.specs.declared.Family.{Family}
+use Rattle.rule.specs.Family.{Fits}
+use Rattle.route.specs.declared.Route.{Route as RouteInCode}
+use Rattle.route.specs.declared.Destination.{Destination as DestinationInCode}
+use Rattle.route.specs.declared.Destination.the-variants.{Missing as MissingInCode, At as AtInCode}
+use Rattle.route.specs.declared.BestMatch.{BestMatch as BestMatchInCode}
+use Rattle.route.specs.declared.BestMatch.the-variants.{Nothing as NothingInCode, Found as FoundInCode}
 use Rattle.route.specs.declared.Neighbours.{Neighbours}
 use Rattle.route.specs.declared.Neighbours.the-variants.{Nobody, One, Several}
-use Rattle.route.specs.Route.{routeAt, routesOf}
-use Rattle.route.specs.Feasible.{covers, moreSpecific, longer, matched, bestMatch, undisputed, judged, feasible}
+use Rattle.route.specs.Route.{Route, routeOf, routeAt, routesOf}
+use Rattle.route.specs.Destination.{destinationIn}
+use Rattle.route.specs.Feasible.{BestMatch, Nothing, Found, matchOf, covers, moreSpecific, longer, matched, bestMatch, undisputed, judged, feasible}
 use Rattle.route.specs.Pass.{added, noted, agrees, validated}
-use Rattle.route.proofs.RouteLaws.{routes-next, routes-end}
+use Rattle.route.proofs.RouteLaws.{ahead, routes-all, routes-next, routes-end}
 
 -- the longer of three matches is the same however they are taken together
 pub longer-none : (a : BestMatch) → longer a Nothing ≡ a
@@ -64,71 +67,78 @@ added-agrees (One k) m n =
     (λ f. rw (e, f)))
 added-agrees Several m n = refl
 
-pub noted-agrees : (w : ℕ) (d : Prefix) (seen : Neighbours) (r : Route) (n : ℕ)
+pub noted-agrees : (w : ℕ) (d : Pattern) (seen : Neighbours) (r : Route) (n : ℕ)
     → agrees (noted w d seen r) n ≡ agrees seen n && (not (moreSpecific w d r) || eqb (r .neighbour) n)
 unfolding noted
 noted-agrees w d seen r n =
     by-test (moreSpecific w d r) (λ e. rw e (added-agrees seen (r .neighbour) n)) (λ e. rw e (sym (and-true (agrees seen n))))
 
 -- what holds before each route of the pass
-pub record Passed (w : ℕ) (d : Prefix) (ws : List ℕ) (best : BestMatch) (seen : Neighbours) (at : ℕ) : Type 0 where
+pub record Passed (family : Family) (d : Pattern) (ws : List ℕ) (best : BestMatch) (seen : Neighbours) (at : ℕ) : Type 0 where
   pub within : at ≤ length ws
-  pub matching : longer best (bestMatch w d (routesOf (drop at ws))) ≡ bestMatch w d (routesOf ws)
-  pub agreeing : (n : ℕ) → agrees seen n && undisputed w d n (routesOf (drop at ws)) ≡ undisputed w d n (routesOf ws)
+  pub matching : longer best (bestMatch (family .width) d (ahead family ws at)) ≡ bestMatch (family .width) d (routesOf family ws)
+  pub agreeing : (n : ℕ) → agrees seen n && undisputed (family .width) d n (ahead family ws at) ≡ undisputed (family .width) d n (routesOf family ws)
 
-pub pass-start : (w : ℕ) (d : Prefix) (ws : List ℕ) → Passed w d ws Nothing Nobody 0
+pub pass-start : (family : Family) (d : Pattern) (ws : List ℕ) → Passed family d ws Nothing Nobody 0
 unfolding longer agrees
-pass-start w d ws = record { within = omega arith; matching = refl; agreeing = λ n. refl }
+pass-start family d ws =
+    let e = routes-all family ws in
+    record { within = omega arith; matching = rw e; agreeing = λ n. rw e }
 
-pub pass-on : (w : ℕ) (d : Prefix) (ws : List ℕ) (best : BestMatch) (seen : Neighbours) (at : ℕ) (r : Route) (b : BestMatch) (s : Neighbours)
-    → Passed w d ws best seen at → 4 ≤ length ws - at → r ≡ routeAt ws at → b ≡ longer best (matched w d r) → s ≡ noted w d seen r
-    → Passed w d ws b s (at + 4)
-unfolding bestMatch undisputed every
-pass-on w d ws best seen at r b s c h e f g =
-    record {
-      within = omega arith;
-      matching =
-          rw (f, longer-assoc best (matched w d r) (bestMatch w d (routesOf (drop (at + 4) ws))))
-          (rw (routes-next ws at (omega arith), ← e) at (c .matching));
-      agreeing = λ n. rw (g, noted-agrees w d seen r n, and-assoc) (rw (routes-next ws at (omega arith), ← e) at (c .agreeing n));
-    }
+module _ (family : Family) (F : Fits family) (d : Pattern) (ws : List ℕ) (best : BestMatch) (seen : Neighbours) (at : ℕ) (c : Passed family d ws best seen at) where
+  pub pass-on : (r : Route) (b : BestMatch) (s : Neighbours) → family .words ≤ length ws - at → r ≡ routeAt family ws at
+      → b ≡ longer best (matched (family .width) d r) → s ≡ noted (family .width) d seen r → Passed family d ws b s (at + family .words)
+  unfolding bestMatch undisputed every
+  pass-on r b s h e f g =
+      let some = F .words in
+      let next = routes-next family ws at (omega arith) h in
+      record {
+        within = omega arith;
+        matching =
+            rw (f, longer-assoc best (matched (family .width) d r) (bestMatch (family .width) d (ahead family ws (at + family .words))))
+            (rw (next, ← e) at (c .matching));
+        agreeing = λ n. rw (g, noted-agrees (family .width) d seen r n, and-assoc) (rw (next, ← e) at (c .agreeing n));
+      }
 
 -- what the pass has kept says what the routes do
-kept-says : (w : ℕ) (d : Prefix) (originator : ℕ) (rs : List Route) (best : BestMatch) (seen : Neighbours) → bestMatch w d rs ≡ best
+kept-says : (w : ℕ) (d : Pattern) (originator : ℕ) (rs : List Route) (best : BestMatch) (seen : Neighbours) → bestMatch w d rs ≡ best
     → ((n : ℕ) → agrees seen n ≡ undisputed w d n rs) → validated best originator seen ≡ judged w d originator rs
 unfolding validated judged
 kept-says w d originator rs Nothing seen e f = rw (judged, e)
 kept-says w d originator rs (Found r) seen e f = rw (judged, e, f (r .neighbour))
 
-pub pass-end : (w : ℕ) (d : Prefix) (ws : List ℕ) (best : BestMatch) (seen : Neighbours) (at originator : ℕ) (v : Bool)
-    → Passed w d ws best seen at → length ws - at < 4 → v ≡ validated best originator seen → v ≡ judged w d originator (routesOf ws)
+pub pass-end : (family : Family) (d : Pattern) (ws : List ℕ) (best : BestMatch) (seen : Neighbours) (at originator : ℕ) (v : Bool)
+    → Passed family d ws best seen at → length ws - at < family .words → v ≡ validated best originator seen
+    → v ≡ judged (family .width) d originator (routesOf family ws)
 unfolding bestMatch undisputed every
-pass-end w d ws best seen at originator v c h e =
-    let none = routes-end ws at (omega arith) in
+pass-end family d ws best seen at originator v c h e =
+    let none = routes-end family ws at h in
     e
-    ∙ kept-says w d originator (routesOf ws) best seen (sym (rw none at (c .matching)) ∙ longer-none best)
+    ∙ kept-says (family .width) d originator (routesOf family ws) best seen (sym (rw none at (c .matching)) ∙ longer-none best)
     (λ n. sym (and-true (agrees seen n)) ∙ (rw none at (c .agreeing n)))
 
 -- one route more: the best match stays where the route does not cover the destination, or is no longer
-module _ (w : ℕ) (d : Prefix) (best : BestMatch) (r : Route) (t : Bool) (says : t ≡ contains w (r .prefix) d) where
-  pub not-covering : not t ≡ true → best ≡ longer best (matched w d r)
+module _ (w : ℕ) (d : Pattern) (best : BestMatchInCode) (r : RouteInCode) (t : Bool) (says : t ≡ contains w (patternOf (r .prefix)) d) where
+  pub not-covering : not t ≡ true → matchOf best ≡ longer (matchOf best) (matched w d (routeOf r))
   unfolding matched covers
-  not-covering e = rw (← says, not-true t e) (sym (longer-none best))
+  not-covering e = rw (← says, not-true t e) (sym (longer-none (matchOf best)))
 
-  pub first-match : not t ≡ false → best ≡ Nothing → Found r ≡ longer best (matched w d r)
+  pub first-match : not t ≡ false → best ≡ NothingInCode → Found (routeOf r) ≡ longer (matchOf best) (matched w d (routeOf r))
   unfolding matched covers longer
   first-match e f = rw (f, ← says, not-false t e)
 
-  pub longer-match : (s : Route) → not t ≡ false → best ≡ Found s → s .prefix .length < r .prefix .length → Found r ≡ longer best (matched w d r)
+  pub longer-match : (s : RouteInCode) → not t ≡ false → best ≡ FoundInCode s → s .prefix .length < r .prefix .length
+      → Found (routeOf r) ≡ longer (matchOf best) (matched w d (routeOf r))
   unfolding matched covers longer
   longer-match s e f h = rw (f, ← says, not-false t e, lt-ltb (s .prefix .length) (r .prefix .length) h)
 
-  pub no-longer : (s : Route) → not t ≡ false → best ≡ Found s → r .prefix .length ≤ s .prefix .length → Found s ≡ longer best (matched w d r)
+  pub no-longer : (s : RouteInCode) → not t ≡ false → best ≡ FoundInCode s → r .prefix .length ≤ s .prefix .length
+      → Found (routeOf s) ≡ longer (matchOf best) (matched w d (routeOf r))
   unfolding matched covers longer
   no-longer s e f h = rw (f, ← says, not-false t e, le-ltb (s .prefix .length) (r .prefix .length) h)
 
 -- one route more: its neighbour AS is noted where the route is longer than the destination and inside it
-module _ (w : ℕ) (d : Prefix) (seen : Neighbours) (r : Route) where
+module _ (w : ℕ) (d : Pattern) (seen : Neighbours) (r : Route) where
   pub not-inside : r .prefix .length ≤ d .length → seen ≡ noted w d seen r
   unfolding noted moreSpecific
   not-inside h = rw (le-ltb (d .length) (r .prefix .length) h, and-false (contains w d (r .prefix)))
@@ -143,26 +153,27 @@ module _ (w : ℕ) (d : Prefix) (seen : Neighbours) (r : Route) where
   inside t s says e h f = rw (← says, not-false t e, lt-ltb (d .length) (r .prefix .length) h) f
 
 -- the three ways to conclude
-module _ (best : BestMatch) (originator : ℕ) (seen : Neighbours) where
-  pub no-match : best ≡ Nothing → false ≡ validated best originator seen
+module _ (best : BestMatchInCode) (originator : ℕ) (seen : Neighbours) where
+  pub no-match : best ≡ NothingInCode → false ≡ validated (matchOf best) originator seen
   unfolding validated
   no-match e = rw e
 
-  pub other-originator : (r : Route) → best ≡ Found r → (r .originator ≡ originator → ⊥) → false ≡ validated best originator seen
+  pub other-originator : (r : RouteInCode) → best ≡ FoundInCode r → (r .originator ≡ originator → ⊥) → false ≡ validated (matchOf best) originator seen
   unfolding validated
   other-originator r e h = rw (e, ne-eqb (r .originator) originator h)
 
-  pub by-neighbour : (r : Route) (v : Bool) → best ≡ Found r → r .originator ≡ originator → v ≡ agrees seen (r .neighbour)
-      → v ≡ validated best originator seen
+  pub by-neighbour : (r : RouteInCode) (v : Bool) → best ≡ FoundInCode r → r .originator ≡ originator → v ≡ agrees seen (r .neighbour)
+      → v ≡ validated (matchOf best) originator seen
   unfolding validated
   by-neighbour r v e h g = rw (e, eq-eqb (r .originator) originator h) g
 
--- with no destination the setting decides, and with one the routes do
-module _ (w : ℕ) (setting : Bool) (destination : Destination) (originator : ℕ) (routes : List Route) where
-  pub no-destination : destination ≡ Missing → setting ≡ feasible w setting destination originator routes
+-- with no destination what is allowed decides, and with one the routes do
+module _ (w : ℕ) (allowed : Bool) (destination : DestinationInCode) (originator : ℕ) (routes : List Route) where
+  pub no-destination : destination ≡ MissingInCode → allowed ≡ feasible w allowed (destinationIn destination) originator routes
   unfolding feasible
   no-destination e = rw e
 
-  pub by-routes : (d : Prefix) (v : Bool) → destination ≡ At d → v ≡ judged w d originator routes → v ≡ feasible w setting destination originator routes
+  pub by-routes : (d : Prefix) (v : Bool) → destination ≡ AtInCode d → v ≡ judged w (patternOf d) originator routes
+      → v ≡ feasible w allowed (destinationIn destination) originator routes
   unfolding feasible
   by-routes d v e f = rw e f

@@ -1,147 +1,226 @@
 -- The routes that words spell, one after the other, and the soundness of a list route by route. Assumes nothing.
-use mathlib.Core.Path.{_≡_, refl, sym, _∙_}
-use mathlib.Core.Bool.{Bool, true, false, not, _&&_, and-false}
+use mathlib.Core.Path.{_≡_, refl, ap, sym, _∙_}
+use mathlib.Core.Bool.{Bool, true, false, not, _&&_, and-false, and-assoc}
 use mathlib.Core.List.{List, [], _∷_}
-use Prim.Native.Nat.{ℕ, _+_, _-_, _*_, _%_, _^_, _≤_, _<_}
+use Prim.Native.Nat.{ℕ, zero, suc, _+_, _-_, _*_, _/_, _%_, _^_, _≤_, _<_, compare, Ordering, Ordering·lt, Ordering·eq, Ordering·gt}
 use native.Mathlib.Omega.{arith}
-use native.Mathlib.Nat.{one-mul}
+use native.Mathlib.Nat.{zero-add, add-zero, add-suc, add-assoc, pow-suc, sub-zero, div-eq-of-lt, div-eq-sub-div}
 use native.Mathlib.Numerals.{add-one}
-use lib.Dec.{eqb, lit<}
-use lib.Bits.{bitAnd, and-mask}
-use lib.ListN.{length, getD, drop, length-drop}
-use lib.Pow.{pow-pos, shl-exact}
-use lib.Seq.{drop-cons}
-use borrow.Author.Tests.{le-leb, lt-leb, eq-eqb, ne-eqb, not-true, not-false}
+use lib.Dec.{ltb, eqb, lit<}
+use lib.ListN.{length, getD}
+use borrow.Author.Tests.{lt-ltb, le-ltb, le-leb, lt-leb, eq-eqb, ne-eqb, not-true, not-false}
+use Rattle.octets.specs.declared.Order.{Order}
+use Rattle.octets.specs.declared.Order.the-variants.{First, Second, Same}
+use Rattle.octets.specs.Order.{ordered}
 use Rattle.octets.specs.Test.{every}
-use Rattle.prefix.specs.declared.Prefix.{Prefix}
-use Rattle.route.specs.declared.Route.{Route}
-use Rattle.route.specs.Route.{routeAt, routesOf, plainPrefix, rises, rising, soundRoutes}
-use Rattle.route.specs.Pass.{risesToNext}
+use Rattle.octets.proofs.Cases.{apart}
+use Rattle.octets.proofs.OrderLaws.{swap, cmp-lt, nat-order}
+use Rattle.prefix.specs.declared.Address.{Address}
+use Rattle.prefix.specs.Prefix.{Pattern, addressOf}
+use Rattle.prefix.proofs.BitLaws.{eqb-parts}
+use Rattle.rule.specs.declared.Family.{Family}
+use Rattle.rule.specs.Family.{Fits}
+use Rattle.route.specs.Route.{Route, routeOf, numberInWords, addressWords, routeAt, routesFrom, routesOf, plainPrefix, rises, rising, mostRoutes, soundRoutes}
+use Rattle.route.specs.Pass.{mayFollow}
 
-word-next : (ws : List ℕ) (i j : ℕ) → i + 1 ≡ j → i < length ws → drop i ws ≡ getD ws i 0 ∷ drop j ws
-word-next ws i j e h = drop-cons ws i 0 h ∙ rw (← e, add-one)
+-- the routes from a place on
+abbrev pub ahead : Family → List ℕ → ℕ → List Route
+ahead family ws at = routesFrom family ((length ws - at) / family .words) ws at
 
--- four words more are one route more
-pub routes-next : (ws : List ℕ) (at : ℕ) → at + 4 ≤ length ws → routesOf (drop at ws) ≡ routeAt ws at ∷ routesOf (drop (at + 4) ws)
-unfolding routeAt routesOf
-routes-next ws at h =
-    let a = word-next ws at (at + 1) refl (omega arith) in
-    let b = word-next ws (at + 1) (at + 2) (omega arith) (omega arith) in
-    let c = word-next ws (at + 2) (at + 3) (omega arith) (omega arith) in
-    let d = word-next ws (at + 3) (at + 4) (omega arith) (omega arith) in
-    rw (a, b, c, d)
-
--- fewer than four words are no route
-none : (ws : List ℕ) → length ws < 4 → routesOf ws ≡ []
+pub routes-all : (family : Family) (ws : List ℕ) → ahead family ws 0 ≡ routesOf family ws
 unfolding routesOf
-none [] h = refl
-none (a ∷ []) h = refl
-none (a ∷ l ∷ []) h = refl
-none (a ∷ l ∷ o ∷ []) h = refl
-none (a ∷ l ∷ o ∷ n ∷ ws) h = absurd (omega arith)
+routes-all family ws = rw (sub-zero (length ws))
 
-pub routes-end : (ws : List ℕ) (at : ℕ) → length ws < at + 4 → routesOf (drop at ws) ≡ []
-routes-end ws at h = none (drop at ws) (rw (length-drop at ws) (omega arith))
+-- as many words as a route has are one route more, and fewer are none
+pub routes-next : (family : Family) (ws : List ℕ) (at : ℕ) → 0 < family .words → family .words ≤ length ws - at
+    → ahead family ws at ≡ routeAt family ws at ∷ ahead family ws (at + family .words)
+unfolding routesFrom
+routes-next family ws at some h =
+    let e : length ws - at - family .words ≡ length ws - (at + family .words) = omega arith in
+    let f : (length ws - at) / family .words ≡ suc ((length ws - (at + family .words)) / family .words) = div-eq-sub-div some h ∙ rw (e, add-one) in
+    rw f
 
--- a list too long, or with words left over, is unsound, and of any other the routes decide
-module _ (w : ℕ) (ws : List ℕ) where
-  pub too-long : 16384 < length ws → false ≡ soundRoutes w ws
-  unfolding soundRoutes
-  too-long h = rw (lt-leb (length ws) 16384 h) (sym (and-false (eqb (length ws % 4) 0)))
+pub routes-end : (family : Family) (ws : List ℕ) (at : ℕ) → length ws - at < family .words → ahead family ws at ≡ []
+unfolding routesFrom
+routes-end family ws at h = rw (div-eq-of-lt h)
 
-  pub left-over : (length ws % 4 ≡ 0 → ⊥) → false ≡ soundRoutes w ws
-  unfolding soundRoutes
-  left-over e = rw (ne-eqb (length ws % 4) 0 e)
-
--- every prefix is plain, and the routes rise
-abbrev pub inOrder : ℕ → List Route → Bool
+-- every prefix is plain, and the routes rise: from the first on, and behind a route before them
+abbrev inOrder : ℕ → List Route → Bool
 inOrder w rs = every (λ (r : Route). plainPrefix w (r .prefix)) rs && rising rs
 
--- both tests in one pass: a route's own prefix, the route beside the next, and then the others
-rising-next : (r : Route) (rs : List Route) → rising (r ∷ rs) ≡ (risesToNext (r ∷ rs) && rising rs)
-unfolding rising risesToNext
-rising-next r [] = refl
-rising-next r (s ∷ rs) = refl
+abbrev inOrderBehind : ℕ → Route → List Route → Bool
+inOrderBehind w previous rs = every (λ (r : Route). plainPrefix w (r .prefix)) rs && rising (previous ∷ rs)
 
-in-turn : (a b c d : Bool) → ((a && b) && (c && d)) ≡ (a && (c && (b && d)))
+in-turn : (a b c d : Bool) → ((a && b) && (c && d)) ≡ ((a && c) && (b && d))
 in-turn true b true d = refl
 in-turn true b false d = and-false b
 in-turn false b c d = refl
 
-in-order-next : (w : ℕ) (r : Route) (rs : List Route)
-    → inOrder w (r ∷ rs) ≡ (plainPrefix w (r .prefix) && (risesToNext (r ∷ rs) && inOrder w rs))
+first-in-order : (w : ℕ) (r : Route) (rs : List Route) → inOrder w (r ∷ rs) ≡ plainPrefix w (r .prefix) && inOrderBehind w r rs
 unfolding every
-in-order-next w r rs =
-    rw (rising-next r rs)
-    (in-turn (plainPrefix w (r .prefix)) (every (λ (s : Route). plainPrefix w (s .prefix)) rs) (risesToNext (r ∷ rs)) (rising rs))
+first-in-order w r rs = and-assoc (plainPrefix w (r .prefix)) (every (λ (s : Route). plainPrefix w (s .prefix)) rs) (rising (r ∷ rs))
 
--- what holds before each route of the check: the list is sound exactly where the routes from here on are
-pub record Checked (w : ℕ) (ws : List ℕ) (at : ℕ) : Type 0 where
-  pub whole : length ws % 4 ≡ 0
-  pub place : at % 4 ≡ 0
+next-in-order : (w : ℕ) (p r : Route) (rs : List Route) → inOrderBehind w p (r ∷ rs) ≡ mayFollow w (p .prefix) (r .prefix) && inOrderBehind w r rs
+unfolding every rising mayFollow
+next-in-order w p r rs =
+    in-turn (plainPrefix w (r .prefix)) (every (λ (s : Route). plainPrefix w (s .prefix)) rs) (rises (p .prefix) (r .prefix)) (rising (r ∷ rs))
+
+-- what holds before each route of the check but the first: the list is sound exactly where the routes from here on are in order
+pub record Checked (family : Family) (ws : List ℕ) (previous : Route) (at : ℕ) : Type 0 where
   pub within : at ≤ length ws
-  pub rest : inOrder w (routesOf (drop at ws)) ≡ soundRoutes w ws
+  pub rest : inOrderBehind (family .width) previous (ahead family ws at) ≡ soundRoutes family ws
 
-pub check-start : (w : ℕ) (ws : List ℕ) → length ws ≤ 16384 → length ws % 4 ≡ 0 → Checked w ws 0
-unfolding soundRoutes
-check-start w ws h e =
+module _ (family : Family) (F : Fits family) (ws : List ℕ) where
+  -- a list too long, or with words left over, is unsound, and of any other the routes decide
+  pub too-long : mostRoutes * family .words < length ws → false ≡ soundRoutes family ws
+  unfolding soundRoutes
+  too-long h = rw (lt-leb (length ws) (mostRoutes * family .words) h) (sym (and-false (eqb (length ws % family .words) 0)))
+
+  pub left-over : (length ws % family .words ≡ 0 → ⊥) → false ≡ soundRoutes family ws
+  unfolding soundRoutes
+  left-over e = rw (ne-eqb (length ws % family .words) 0 e)
+
+  module _ (few : length ws ≤ mostRoutes * family .words) (whole : length ws % family .words ≡ 0) where
+    by-order : inOrder (family .width) (routesOf family ws) ≡ soundRoutes family ws
+    unfolding soundRoutes
+    by-order = rw (eq-eqb (length ws % family .words) 0 whole, le-leb (length ws) (mostRoutes * family .words) few)
+
+    pub no-routes : length ws < family .words → true ≡ soundRoutes family ws
+    unfolding every rising
+    no-routes h = rw (← routes-all family ws, routes-end family ws 0 (omega arith)) at by-order
+
+    module _ (r : Route) (p : Bool) (here : r ≡ routeAt family ws 0) (plain : p ≡ plainPrefix (family .width) (r .prefix)) (some : family .words ≤ length ws) where
+      first-plain : soundRoutes family ws ≡ p && inOrderBehind (family .width) r (ahead family ws (0 + family .words))
+      first-plain =
+          let positive = F .words in
+          sym by-order
+          ∙ rw (← routes-all family ws, routes-next family ws 0 (omega arith) (omega arith), ← here, plain)
+          (first-in-order (family .width) r (ahead family ws (0 + family .words)))
+
+      pub first-not-plain : not p ≡ true → false ≡ soundRoutes family ws
+      first-not-plain e = sym (first-plain ∙ rw (not-true p e))
+
+      pub check-start : not p ≡ false → Checked family ws r (family .words)
+      check-start e =
+          let z : 0 + family .words ≡ family .words = omega arith in
+          let behind : soundRoutes family ws ≡ inOrderBehind (family .width) r (ahead family ws (0 + family .words)) = first-plain ∙ rw (not-false p e) in
+          record { within = some; rest = sym (rw z at behind) }
+
+  module _ (previous r : Route) (at : ℕ) (p : Bool) (c : Checked family ws previous at) (h : family .words ≤ length ws - at)
+      (here : r ≡ routeAt family ws at) (follows : p ≡ mayFollow (family .width) (previous .prefix) (r .prefix)) where
+    turn : inOrderBehind (family .width) previous (ahead family ws at) ≡ p && inOrderBehind (family .width) r (ahead family ws (at + family .words))
+    turn =
+        let positive = F .words in
+        rw (routes-next family ws at (omega arith) h, ← here, follows) (next-in-order (family .width) previous r (ahead family ws (at + family .words)))
+
+    pub not-following : not p ≡ true → false ≡ soundRoutes family ws
+    not-following e = rw (not-true p e) at (sym turn) ∙ c .rest
+
+    pub check-on : not p ≡ false → Checked family ws r (at + family .words)
+    check-on e = record { within = omega arith; rest = rw (not-false p e) at (sym turn) ∙ c .rest }
+
+  pub check-end : (previous : Route) (at : ℕ) → Checked family ws previous at → length ws - at < family .words → true ≡ soundRoutes family ws
+  unfolding every rising
+  check-end previous at c h = rw (routes-end family ws at h) at (c .rest)
+
+-- a number in two parts
+number-parts : (m n : ℕ) (ws : List ℕ) (at : ℕ) → numberInWords (m + n) ws at ≡ numberInWords m ws at * (2 ^ 32) ^ n + numberInWords n ws (at + m)
+unfolding numberInWords
+number-parts m zero ws at = rw (add-zero m) (omega arith)
+number-parts m (suc n) ws at = rw (add-suc m n, number-parts m n ws at, pow-suc (2 ^ 32) n, add-assoc at m n) (omega arith)
+
+-- how the code reads an address
+pub no-word : (count : ℕ) (ws : List ℕ) (at : ℕ) → count ≡ 0 → 0 ≡ numberInWords count ws at
+unfolding numberInWords
+no-word count ws at e = rw e
+
+pub one-word : (count : ℕ) (ws : List ℕ) (at first : ℕ) → count ≡ 1 → first ≡ getD ws at 0 → first ≡ numberInWords count ws at
+unfolding numberInWords
+one-word count ws at first e f = let g : getD ws (at + 0) 0 ≡ getD ws at 0 = rw add-zero in rw e (omega arith)
+
+pub two-words : (count : ℕ) (ws : List ℕ) (at first second : ℕ) → count ≤ 2 → (count ≡ 0 → ⊥) → (count ≡ 1 → ⊥) → first ≡ getD ws at 0
+    → second ≡ getD ws (at + 1) 0 → first * 4294967296 + second ≡ numberInWords count ws at
+unfolding numberInWords
+two-words count ws at first second h a b e f =
+    let g : getD ws (at + 0) 0 ≡ getD ws at 0 = rw add-zero in
+    let c : count ≡ 2 = omega arith in
+    rw c (omega arith)
+
+pub low-words : (count low : ℕ) (ws : List ℕ) (at : ℕ) → low ≡ numberInWords count ws at → addressOf (record { high = 0; low = low }) ≡ numberInWords count ws at
+low-words count low ws at e = zero-add low ∙ e
+
+pub both-words : (count at rest high low : ℕ) (ws : List ℕ) → 2 < count → rest ≡ count - 2 → high ≡ numberInWords rest ws at → low ≡ numberInWords 2 ws (at + rest)
+    → addressOf (record { high = high; low = low }) ≡ numberInWords count ws at
+both-words count at rest high low ws h e f g =
+    let k : count ≡ rest + 2 = omega arith in
+    rw (f, g, k) (sym (number-parts rest 2 ws at))
+
+-- how the code reads a route
+pub read-route : (family : Family) (ws : List ℕ) (at : ℕ) (a : Address) → addressOf a ≡ numberInWords (addressWords family) ws at
+    → routeOf (record {
+      prefix = record { offset = 0; length = getD ws (at + addressWords family) 0; address = a };
+      originator = getD ws (at + addressWords family + 1) 0;
+      neighbour = getD ws (at + addressWords family + 2) 0;
+    })
+    ≡ routeAt family ws at
+unfolding routeAt
+read-route family ws at a e =
+    λ i.
     record {
-      whole = e;
-      place = refl;
-      within = omega arith;
-      rest = rw (le-leb (length ws) 16384 h, eq-eqb (length ws % 4) 0 e);
+      prefix = record { offset = 0; length = getD ws (at + addressWords family) 0; address = e i };
+      originator = getD ws (at + addressWords family + 1) 0;
+      neighbour = getD ws (at + addressWords family + 2) 0;
     }
 
-module _ (w : ℕ) (ws : List ℕ) (at : ℕ) (r : Route) (p : Bool) (c : Checked w ws at) (h : at < length ws) (here : r ≡ routeAt ws at)
-    (plain : p ≡ plainPrefix w (r .prefix)) where
-  split : inOrder w (routesOf (drop at ws)) ≡ p && (risesToNext (routesOf (drop at ws)) && inOrder w (routesOf (drop (at + 4) ws)))
-  split =
-      let k = c .whole in
-      let l = c .place in
-      rw (routes-next ws at (omega arith), ← here, plain) (in-order-next w r (routesOf (drop (at + 4) ws)))
-
-  pub not-plain : not p ≡ true → false ≡ soundRoutes w ws
-  not-plain e = rw (not-true p e) at (sym split) ∙ c .rest
-
-  pub not-rising : (n : Bool) → not p ≡ false → n ≡ risesToNext (routesOf (drop at ws)) → not n ≡ true → false ≡ soundRoutes w ws
-  not-rising n e f g = rw (not-false p e, ← f, not-true n g) at (sym split) ∙ c .rest
-
-  pub check-on : (n : Bool) → not p ≡ false → n ≡ risesToNext (routesOf (drop at ws)) → not n ≡ false → Checked w ws (at + 4)
-  check-on n e f g =
-      record {
-        whole = c .whole;
-        place = omega arith;
-        within = omega arith;
-        rest = rw (not-false p e, ← f, not-false n g) at (sym split) ∙ c .rest;
-      }
-
-pub check-end : (w : ℕ) (ws : List ℕ) (at : ℕ) → Checked w ws at → length ws ≤ at → true ≡ soundRoutes w ws
-unfolding every rising
-check-end w ws at c h = rw (routes-end ws at (omega arith)) at (c .rest)
-
--- the last route rises to none, and another to the one after it
-pub last-rises : (ws : List ℕ) (at : ℕ) → at + 4 ≤ length ws → length ws - at < 8 → true ≡ risesToNext (routesOf (drop at ws))
-unfolding risesToNext
-last-rises ws at h k = rw (routes-next ws at h, routes-end ws (at + 4) (omega arith))
-
-pub next-rises : (ws : List ℕ) (at : ℕ) (r s : Route) (b : Bool) → 8 ≤ length ws - at → r ≡ routeAt ws at → s ≡ routeAt ws (at + 4)
-    → b ≡ rises (r .prefix) (s .prefix) → b ≡ risesToNext (routesOf (drop at ws))
-unfolding risesToNext
-next-rises ws at r s b h e f g =
-    rw (routes-next ws at (omega arith), routes-next ws (at + 4) (omega arith), ← e, ← f) g
-
--- the mask of the bits past the length, and what it shows
-mask-of : (k : ℕ) → k ≤ 32 → 1 * 2 ^ k % 2 ^ 64 ≡ 2 ^ k
-mask-of k h = shl-exact {a = 1} 1 k 64 (lit< tt) (omega arith) ∙ one-mul (2 ^ k)
-
-pub mask-fits : (k : ℕ) → k ≤ 32 → 1 ≤ 1 * 2 ^ k % 2 ^ 64
-mask-fits k h = rw (mask-of k h) (pow-pos k)
-
-pub too-wide : (w : ℕ) (p : Prefix) → w < p .length → false ≡ plainPrefix w p
+-- how the code tests a prefix
+pub too-wide : (w : ℕ) (p : Pattern) → w < p .length → false ≡ plainPrefix w p
 unfolding plainPrefix
 too-wide w p h = rw (lt-leb (p .length) w h)
 
-pub by-mask : (w : ℕ) (p : Prefix) → p .length ≤ w → w ≤ 32
-    → eqb (bitAnd (p .address) (1 * 2 ^ (w - p .length) % 2 ^ 64 - 1)) 0 ≡ plainPrefix w p
+pub by-rest : (w : ℕ) (p : Pattern) (past : Address) → p .length ≤ w → past .low < 2 ^ 64 → addressOf past ≡ p .address % 2 ^ (w - p .length)
+    → eqb (past .high) 0 && eqb (past .low) 0 ≡ plainPrefix w p
 unfolding plainPrefix
-by-mask w p h l = rw (le-leb (p .length) w h, mask-of (w - p .length) (omega arith), and-mask (p .address) (w - p .length))
+by-rest w p past h l e = rw (le-leb (p .length) w h, ← e) (sym (eqb-parts 64 (past .high) 0 (past .low) 0 l (lit< tt)))
+
+cmp-gt : (a b : ℕ) → compare a b ≡ Ordering·gt → b < a
+cmp-gt a b e = cmp-lt b a (nat-order .flip a b ∙ ap swap e)
+
+pub by-both : (w : ℕ) (previous p : Pattern) (a b : Bool) → a ≡ plainPrefix w p → b ≡ rises previous p → a && b ≡ mayFollow w previous p
+unfolding mayFollow
+by-both w previous p a b e f = rw (e, f)
+
+-- how the code compares two prefixes
+module _ (p q : Pattern) (o : Order) (is : o ≡ ordered (compare (p .address) (q .address))) where
+  by-addresses : (x : Ordering) → compare (p .address) (q .address) ≡ x → o ≡ ordered x
+  by-addresses x e = is ∙ ap ordered e
+
+  pub lower : o ≡ First → true ≡ rises p q
+  unfolding rises
+  lower e = go (compare (p .address) (q .address)) refl
+    where
+      go : (x : Ordering) → compare (p .address) (q .address) ≡ x → true ≡ rises p q
+      go Ordering·lt f = rw (lt-ltb (p .address) (q .address) (cmp-lt (p .address) (q .address) f))
+      go Ordering·eq f = let g = by-addresses Ordering·eq f in apart (cc)
+      go Ordering·gt f = let g = by-addresses Ordering·gt f in apart (cc)
+
+  pub higher : o ≡ Second → false ≡ rises p q
+  unfolding rises
+  higher e = go (compare (p .address) (q .address)) refl
+    where
+      go : (x : Ordering) → compare (p .address) (q .address) ≡ x → false ≡ rises p q
+      go Ordering·lt f = let g = by-addresses Ordering·lt f in apart (cc)
+      go Ordering·eq f = let g = by-addresses Ordering·eq f in apart (cc)
+      go Ordering·gt f =
+          let below = cmp-gt (p .address) (q .address) f in
+          rw (le-ltb (p .address) (q .address) (omega arith), ne-eqb (p .address) (q .address) (λ g. omega arith))
+
+  pub one-address : o ≡ Same → ltb (p .length) (q .length) ≡ rises p q
+  unfolding rises
+  one-address e = go (compare (p .address) (q .address)) refl
+    where
+      go : (x : Ordering) → compare (p .address) (q .address) ≡ x → ltb (p .length) (q .length) ≡ rises p q
+      go Ordering·lt f = let g = by-addresses Ordering·lt f in apart (cc)
+      go Ordering·eq f =
+          let same = nat-order .only (p .address) (q .address) f in
+          rw (le-ltb (p .address) (q .address) (omega arith), eq-eqb (p .address) (q .address) same)
+      go Ordering·gt f = let g = by-addresses Ordering·gt f in apart (cc)

@@ -3,24 +3,27 @@ use mathlib.Core.Path.{_≡_, refl, ap, sym, _∙_}
 use mathlib.Core.Bool.{true, _&&_}
 use mathlib.Core.List.{List, [], _∷_, List·Memᴰ, List·Memᴰ·cases-cons, List·Memᴰ·not-nil}
 use mathlib.Core.Logic.{_⊎_, inl, inr, ⊎-elim}
-use Prim.Native.Nat.{ℕ, suc, _-_, _%_, _^_, _<_}
+use Prim.Native.Nat.{ℕ, zero, suc, _+_, _-_, _*_, _/_, _%_, _^_, _<_}
+use native.Mathlib.Decide.{decLt}
+use native.Mathlib.Nat.{sub-zero, mul-suc}
 use native.Mathlib.Omega.{arith}
-use lib.Dec.{leb, ltb, eqb}
+use lib.Dec.{leb, ltb, eqb, lit<}
+use lib.Pow.{pow-add}
 use lib.ListN.{length, getD}
 use borrow.Author.Tests.{lt-ltb, le-ltb, ltb-true, leb-true, eq-eqb, eqb-true}
 use Rattle.octets.specs.Test.{every}
 use Rattle.octets.proofs.Cases.{by-test, both}
 use Rattle.octets.proofs.TestLaws.{every-both}
-use Rattle.prefix.specs.declared.Prefix.{Prefix}
-use Rattle.prefix.specs.Prefix.{WellFormed}
-use Rattle.route.specs.declared.Route.{Route}
-use Rattle.route.specs.Route.{routeAt, routesOf, plainPrefix, rises, rising, soundRoutes}
+use Rattle.prefix.specs.Prefix.{Pattern, WellFormed}
+use Rattle.rule.specs.declared.Family.{Family}
+use Rattle.rule.specs.Family.{Fits}
+use Rattle.route.specs.Route.{Route, numberInWords, addressWords, routeAt, routesFrom, routesOf, plainPrefix, rises, rising, mostRoutes, soundRoutes}
 
 -- the order of prefixes in a list: by address, then by length
-abbrev Rises : Prefix → Prefix → Type 0
+abbrev Rises : Pattern → Pattern → Type 0
 Rises p q = (p .address < q .address) ⊎ ((p .address ≡ q .address) × (p .length < q .length))
 
-rises-says : (p q : Prefix) → rises p q ≡ true → Rises p q
+rises-says : (p q : Pattern) → rises p q ≡ true → Rises p q
 unfolding rises
 rises-says p q e =
     by-test (ltb (p .address) (q .address)) (λ t. inl (ltb-true (p .address) (q .address) t))
@@ -28,21 +31,21 @@ rises-says p q e =
     let h = both (eqb (p .address) (q .address)) (ltb (p .length) (q .length)) (rw t at e) in
     inr (eqb-true (p .address) (q .address) (h .0), ltb-true (p .length) (q .length) (h .1)))
 
-says-rises : (p q : Prefix) → Rises p q → rises p q ≡ true
+says-rises : (p q : Pattern) → Rises p q → rises p q ≡ true
 unfolding rises
 says-rises p q (inl h) = rw (lt-ltb (p .address) (q .address) h)
 says-rises p q (inr h) =
     rw (le-ltb (p .address) (q .address) (omega arith), eq-eqb (p .address) (q .address) (h .0), lt-ltb (p .length) (q .length) (h .1))
 
-rises-on : (p q r : Prefix) → Rises p q → Rises q r → Rises p r
+rises-on : (p q r : Pattern) → Rises p q → Rises q r → Rises p r
 rises-on p q r (inl h) (inl k) = inl (omega arith)
 rises-on p q r (inl h) (inr k) = inl (omega arith)
 rises-on p q r (inr h) (inl k) = inl (omega arith)
 rises-on p q r (inr h) (inr k) = inr (omega arith, omega arith)
 
-never-itself : (p q : Prefix) → Rises p q → p ≡ q → ⊥
-never-itself p q (inl h) e = let f = ap (λ (x : Prefix). x .address) e in omega arith
-never-itself p q (inr h) e = let f = ap (λ (x : Prefix). x .length) e in omega arith
+never-itself : (p q : Pattern) → Rises p q → p ≡ q → ⊥
+never-itself p q (inl h) e = let f = ap (λ (x : Pattern). x .address) e in omega arith
+never-itself p q (inr h) e = let f = ap (λ (x : Pattern). x .length) e in omega arith
 
 -- where routes rise, those behind the first do
 rest-rising : (r : Route) (rs : List Route) → rising (r ∷ rs) ≡ true → rising rs ≡ true
@@ -70,11 +73,16 @@ every-plain w (s ∷ rs) e r m =
     ⊎-elim (λ g. rw g (f .0)) below (List·Memᴰ·cases-cons m)
 
 -- a plain prefix of an address that fits is well-formed
-plain-formed : (w : ℕ) (p : Prefix) → plainPrefix w p ≡ true → p .address < 2 ^ w → WellFormed w p
+plain-formed : (w : ℕ) (p : Pattern) → plainPrefix w p ≡ true → p .offset ≡ 0 → p .address < 2 ^ w → WellFormed w p
 unfolding plainPrefix
-plain-formed w p e h =
+plain-formed w p e o h =
     let f = both (leb (p .length) w) (eqb (p .address % 2 ^ (w - p .length)) 0) e in
-    record { within = leb-true (p .length) w (f .0); fits = h; clear = eqb-true (p .address % 2 ^ (w - p .length)) 0 (f .1) }
+    record {
+      within = leb-true (p .length) w (f .0);
+      fits = rw (o, sub-zero w) h;
+      clear = eqb-true (p .address % 2 ^ (w - p .length)) 0 (f .1);
+      begins = elim (decLt 0 (p .length)) [ yes k ↦ inl (rw o k) | no k ↦ inr (o, omega arith) ];
+    }
 
 -- no prefix stands twice among routes that rise
 pub only-once : (rs : List Route) → rising rs ≡ true → (r s : Route) → List·Memᴰ r rs → List·Memᴰ s rs → r .prefix ≡ s .prefix → r ≡ s
@@ -93,30 +101,52 @@ only-once (t ∷ rs) e r s m n same =
     (List·Memᴰ·cases-cons n))
     (List·Memᴰ·cases-cons m)
 
--- the addresses of the routes are among the words
-addresses-fit : (k : ℕ) (ws : List ℕ) → ((i : ℕ) → getD ws i 0 < k) → (r : Route) → List·Memᴰ r (routesOf ws) → r .prefix .address < k
-unfolding routesOf routeAt
-addresses-fit k [] f r m = absurd (List·Memᴰ·not-nil m)
-addresses-fit k (a ∷ []) f r m = absurd (List·Memᴰ·not-nil m)
-addresses-fit k (a ∷ l ∷ []) f r m = absurd (List·Memᴰ·not-nil m)
-addresses-fit k (a ∷ l ∷ o ∷ []) f r m = absurd (List·Memᴰ·not-nil m)
-addresses-fit k (a ∷ l ∷ o ∷ n ∷ ws) f r m =
-    let below = addresses-fit k ws (λ i. f (suc (suc (suc (suc i))))) r in
-    ⊎-elim (λ e. rw e (f 0)) below (List·Memᴰ·cases-cons m)
+-- a number in n words of 32 bits has 32 * n bits
+words-fit : (n : ℕ) (ws : List ℕ) (at : ℕ) → ((i : ℕ) → getD ws i 0 < 2 ^ 32) → numberInWords n ws at < 2 ^ (32 * n)
+unfolding numberInWords
+words-fit zero ws at f = lit< tt
+words-fit (suc n) ws at f =
+    let h = words-fit n ws at f in
+    let k = f (at + n) in
+    rw (mul-suc 32 n, pow-add 2 (32 * n) 32) (omega arith)
+
+-- each route has offset 0, and an address of the family's width
+record Spelled (w : ℕ) (r : Route) : Type 0 where
+  offset : r .prefix .offset ≡ 0
+  fits : r .prefix .address < 2 ^ w
+
+module _ (family : Family) (F : Fits family) (ws : List ℕ) (f : (i : ℕ) → getD ws i 0 < 2 ^ 32) where
+  route-spelled : (at : ℕ) → Spelled (family .width) (routeAt family ws at)
+  unfolding routeAt
+  route-spelled at =
+      let h = F .words in
+      let e : family .width ≡ 32 * addressWords family = omega arith in
+      record { offset = refl; fits = rw e (words-fit (addressWords family) ws at f) }
+
+  routes-spelled : (n at : ℕ) (r : Route) → List·Memᴰ r (routesFrom family n ws at) → Spelled (family .width) r
+  unfolding routesFrom
+  routes-spelled zero at r m = absurd (List·Memᴰ·not-nil m)
+  routes-spelled (suc n) at r m =
+      let below = routes-spelled n (at + family .words) r in
+      ⊎-elim (λ e. rw e (route-spelled at)) below (List·Memᴰ·cases-cons m)
 
 -- sound words spell routes that rise, each with a plain prefix
-module _ (w : ℕ) (ws : List ℕ) (sound : soundRoutes w ws ≡ true) where
-  routes-sound : (every (λ (r : Route). plainPrefix w (r .prefix)) (routesOf ws) ≡ true) × (rising (routesOf ws) ≡ true)
+module _ (family : Family) (ws : List ℕ) (sound : soundRoutes family ws ≡ true) where
+  routes-sound : (every (λ (r : Route). plainPrefix (family .width) (r .prefix)) (routesOf family ws) ≡ true) × (rising (routesOf family ws) ≡ true)
   unfolding soundRoutes
   routes-sound =
-      let plain = every (λ (r : Route). plainPrefix w (r .prefix)) (routesOf ws) in
-      let short = leb (length ws) 16384 && (plain && rising (routesOf ws)) in
-      both plain (rising (routesOf ws)) (both (leb (length ws) 16384) (plain && rising (routesOf ws)) (both (eqb (length ws % 4) 0) short sound .1) .1)
+      let plain = every (λ (r : Route). plainPrefix (family .width) (r .prefix)) (routesOf family ws) in
+      let short = leb (length ws) (mostRoutes * family .words) in
+      both plain (rising (routesOf family ws))
+      (both short (plain && rising (routesOf family ws))
+      (both (eqb (length ws % family .words) 0) (short && (plain && rising (routesOf family ws))) sound .1) .1)
 
-  pub sound-rising : rising (routesOf ws) ≡ true
+  pub sound-rising : rising (routesOf family ws) ≡ true
   sound-rising = routes-sound .1
 
-  -- so every prefix is well-formed, where each word is a number of w bits
-  pub sound-formed : ((i : ℕ) → getD ws i 0 < 2 ^ w) → (r : Route) → List·Memᴰ r (routesOf ws) → WellFormed w (r .prefix)
-  sound-formed fits r m =
-      plain-formed w (r .prefix) (every-plain w (routesOf ws) (routes-sound .0) r m) (addresses-fit (2 ^ w) ws fits r m)
+  -- so every prefix is well-formed, where each word has 32 bits
+  pub sound-formed : Fits family → ((i : ℕ) → getD ws i 0 < 2 ^ 32) → (r : Route) → List·Memᴰ r (routesOf family ws) → WellFormed (family .width) (r .prefix)
+  unfolding routesOf
+  sound-formed F fits r m =
+      let h = routes-spelled family F ws fits (length ws / family .words) 0 r m in
+      plain-formed (family .width) (r .prefix) (every-plain (family .width) (routesOf family ws) (routes-sound .0) r m) (h .offset) (h .fits)

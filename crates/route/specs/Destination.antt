@@ -3,15 +3,25 @@ use Prim.Native.Nat.{ℕ}
 use mathlib.Core.Bool.{cond}
 use mathlib.Core.List.{List, [], _∷_}
 use lib.Dec.{eqb}
-use Rattle.prefix.specs.Prefix.{prefixOf}
+use Rattle.prefix.specs.Prefix.{Pattern, patternOf, prefixOf}
 use Rattle.rule.specs.declared.Family.{Family}
 use Rattle.rule.specs.Value.{Component, components}
-use Rattle.route.specs.declared.Destination.{Destination}
-use Rattle.route.specs.declared.Destination.the-variants.{Missing, At}
+use Rattle.route.specs.declared.Destination.{Destination as DestinationInCode}
+use Rattle.route.specs.declared.Destination.the-variants.{Missing as MissingInCode, At as AtInCode}
+
+-- The destination of a rule, which may have none.
+pub data Destination : Type 0 where
+  Missing : Destination
+  At : Pattern → Destination
+
+-- The destination that one of the code is.
+abbrev pub destinationIn : DestinationInCode → Destination
+destinationIn MissingInCode = Missing
+destinationIn (AtInCode p) = At (patternOf p)
 
 -- The destination if this component is of type 1, else what the rest gives.
 unfoldable pub destinationFor : Family → Component → Destination → Destination
-destinationFor family p rest = cond (eqb (p .kind) 1) (At (prefixOf (family .width) (p .body))) rest
+destinationFor family p rest = cond (eqb (p .kind) 1) (At (prefixOf (family .width) (family .offsets) (p .body))) rest
 
 -- The destination among components.
 unfoldable pub destinationAmong : Family → List Component → Destination

@@ -1,25 +1,41 @@
 -- Whether a rule is feasible by the unicast routes at hand: RFC 8955 section 6. Of a rule its destination counts, and the originator of
 -- its announcement. A route covers the destination, or is more specific than it, or does neither; w is the width of an address.
-use Prim.Native.Nat.{ℕ}
-use mathlib.Core.Bool.{Bool, false, cond, not, _&&_, _||_}
-use mathlib.Core.List.{List, [], _∷_}
+use Prim.Native.Nat.{ℕ, _≤_}
+use mathlib.Core.Path.{_≡_}
+use mathlib.Core.Bool.{Bool, true, false, cond, not, _&&_, _||_}
+use mathlib.Core.List.{List, [], _∷_, List·Memᴰ}
 use lib.Dec.{ltb, eqb}
 use Rattle.octets.specs.Test.{every}
-use Rattle.prefix.specs.declared.Prefix.{Prefix}
-use Rattle.prefix.specs.Prefix.{contains}
-use Rattle.route.specs.declared.Route.{Route}
-use Rattle.route.specs.declared.Destination.{Destination}
-use Rattle.route.specs.declared.Destination.the-variants.{Missing, At}
-use Rattle.route.specs.declared.BestMatch.{BestMatch}
-use Rattle.route.specs.declared.BestMatch.the-variants.{Nothing, Found}
+use Rattle.prefix.specs.Prefix.{Pattern, contains}
+use Rattle.route.specs.declared.BestMatch.{BestMatch as BestMatchInCode}
+use Rattle.route.specs.declared.BestMatch.the-variants.{Nothing as NothingInCode, Found as FoundInCode}
+use Rattle.route.specs.Route.{Route, routeOf}
+use Rattle.route.specs.Destination.{Destination, Missing, At}
 
 -- Section 6 b): a route covers the destination where its prefix contains it; a route equal to the destination covers it.
-unfoldable pub covers : ℕ → Prefix → Route → Bool
+unfoldable pub covers : ℕ → Pattern → Route → Bool
 covers w destination r = contains w (r .prefix) destination
 
 -- Section 6 c): a route is more specific than the destination where it lies strictly inside; a route equal to the destination does not.
-unfoldable pub moreSpecific : ℕ → Prefix → Route → Bool
+unfoldable pub moreSpecific : ℕ → Pattern → Route → Bool
 moreSpecific w destination r = contains w destination (r .prefix) && ltb (destination .length) (r .prefix .length)
+
+-- Section 6 b): "the longest possible prefix length covering the destination prefix": such a route is among the routes, covers the
+-- destination, and no other that covers it is longer. The law `sound-best` says that `bestMatch` is it.
+pub record Longest (w : ℕ) (destination : Pattern) (routes : List Route) (r : Route) : Type 0 where
+  pub among : List·Memᴰ r routes
+  pub covering : covers w destination r ≡ true
+  pub longest : (s : Route) → List·Memᴰ s routes → covers w destination s ≡ true → s .prefix .length ≤ r .prefix .length
+
+-- The best match for a destination, which may have none.
+pub data BestMatch : Type 0 where
+  Nothing : BestMatch
+  Found : Route → BestMatch
+
+-- The best match that one of the code is.
+abbrev pub matchOf : BestMatchInCode → BestMatch
+matchOf NothingInCode = Nothing
+matchOf (FoundInCode r) = Found (routeOf r)
 
 -- Section 6 b): of two matches the one with the longer prefix.
 unfoldable pub longer : BestMatch → BestMatch → BestMatch
@@ -28,29 +44,29 @@ longer (Found r) Nothing = Found r
 longer (Found r) (Found s) = cond (ltb (r .prefix .length) (s .prefix .length)) (Found s) (Found r)
 
 -- Section 6 b): a route that covers the destination is a match.
-unfoldable pub matched : ℕ → Prefix → Route → BestMatch
+unfoldable pub matched : ℕ → Pattern → Route → BestMatch
 matched w destination r = cond (covers w destination r) (Found r) Nothing
 
 -- Section 6 b): the best match is the route with the longest prefix that covers the destination.
-unfoldable pub bestMatch : ℕ → Prefix → List Route → BestMatch
+unfoldable pub bestMatch : ℕ → Pattern → List Route → BestMatch
 bestMatch w destination [] = Nothing
 bestMatch w destination (r ∷ routes) = longer (matched w destination r) (bestMatch w destination routes)
 
 -- Section 6 c): no more-specific route has been received from another neighbour AS than this one.
-unfoldable pub undisputed : ℕ → Prefix → ℕ → List Route → Bool
+unfoldable pub undisputed : ℕ → Pattern → ℕ → List Route → Bool
 undisputed w destination neighbour routes = every (λ r. not (moreSpecific w destination r) || eqb (r .neighbour) neighbour) routes
 
 -- Section 6 b) and c); 01: "the longest route that covers it exists and has the announcement's originator; no route strictly inside the
 -- destination has another neighbour AS than that best route".
-unfoldable pub judged : ℕ → Prefix → ℕ → List Route → Bool
+unfoldable pub judged : ℕ → Pattern → ℕ → List Route → Bool
 judged w destination originator routes =
     elim (bestMatch w destination routes) [
       | Nothing ↦ false
       | Found best ↦ eqb (best .originator) originator && undisputed w destination (best .neighbour) routes
     ]
 
--- Section 6 a): a rule with a destination, 0.0.0.0/0 like any other, is feasible as that is judged, whatever the setting; one with no
--- destination is feasible exactly where the setting relaxes this rule.
+-- Section 6 a): a rule with a destination, 0.0.0.0/0 like any other, is feasible as that is judged, whatever the setting; 01: "A setting
+-- may allow rules with no destination; those are then always feasible."
 unfoldable pub feasible : ℕ → Bool → Destination → ℕ → List Route → Bool
-feasible w setting Missing originator routes = setting
-feasible w setting (At destination) originator routes = judged w destination originator routes
+feasible w allowsNoDestination Missing originator routes = allowsNoDestination
+feasible w allowsNoDestination (At destination) originator routes = judged w destination originator routes

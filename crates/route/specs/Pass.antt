@@ -1,23 +1,17 @@
--- How the code goes over the routes: once with each beside the next, and once with the best match kept and, of the routes strictly inside
--- the destination, whether they have no neighbour AS, one, or several. No promise names these words.
+-- How the code goes over the routes: once with each beside the one before it, and once with the best match kept and, of the routes strictly
+-- inside the destination, whether they have no neighbour AS, one, or several. No promise names these words.
 use Prim.Native.Nat.{ℕ}
 use mathlib.Core.Bool.{Bool, true, false, cond, _&&_}
-use mathlib.Core.List.{List, [], _∷_}
 use lib.Dec.{eqb}
-use Rattle.prefix.specs.declared.Prefix.{Prefix}
-use Rattle.route.specs.declared.Route.{Route}
-use Rattle.route.specs.declared.BestMatch.{BestMatch}
-use Rattle.route.specs.declared.BestMatch.the-variants.{Nothing, Found}
+use Rattle.prefix.specs.Prefix.{Pattern}
 use Rattle.route.specs.declared.Neighbours.{Neighbours}
 use Rattle.route.specs.declared.Neighbours.the-variants.{Nobody, One, Several}
-use Rattle.route.specs.Route.{rises}
-use Rattle.route.specs.Feasible.{moreSpecific}
+use Rattle.route.specs.Route.{Route, plainPrefix, rises}
+use Rattle.route.specs.Feasible.{BestMatch, Nothing, Found, moreSpecific}
 
--- The first of the routes comes before the next, if there is a next.
-unfoldable pub risesToNext : List Route → Bool
-risesToNext [] = true
-risesToNext (r ∷ []) = true
-risesToNext (r ∷ s ∷ routes) = rises (r .prefix) (s .prefix)
+-- A prefix may follow another in a sound list: it is plain, and the other comes before it.
+unfoldable pub mayFollow : ℕ → Pattern → Pattern → Bool
+mayFollow w previous p = plainPrefix w p && rises previous p
 
 -- The neighbour ASes with one more.
 unfoldable pub added : Neighbours → ℕ → Neighbours
@@ -26,7 +20,7 @@ added (One m) n = cond (eqb m n) (One m) Several
 added Several n = Several
 
 -- A route's neighbour AS is noted where the route is more specific than the destination.
-unfoldable pub noted : ℕ → Prefix → Neighbours → Route → Neighbours
+unfoldable pub noted : ℕ → Pattern → Neighbours → Route → Neighbours
 noted w destination seen r = cond (moreSpecific w destination r) (added seen (r .neighbour)) seen
 
 -- All neighbour ASes noted are this one.

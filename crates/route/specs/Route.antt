@@ -1,36 +1,63 @@
--- Unicast routes as they are lent, four 32-bit words a route, and which lists of words are sound. The width w of an address is 32.
-use Prim.Native.Nat.{ℕ, _+_, _-_, _*_, _%_, _^_}
+-- Unicast routes as they are lent, in 32-bit words, and which lists of words are sound. The family says how many words a route has, and how
+-- many bits an address.
+use Prim.Native.Nat.{ℕ, zero, suc, _+_, _-_, _*_, _/_, _%_, _^_}
 use mathlib.Core.Bool.{Bool, true, _&&_, _||_}
 use mathlib.Core.List.{List, [], _∷_}
 use lib.Dec.{leb, ltb, eqb}
 use lib.ListN.{length, getD}
 use Rattle.octets.specs.Test.{every}
-use Rattle.prefix.specs.declared.Prefix.{Prefix}
-use Rattle.route.specs.declared.Route.{Route}
+use Rattle.prefix.specs.Prefix.{Pattern, patternOf}
+use Rattle.rule.specs.declared.Family.{Family}
+use Rattle.route.specs.declared.Route.{Route as RouteInCode}
+
+-- A unicast route: its prefix, its originator, and the neighbour AS that it was received from.
+pub record Route : Type 0 where
+  pub prefix : Pattern
+  pub originator : ℕ
+  pub neighbour : ℕ
+
+-- The route that one of the code is.
+abbrev pub routeOf : RouteInCode → Route
+routeOf r = record { prefix = patternOf (r .prefix); originator = r .originator; neighbour = r .neighbour }
+
+-- The number in the n words that begin at a place, the highest first.
+unfoldable pub numberInWords : ℕ → List ℕ → ℕ → ℕ
+numberInWords zero words at = 0
+numberInWords (suc n) words at = numberInWords n words at * 2 ^ 32 + getD words (at + n) 0
+
+-- The words of an address: a route's words without its length, its originator and its neighbour AS.
+abbrev pub addressWords : Family → ℕ
+addressWords family = family .words - 3
 
 -- 01: "four a route: address, length, originator, neighbour AS": the route whose words begin at a place.
-unfoldable pub routeAt : List ℕ → ℕ → Route
-routeAt words at =
+unfoldable pub routeAt : Family → List ℕ → ℕ → Route
+routeAt family words at =
     record {
-      prefix = record { length = getD words (at + 1) 0; address = getD words at 0 };
-      originator = getD words (at + 2) 0;
-      neighbour = getD words (at + 3) 0;
+      prefix =
+          record {
+            offset = 0;
+            length = getD words (at + addressWords family) 0;
+            address = numberInWords (addressWords family) words at;
+          };
+      originator = getD words (at + addressWords family + 1) 0;
+      neighbour = getD words (at + addressWords family + 2) 0;
     }
 
--- 01: "Routes are lent as 32-bit words, four a route": the routes that words spell; up to three words left over spell none.
-unfoldable pub routesOf : List ℕ → List Route
-routesOf [] = []
-routesOf (a ∷ []) = []
-routesOf (a ∷ l ∷ []) = []
-routesOf (a ∷ l ∷ o ∷ []) = []
-routesOf (a ∷ l ∷ o ∷ n ∷ words) = routeAt (a ∷ l ∷ o ∷ n ∷ []) 0 ∷ routesOf words
+-- So many routes, one after the other from a place on.
+unfoldable pub routesFrom : Family → ℕ → List ℕ → ℕ → List Route
+routesFrom family zero words at = []
+routesFrom family (suc n) words at = routeAt family words at ∷ routesFrom family n words (at + family .words)
 
--- 01: "length at most 32, no bit past the length": such a prefix is plain.
-unfoldable pub plainPrefix : ℕ → Prefix → Bool
+-- 01: "Routes are lent as 32-bit words, four a route": the routes that words spell; words left over spell none.
+unfoldable pub routesOf : Family → List ℕ → List Route
+routesOf family words = routesFrom family (length words / family .words) words 0
+
+-- 01: "length at most 32, no bit past the length": such a prefix of an address of w bits is plain.
+unfoldable pub plainPrefix : ℕ → Pattern → Bool
 plainPrefix w p = leb (p .length) w && eqb (p .address % 2 ^ (w - p .length)) 0
 
 -- 01: "by address then length": a prefix comes before another.
-unfoldable pub rises : Prefix → Prefix → Bool
+unfoldable pub rises : Pattern → Pattern → Bool
 rises p q = ltb (p .address) (q .address) || eqb (p .address) (q .address) && ltb (p .length) (q .length)
 
 -- 01: "strictly rising by address then length": each route comes before the next.
@@ -39,13 +66,14 @@ rising [] = true
 rising (r ∷ []) = true
 rising (r ∷ s ∷ routes) = rises (r .prefix) (s .prefix) && rising (s ∷ routes)
 
--- 01: "at most 4,096 routes", four words each.
-abbrev pub mostWords : ℕ
-mostWords = 4 * 4096
+-- 01: "at most 4,096 routes".
+abbrev pub mostRoutes : ℕ
+mostRoutes = 4096
 
 -- 01: "Sound: a multiple of four words, at most 4,096 routes, length at most 32, no bit past the length, strictly rising by address then
 -- length."
-unfoldable pub soundRoutes : ℕ → List ℕ → Bool
-soundRoutes w words =
-    eqb (length words % 4) 0
-    && (leb (length words) mostWords && (every (λ r. plainPrefix w (r .prefix)) (routesOf words) && rising (routesOf words)))
+unfoldable pub soundRoutes : Family → List ℕ → Bool
+soundRoutes family words =
+    eqb (length words % family .words) 0
+    && (leb (length words) (mostRoutes * family .words)
+    && (every (λ r. plainPrefix (family .width) (r .prefix)) (routesOf family words) && rising (routesOf family words)))

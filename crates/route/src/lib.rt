@@ -1,14 +1,18 @@
-// Unicast routes lent as 32-bit words, four a route, and whether a rule is feasible by them: RFC 8955 section 6.
+// Unicast routes lent as 32-bit words, as many a route as the family has, and whether a rule is feasible by them: RFC 8955 section 6.
 ghost use mathlib.Core.Path.{_≡_};
 ghost use Prim.Native.Nat.{_+_, _≤_};
-ghost use lib.ListN.{length, drop};
+ghost use lib.ListN.{length};
+ghost use Rattle.prefix.specs.Prefix.{addressOf, patternOf};
+ghost use Rattle.rule.specs.Family.{Fits};
 ghost use Rattle.rule.specs.Value.{component};
-ghost use Rattle.route.specs.Route.{routeAt, routesOf, plainPrefix, rises, soundRoutes};
-ghost use Rattle.route.specs.Feasible.{matched, longer, judged, feasible};
-ghost use Rattle.route.specs.Pass.{risesToNext, added, noted, agrees, validated};
-ghost use Rattle.rule.specs.Family.{ipv4};
-ghost use Rattle.route.specs.Destination.{destinationFor, destinationOf};
+ghost use Rattle.route.specs.Route.{routeOf, numberInWords, routeAt, routesOf, plainPrefix, rises, soundRoutes};
+ghost use Rattle.route.specs.Destination.{Missing, destinationIn, destinationFor, destinationOf};
+ghost use Rattle.route.specs.Feasible.{matchOf, matched, longer, judged, feasible};
+ghost use Rattle.route.specs.Pass.{mayFollow, added, noted, agrees, validated};
+use octets::Order;
+use prefix::Address;
 use prefix::Prefix;
+use rule::Family;
 use rule::Next;
 
 // A unicast route: its prefix, its originator, and the neighbour AS that it was received from.
@@ -37,19 +41,58 @@ pub enum Neighbours {
     Several,
 }
 
-// The most words lent: 4,096 routes of four words.
-pub const MOST_WORDS: usize = 16384;
+// The most routes lent.
+pub const MOST_ROUTES: usize = 4096;
 
-// The route whose four words begin at a place.
-fn route_at(words: &[u32], at: usize) -> Route
-    requires { ⌜ at + 4 ≤ length (now words) ⌝ }
-    ensures { λ r. ⌜ r ≡ routeAt (now (words .entry)) at ⌝ }
+// The number in at most two words that begin at a place, the highest first.
+fn number_in(count: usize, words: &[u32], at: usize) -> u64
+    requires { ⌜ (count ≤ 2) × (at + count ≤ length (now words)) ⌝ }
+    ensures { λ r. ⌜ r ≡ numberInWords count (now (words .entry)) at ⌝ }
 {
-    let address = words[at];
-    let length = words[at + 1];
-    let originator = words[at + 2];
-    let neighbour = words[at + 3];
-    let prefix = Prefix { length, address };
+    if count == 0 {
+        return 0;
+    }
+    let first = words[at] as u64;
+    if count == 1 {
+        return first;
+    }
+    let second = words[at + 1] as u64;
+    first * 4294967296 + second
+}
+
+// The address in at most four words that begin at a place.
+fn address_in(count: usize, words: &[u32], at: usize) -> Address
+    requires { ⌜ (count ≤ 4) × (at + count ≤ length (now words)) ⌝ }
+    ensures { λ r. ⌜ addressOf r ≡ numberInWords count (now (words .entry)) at ⌝ }
+{
+    if count <= 2 {
+        return Address {
+            high: 0,
+            low: number_in(count, words, at),
+        };
+    }
+    let rest = count - 2;
+    let high = number_in(rest, words, at);
+    let low = number_in(2, words, at + rest);
+    Address { high, low }
+}
+
+// The route whose words begin at a place: its address's, its length, its originator and its neighbour AS.
+fn route_at(family: Family, words: &[u32], at: usize) -> Route
+    requires { ⌜ Fits family × (at + family .words ≤ length (now words)) ⌝ }
+    ensures { λ r. ⌜ routeOf r ≡ routeAt family (now (words .entry)) at ⌝ }
+{
+    let count = family.words - 3;
+    let address = address_in(count, words, at);
+    let behind = at + count;
+    let length = words[behind];
+    let originator = words[behind + 1];
+    let neighbour = words[behind + 2];
+    let prefix = Prefix {
+        offset: 0,
+        length,
+        address,
+    };
     Route {
         prefix,
         originator,
@@ -57,68 +100,74 @@ fn route_at(words: &[u32], at: usize) -> Route
     }
 }
 
-// Whether a prefix is no longer than 32 bits and has no bit past its length.
-fn is_plain(prefix: Prefix) -> bool
-    ensures { λ r. ⌜ r ≡ plainPrefix 32 prefix ⌝ }
+// Whether a prefix is no longer than the width and has no bit past its length.
+fn is_plain(width: u8, prefix: Prefix) -> bool
+    ensures { λ r. ⌜ r ≡ plainPrefix width (patternOf prefix) ⌝ }
 {
-    if 32 < prefix.length {
+    let bits = width as u32;
+    if bits < prefix.length {
         return false;
     }
-    let rest = 32 - prefix.length;
-    let mask = (1u64 << rest) - 1;
-    (prefix.address as u64) & mask == 0
+    let past = prefix::low_bits(bits - prefix.length, prefix.address);
+    (past.high == 0) & (past.low == 0)
 }
 
 // Whether a prefix comes before another by address, then by length.
 fn rises_to(from: Prefix, to: Prefix) -> bool
-    ensures { λ r. ⌜ r ≡ rises from to ⌝ }
+    ensures { λ r. ⌜ r ≡ rises (patternOf from) (patternOf to) ⌝ }
 {
-    (from.address < to.address) | ((from.address == to.address) & (from.length < to.length))
+    match prefix::compare_addresses(from.address, to.address) {
+        Order::First => true,
+        Order::Second => false,
+        Order::Same => from.length < to.length,
+    }
 }
 
-// Whether the route at a place comes before the next, if there is a next.
-fn rises_to_next(words: &[u32], at: usize) -> bool
-    requires { ⌜ at + 4 ≤ length (now words) ⌝ }
-    ensures { λ r. ⌜ r ≡ risesToNext (routesOf (drop at (now (words .entry)))) ⌝ }
+// Whether a prefix is plain and comes behind the one before it.
+fn may_follow(width: u8, previous: Prefix, prefix: Prefix) -> bool
+    ensures { λ r. ⌜ r ≡ mayFollow width (patternOf previous) (patternOf prefix) ⌝ }
 {
-    if words.len() - at < 8 {
+    is_plain(width, prefix) & rises_to(previous, prefix)
+}
+
+// Whether a lent list of routes is sound: each route is read once, and looked at beside the one before it.
+pub fn sound_routes(family: Family, words: &[u32]) -> bool
+    requires { ⌜ Fits family ⌝ }
+    ensures { λ r. ⌜ r ≡ soundRoutes family (now (words .entry)) ⌝ }
+{
+    let stride = family.words;
+    if MOST_ROUTES * stride < words.len() {
+        return false;
+    }
+    if words.len() % stride != 0 {
+        return false;
+    }
+    if words.len() < stride {
         return true;
     }
-    let here = route_at(words, at);
-    let next = route_at(words, at + 4);
-    rises_to(here.prefix, next.prefix)
-}
-
-// Whether a lent list of routes is sound: each route is looked at once, beside the one after it.
-pub fn sound_routes(words: &[u32]) -> bool
-    ensures { λ r. ⌜ r ≡ soundRoutes 32 (now (words .entry)) ⌝ }
-{
-    if MOST_WORDS < words.len() {
+    let first = route_at(family, words, 0);
+    if !is_plain(family.width, first.prefix) {
         return false;
     }
-    if words.len() % 4 != 0 {
-        return false;
-    }
-    let mut at = 0;
-    while at < words.len() {
-        let route = route_at(words, at);
-        if !is_plain(route.prefix) {
+    let mut previous = first;
+    let mut at = stride;
+    while stride <= words.len() - at {
+        let route = route_at(family, words, at);
+        if !may_follow(family.width, previous.prefix, route.prefix) {
             return false;
         }
-        if !rises_to_next(words, at) {
-            return false;
-        }
-        at += 4;
+        previous = route;
+        at += stride;
     }
     true
 }
 
 // The better of the best match so far and one more route: a longer one that covers the destination.
-fn better(best: BestMatch, destination: Prefix, route: Route) -> BestMatch
-    ensures { λ r. ⌜ r ≡ longer best (matched 32 destination route) ⌝ }
+fn better(width: u8, best: BestMatch, destination: Prefix, route: Route) -> BestMatch
+    ensures { λ r. ⌜ matchOf r ≡ longer (matchOf best) (matched width (patternOf destination) (routeOf route)) ⌝ }
 {
     let covering = route.prefix;
-    if !prefix::contains_prefix(covering, destination) {
+    if !prefix::contains_prefix(width, covering, destination) {
         return best;
     }
     let BestMatch::Found(held) = best else {
@@ -149,14 +198,14 @@ fn add_neighbour(seen: Neighbours, neighbour: u32) -> Neighbours
 }
 
 // The neighbour ASes seen, with that of one more route if it lies strictly inside the destination.
-fn note_neighbour(seen: Neighbours, destination: Prefix, route: Route) -> Neighbours
-    ensures { λ r. ⌜ r ≡ noted 32 destination seen route ⌝ }
+fn note_neighbour(width: u8, seen: Neighbours, destination: Prefix, route: Route) -> Neighbours
+    ensures { λ r. ⌜ r ≡ noted width (patternOf destination) seen (routeOf route) ⌝ }
 {
     let inner = route.prefix;
     if inner.length <= destination.length {
         return seen;
     }
-    if !prefix::contains_prefix(destination, inner) {
+    if !prefix::contains_prefix(width, destination, inner) {
         return seen;
     }
     add_neighbour(seen, route.neighbour)
@@ -175,7 +224,7 @@ fn all_agree(seen: Neighbours, neighbour: u32) -> bool
 
 // Whether the best match has the originator, and no other neighbour AS than its own was seen.
 fn is_validated(best: BestMatch, originator: u32, seen: Neighbours) -> bool
-    ensures { λ r. ⌜ r ≡ validated best originator seen ⌝ }
+    ensures { λ r. ⌜ r ≡ validated (matchOf best) originator seen ⌝ }
 {
     let BestMatch::Found(route) = best else {
         return false;
@@ -187,47 +236,59 @@ fn is_validated(best: BestMatch, originator: u32, seen: Neighbours) -> bool
 }
 
 // Whether a rule with this destination is feasible: one pass keeps the best match and the neighbour ASes inside.
-fn judge(destination: Prefix, originator: u32, words: &[u32]) -> bool
-    ensures { λ r. ⌜ r ≡ judged 32 destination originator (routesOf (now (words .entry))) ⌝ }
+fn judge(family: Family, destination: Prefix, originator: u32, words: &[u32]) -> bool
+    requires { ⌜ Fits family ⌝ }
+    ensures { λ r. ⌜ r ≡ judged (family .width) (patternOf destination) originator (routesOf family (now (words .entry))) ⌝ }
 {
+    let stride = family.words;
+    let width = family.width;
     let mut best = BestMatch::Nothing;
     let mut seen = Neighbours::Nobody;
     let mut at = 0;
-    while 4 <= words.len() - at {
-        let route = route_at(words, at);
-        best = better(best, destination, route);
-        seen = note_neighbour(seen, destination, route);
-        at += 4;
+    while stride <= words.len() - at {
+        let route = route_at(family, words, at);
+        best = better(width, best, destination, route);
+        seen = note_neighbour(width, seen, destination, route);
+        at += stride;
     }
     is_validated(best, originator, seen)
 }
 
-// Whether a rule is feasible by the routes; one with no destination is exactly where the setting relaxes that.
-pub fn is_feasible(setting: bool, destination: Destination, originator: u32, words: &[u32]) -> bool
-    ensures { λ r. ⌜ r ≡ feasible 32 setting destination originator (routesOf (now (words .entry))) ⌝ }
+// Whether a rule is feasible by the routes; one with no destination is exactly where that is allowed.
+pub fn is_feasible(
+    family: Family,
+    allows_no_destination: bool,
+    destination: Destination,
+    originator: u32,
+    words: &[u32],
+) -> bool
+    requires { ⌜ Fits family ⌝ }
+    ensures { λ r. ⌜ r ≡ feasible (family .width) «allows_no_destination» (destinationIn destination) originator (routesOf family (now (words .entry))) ⌝ }
 {
     let Destination::At(prefix) = destination else {
-        return setting;
+        return allows_no_destination;
     };
-    judge(prefix, originator, words)
+    judge(family, prefix, originator, words)
 }
 
 // The destination that a rule's first component spells, if it is of type 1.
-fn destination_for(kind: u8, body: &[u8]) -> Destination
-    ensures { λ r. ⌜ r ≡ destinationFor ipv4 (component kind (now (body .entry))) Destination.Missing ⌝ }
+fn destination_for(family: Family, kind: u8, body: &[u8]) -> Destination
+    requires { ⌜ Fits family ⌝ }
+    ensures { λ r. ⌜ destinationIn r ≡ destinationFor family (component kind (now (body .entry))) Missing ⌝ }
 {
     if kind == 1 {
-        return Destination::At(prefix::prefix_of(body));
+        return Destination::At(prefix::prefix_of(family.width, family.offsets, body));
     }
     Destination::Missing
 }
 
 // The destination of a rule's value; types rise strictly, so only its first component can be of type 1.
-pub fn destination_of(value: &[u8]) -> Destination
-    ensures { λ r. ⌜ r ≡ destinationOf ipv4 (now (value .entry)) ⌝ }
+pub fn destination_of(family: Family, value: &[u8]) -> Destination
+    requires { ⌜ Fits family ⌝ }
+    ensures { λ r. ⌜ destinationIn r ≡ destinationOf family (now (value .entry)) ⌝ }
 {
-    match rule::next_component(rule::ipv4(), value, 0, 0) {
-        Next::Another { kind, next } => destination_for(kind, &value[1..next]),
+    match rule::next_component(family, value, 0, 0) {
+        Next::Another { kind, next } => destination_for(family, kind, &value[1..next]),
         Next::Nothing => Destination::Missing,
         Next::Refused {
             number: _,

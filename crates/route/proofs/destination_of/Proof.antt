@@ -1,17 +1,13 @@
 -- Only the first component can be of type 1, since types rise.
-use Rattle.rule.proofs.ValueLaws.{Found}
 use native.Mathlib.Omega.{arith}
-use Rattle.rule.specs.Family.{ipv4}
+use Rattle.rule.proofs.ValueLaws.{Found}
 use Rattle.route.proofs.DestinationLaws.{first-found, by-first, by-none, by-refused}
 use borrow.Author.Needs.{needs}
 use Rattle.route.proofs.destination_of.Statement.{statement}
 use Rattle.route.proofs.destination_of.Tie as tie
 
-found-first : (c : tie.After-known-told) → Found ipv4 (c .before .before .before .before .before .before .args .value .now) 0 0 (c .before .kind .given .0 .0) (c .before .kind .given .0 .1 .0)
-found-first c = first-found ipv4 _ _ (c .before .before .before .before .ipv4 .ensures) _ (c .before .before .before .next-component .ensures) _ _ (c .before .kind .given .1)
-
-ipv4-requires : tie.Need-ipv4-requires
-ipv4-requires c κs = search needs
+found-first : (c : tie.After-known-told) → Found (c .before .before .before .before .before .args .family) (c .before .before .before .before .before .args .value .now) 0 0 (c .before .kind .given .0 .0) (c .before .kind .given .0 .1 .0)
+found-first c = first-found (c .before .before .before .before .before .args .family) _ _ (c .before .before .before .next-component .ensures) _ _ (c .before .kind .given .1)
 
 next-component-requires : tie.Need-next-component-requires
 next-component-requires c κs = search needs
@@ -50,7 +46,6 @@ pub destination-of-spec : {M : Type 1} → statement M
 destination-of-spec =
     tie.close
     (tie.spec
-    ipv4-requires
     next-component-requires
     enum-known-kind
     sub-destination-for

@@ -1,4 +1,4 @@
--- With no destination the setting decides, and with one the routes do.
+-- With no destination what is allowed decides, and with one the routes do.
 use Rattle.route.proofs.PassLaws.{no-destination, by-routes}
 use borrow.Author.Needs.{needs}
 use Rattle.route.proofs.is_feasible.Statement.{statement}

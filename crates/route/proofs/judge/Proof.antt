@@ -1,19 +1,21 @@
 -- Before each route, what is kept and the routes to come settle the whole list.
-use borrow.Author.Needs.{needs}
 use Prim.Native.Nat.{_-_}
 use lib.ListN.{length}
+use Rattle.prefix.specs.Prefix.{patternOf}
+use Rattle.route.specs.Feasible.{matchOf}
 use Rattle.route.proofs.PassLaws.{Passed, pass-start, pass-on, pass-end}
+use borrow.Author.Needs.{needs}
 use Rattle.route.proofs.judge.Statement.{statement}
 use Rattle.route.proofs.judge.Tie as tie
 
 abbrev Inv-loop : tie.InvT-loop
-Inv-loop destination originator words best₀ seen₀ at₀ best seen at = Passed 32 destination words best seen at
+Inv-loop family destination originator words stride width best₀ seen₀ at₀ best seen at = Passed family (patternOf destination) words (matchOf best) seen at
 
 abbrev μ-loop : tie.MeasureT-loop
-μ-loop destination originator words best₀ seen₀ at₀ best seen at = length words - at
+μ-loop family destination originator words stride width best₀ seen₀ at₀ best seen at = length words - at
 
 loop-holds : tie.Need-loop-holds Inv-loop μ-loop
-loop-holds c = pass-start 32 (c .before .args .destination) (c .before .args .words .now)
+loop-holds c = search (pass-start, needs)
 
 sub-loop : tie.Need-sub-loop Inv-loop μ-loop
 sub-loop c = search needs

@@ -5,7 +5,7 @@ use Rattle.route.proofs.note_neighbour.Statement.{statement}
 use Rattle.route.proofs.note_neighbour.Tie as tie
 
 returns : tie.Need-returns
-returns c = not-inside 32 _ _ _ (search needs)
+returns c = search (not-inside, needs)
 
 contains-prefix-requires : tie.Need-contains-prefix-requires
 contains-prefix-requires c κs = search needs

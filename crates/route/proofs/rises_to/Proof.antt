@@ -1,12 +1,38 @@
--- The code's test is the definition.
-use Rattle.route.specs.Route.{rises}
-use mathlib.Core.Path.{refl}
+-- The addresses decide, and where they are equal the lengths.
+use Rattle.route.proofs.RouteLaws.{lower, higher, one-address}
+use borrow.Author.Needs.{needs}
 use Rattle.route.proofs.rises_to.Statement.{statement}
 use Rattle.route.proofs.rises_to.Tie as tie
 
+compare-addresses-requires : tie.Need-compare-addresses-requires
+compare-addresses-requires c κs = search needs
+
+enum-told : tie.Need-enum-told
+enum-told c = search needs
+
+enum-told-2 : tie.Need-enum-told-2
+enum-told-2 c = search needs
+
+enum-told-3 : tie.Need-enum-told-3
+enum-told-3 c = search needs
+
 returns : tie.Need-returns
-unfolding rises
-returns c = refl
+returns c = search (lower, needs)
+
+returns-2 : tie.Need-returns-2
+returns-2 c = search (higher, needs)
+
+returns-3 : tie.Need-returns-3
+returns-3 c = one-address _ _ _ (c .before .before .before .before .compare-addresses .ensures) (search needs)
 
 pub rises-to-spec : {M : Type 1} → statement M
-rises-to-spec = tie.close (tie.spec returns)
+rises-to-spec =
+    tie.close
+    (tie.spec
+    compare-addresses-requires
+    enum-told
+    enum-told-2
+    enum-told-3
+    returns
+    returns-2
+    returns-3)

@@ -1,18 +1,17 @@
--- The four words that are read are those of the route.
-use Rattle.route.specs.Route.{routeAt}
-use mathlib.Core.Path.{refl}
+-- The words that are read are those of the route.
+use Rattle.route.proofs.RouteLaws.{read-route}
 use borrow.Author.Needs.{needs}
 use Rattle.route.proofs.route_at.Statement.{statement}
 use Rattle.route.proofs.route_at.Tie as tie
 
-mul-address : tie.Need-mul-address
-mul-address c = search needs
+sub-count : tie.Need-sub-count
+sub-count c = search needs
 
-shared-slice-read-address : tie.Need-shared-slice-read-address
-shared-slice-read-address c = search needs
+address-in-requires : tie.Need-address-in-requires
+address-in-requires c κs = search needs
 
-add-length : tie.Need-add-length
-add-length c = search needs
+add-behind : tie.Need-add-behind
+add-behind c = search needs
 
 mul-length : tie.Need-mul-length
 mul-length c = search needs
@@ -39,16 +38,15 @@ shared-slice-read-neighbour : tie.Need-shared-slice-read-neighbour
 shared-slice-read-neighbour c = search needs
 
 returns : tie.Need-returns
-unfolding routeAt
-returns c = refl
+returns c = search (read-route, needs)
 
 pub route-at-spec : {M : Type 1} → statement M
 route-at-spec =
     tie.close
     (tie.spec
-    mul-address
-    shared-slice-read-address
-    add-length
+    sub-count
+    address-in-requires
+    add-behind
     mul-length
     shared-slice-read-length
     add-originator

@@ -1,25 +1,32 @@
--- Before each route, the list is sound exactly where the routes from here on are: those before were.
-use borrow.Author.Needs.{needs}
+-- Before each route but the first, the list is sound exactly where the routes from here on are in order: those before were.
 use Prim.Native.Nat.{_-_}
 use lib.ListN.{length}
-use Rattle.route.proofs.RouteLaws.{too-long, left-over, Checked, check-start, not-plain, not-rising, check-on, check-end}
+use Rattle.route.specs.Route.{routeOf}
+use Rattle.route.proofs.RouteLaws.{Checked, too-long, left-over, no-routes, first-not-plain, check-start, not-following, check-on, check-end}
+use borrow.Author.Needs.{needs}
 use Rattle.route.proofs.sound_routes.Statement.{statement}
 use Rattle.route.proofs.sound_routes.Tie as tie
 
 abbrev Inv-loop : tie.InvT-loop
-Inv-loop words at₀ at = Checked 32 words at
+Inv-loop family words stride previous₀ at₀ previous at = Checked family words (routeOf previous) at
 
 abbrev μ-loop : tie.MeasureT-loop
-μ-loop words at₀ at = length words - at
+μ-loop family words stride previous₀ at₀ previous at = length words - at
+
+mul-if1 : tie.Need-mul-if1 Inv-loop μ-loop
+mul-if1 c = search needs
 
 returns : tie.Need-returns Inv-loop μ-loop
 returns c = search (too-long, needs)
 
+rem-if2 : tie.Need-rem-if2 Inv-loop μ-loop
+rem-if2 c = search needs
+
 returns-2 : tie.Need-returns-2 Inv-loop μ-loop
 returns-2 c = search (left-over, needs)
 
-loop-holds : tie.Need-loop-holds Inv-loop μ-loop
-loop-holds c = search (check-start, needs)
+returns-3 : tie.Need-returns-3 Inv-loop μ-loop
+returns-3 c = search (no-routes, needs)
 
 route-at-requires : tie.Need-route-at-requires Inv-loop μ-loop
 route-at-requires c κs = search needs
@@ -27,14 +34,23 @@ route-at-requires c κs = search needs
 is-plain-requires : tie.Need-is-plain-requires Inv-loop μ-loop
 is-plain-requires c κs = search needs
 
-returns-3 : tie.Need-returns-3 Inv-loop μ-loop
-returns-3 c = search (not-plain, needs)
-
-rises-to-next-requires : tie.Need-rises-to-next-requires Inv-loop μ-loop
-rises-to-next-requires c κs = search needs
-
 returns-4 : tie.Need-returns-4 Inv-loop μ-loop
-returns-4 c = search (not-rising, needs)
+returns-4 c = search (first-not-plain, needs)
+
+loop-holds : tie.Need-loop-holds Inv-loop μ-loop
+loop-holds c = check-start _ (search needs) _ (search needs) (search needs) _ _ (search needs) (c .before .is-plain .ensures) (search needs) (search needs)
+
+sub-loop : tie.Need-sub-loop Inv-loop μ-loop
+sub-loop c = search needs
+
+route-at-requires-2 : tie.Need-route-at-requires-2 Inv-loop μ-loop
+route-at-requires-2 c κs = search needs
+
+may-follow-requires : tie.Need-may-follow-requires Inv-loop μ-loop
+may-follow-requires c κs = search needs
+
+returns-5 : tie.Need-returns-5 Inv-loop μ-loop
+returns-5 c = search (not-following, needs)
 
 add-at : tie.Need-add-at Inv-loop μ-loop
 add-at c = search needs
@@ -43,19 +59,10 @@ loop-less : tie.Need-loop-less Inv-loop μ-loop
 loop-less c = search needs
 
 loop-again : tie.Need-loop-again Inv-loop μ-loop
-loop-again c =
-    let plain = c .before .before .before in
-    let l = plain .before .before .before .loop in
-    check-on 32 _ (l .at) (plain .before .route-at .result) (plain .is-plain .result) (l .inv) (search needs)
-    (plain .before .route-at .ensures)
-    (plain .is-plain .ensures)
-    (c .before .rises-to-next .result)
-    (c .before .before .if3 .left)
-    (c .before .rises-to-next .ensures)
-    (c .if4 .left)
+loop-again c = search (check-on, needs)
 
-returns-5 : tie.Need-returns-5 Inv-loop μ-loop
-returns-5 c = search (check-end, needs)
+returns-6 : tie.Need-returns-6 Inv-loop μ-loop
+returns-6 c = search (check-end, needs)
 
 pub sound-routes-spec : {M : Type 1} → statement M
 sound-routes-spec =
@@ -63,15 +70,20 @@ sound-routes-spec =
     (tie.spec
     Inv-loop
     μ-loop
+    mul-if1
     returns
+    rem-if2
     returns-2
-    loop-holds
+    returns-3
     route-at-requires
     is-plain-requires
-    returns-3
-    rises-to-next-requires
     returns-4
+    loop-holds
+    sub-loop
+    route-at-requires-2
+    may-follow-requires
+    returns-5
     add-at
     loop-less
     loop-again
-    returns-5)
+    returns-6)
