@@ -1,10 +1,11 @@
 -- Section 5.1 is one order: that of the keys. So precedence has the laws of an order, and a tie is between equal plain spellings. All
--- this is for values of octets and a family whose addresses are n octets (ipv4: 4). Assumes nothing.
-use mathlib.Core.Path.{_≡_, refl, sym, ap, _∙_}
+-- this is for values of octets and a family as there are. Assumes nothing.
+use mathlib.Core.Path.{_≡_, refl, sym, ap, ap₂, _∙_}
 use mathlib.Core.Bool.{true, false}
 use mathlib.Core.Logic.{_⊎_, inl, inr}
-use mathlib.Core.List.{List, [], _∷_, map, head-eq-of-cons-eq, tail-eq-of-cons-eq}
-use Prim.Native.Nat.{ℕ, _*_, compare, Ordering, Ordering·lt, Ordering·eq, Ordering·gt}
+use mathlib.Core.List.{List, [], _∷_, _++_, map, head-eq-of-cons-eq, tail-eq-of-cons-eq}
+use native.Mathlib.Omega.{arith}
+use Prim.Native.Nat.{ℕ, _-_, _*_, compare, Ordering, Ordering·lt, Ordering·eq, Ordering·gt}
 use Rattle.octets.specs.Test.{Each}
 use Rattle.octets.specs.Order.{then, lex}
 use Rattle.octets.proofs.Cases.{by-test}
@@ -15,13 +16,14 @@ use Rattle.prefix.proofs.ContainLaws.{tie}
 use Rattle.prefix.proofs.PrefixLaws.{one-order as prefix-order}
 use Rattle.rule.specs.declared.Family.{Family}
 use Rattle.rule.specs.declared.Checked.the-variants.{Accepted}
-use Rattle.rule.specs.Operator.{isPrefix}
-use Rattle.rule.specs.Value.{Component, spelled, components, checkValue}
+use Rattle.rule.specs.Family.{Fits}
+use Rattle.rule.specs.Shape.{shapeOf}
+use Rattle.rule.specs.Value.{Component, spelled, headOf, components, checkValue}
 use Rattle.rule.specs.Plain.{plain}
 use Rattle.rule.proofs.ClearedLaws.{plain-again}
 use Rattle.rule.proofs.SpellingLaws.{check-plain}
 use Rattle.rule.proofs.ComponentsLaws.{spelled-whole}
-use Rattle.order.specs.Precedence.{bodyOrder, componentOrder, componentsOrder, precedence}
+use Rattle.order.specs.Precedence.{bodyOrder, componentOrder, componentsOrder, headsOrder, plainOrder, precedence}
 use Rattle.order.specs.Key.{bodyKey, keyOf, keysOf, keyOrder}
 use Rattle.order.proofs.BodyLaws.{PlainBody, plain-bodies, prefix-only}
 
@@ -37,11 +39,11 @@ module _ (family : Family) where
     where
       bodies : p .kind ≡ q .kind → bodyOrder family (p .kind) (p .body) (q .body) ≡ lex compare (bodyKey family (p .kind) (p .body)) (bodyKey family (q .kind) (q .body))
       bodies e =
-          by-test (isPrefix (p .kind))
+          by-test (shapeOf family (p .kind) .prefix)
           (λ t.
-          let u : isPrefix (q .kind) ≡ true = sym (ap isPrefix e) ∙ t in
-          rw (t, u) (prefix-order (family .width) (prefixOf (family .width) (p .body)) (prefixOf (family .width) (q .body)) (P .formed t) (Q .formed u)))
-          (λ t. let u : isPrefix (q .kind) ≡ false = sym (ap isPrefix e) ∙ t in rw (t, u))
+          let u : shapeOf family (q .kind) .prefix ≡ true = sym (ap (λ k. shapeOf family k .prefix) e) ∙ t in
+          rw (t, u) (prefix-order (family .width) (prefixOf (family .width) (family .offsets) (p .body)) (prefixOf (family .width) (family .offsets) (q .body)) (P .formed t) (Q .formed u)))
+          (λ t. let u : shapeOf family (q .kind) .prefix ≡ false = sym (ap (λ k. shapeOf family k .prefix) e) ∙ t in rw (t, u))
 
       go : (o : Ordering) → compare (p .kind) (q .kind) ≡ o → componentOrder family p q ≡ lex compare (keyOf family p) (keyOf family q)
       go Ordering·lt e = rw e
@@ -55,7 +57,14 @@ module _ (family : Family) where
   components-order (p ∷ ps) [] P Q = refl
   components-order (p ∷ ps) (q ∷ qs) P Q = λ i. then (component-order p q (P .0) (Q .0) i) (components-order ps qs (P .1) (Q .1) i)
 
-module _ (family : Family) (n : ℕ) (wide : family .width ≡ 8 * n) where
+module _ (family : Family) (fits : Fits family) where
+  -- an address has whole octets
+  abbrev n : ℕ
+  n = 4 * (family .words - 3)
+
+  wide : family .width ≡ 8 * n
+  wide = omega (arith, fits)
+
   -- components in the plain spelling with one key are equal
   component-only : (p q : Component) → PlainBody family p → PlainBody family q → keyOf family p ≡ keyOf family q → p ≡ q
   unfolding keyOf bodyKey
@@ -66,12 +75,12 @@ module _ (family : Family) (n : ℕ) (wide : family .width ≡ 8 * n) where
     where
       same : p .kind ≡ q .kind → bodyKey family (p .kind) (p .body) ≡ bodyKey family (q .kind) (q .body) → p .body ≡ q .body
       same k f =
-          by-test (isPrefix (p .kind))
+          by-test (shapeOf family (p .kind) .prefix)
           (λ t.
-          let u : isPrefix (q .kind) ≡ true = sym (ap isPrefix k) ∙ t in
-          prefix-only family n wide (p .body) (q .body) (P .whole t) (Q .whole u) (P .octets) (Q .octets)
+          let u : shapeOf family (q .kind) .prefix ≡ true = sym (ap (λ k. shapeOf family k .prefix) k) ∙ t in
+          prefix-only family n wide (p .body) (q .body) (P .whole t) (Q .whole u) (P .clear t) (Q .clear u) (P .octets) (Q .octets)
           (tie (family .width) _ _ (P .formed t) (Q .formed u) (rw (t, u) at f)))
-          (λ t. let u : isPrefix (q .kind) ≡ false = sym (ap isPrefix k) ∙ t in rw (t, u) at f)
+          (λ t. let u : shapeOf family (q .kind) .prefix ≡ false = sym (ap (λ k. shapeOf family k .prefix) k) ∙ t in rw (t, u) at f)
 
   components-only : (ps qs : List Component) → Each (PlainBody family) ps → Each (PlainBody family) qs
       → map (keyOf family) ps ≡ map (keyOf family) qs → ps ≡ qs
@@ -83,9 +92,10 @@ module _ (family : Family) (n : ℕ) (wide : family .width ≡ 8 * n) where
 
   -- **One order**: the precedence of two values is the order of their keys.
   pub one-order : (v w : List ℕ) → Octets v → Octets w → precedence family v w ≡ keyOrder (keysOf family v) (keysOf family w)
-  unfolding precedence componentsOrder keysOf
+  unfolding precedence plainOrder componentsOrder keysOf
   one-order v w o p =
-      components-order family (components family (plain v)) (components family (plain w)) (plain-bodies family n wide v o) (plain-bodies family n wide w p)
+      ap (then (headsOrder family (plain family v) (plain family w)))
+      (components-order family (components family (plain family v)) (components family (plain family w)) (plain-bodies family n wide v o) (plain-bodies family n wide w p))
 
   -- A value ties with itself, so that it does not come before itself.
   pub precedence-same : (v : List ℕ) → Octets v → precedence family v v ≡ Ordering·eq
@@ -104,25 +114,27 @@ module _ (family : Family) (n : ℕ) (wide : family .width ≡ 8 * n) where
 
   module _ (v w : List ℕ) (o : Octets v) (p : Octets w) where
     -- values of one plain spelling tie
-    pub equal-ties : plain v ≡ plain w → precedence family v w ≡ Ordering·eq
+    pub equal-ties : plain family v ≡ plain family w → precedence family v w ≡ Ordering·eq
     unfolding precedence
     equal-ties e = rw e (precedence-same w p)
 
     module _ (ok : checkValue family v ≡ Accepted) (also : checkValue family w ≡ Accepted) where
       -- Accepted values of one key have one plain spelling.
-      pub keys-only : keysOf family v ≡ keysOf family w → plain v ≡ plain w
+      pub keys-only : keysOf family v ≡ keysOf family w → plain family v ≡ plain family w
       unfolding keysOf
       keys-only e =
-          let parts = components-only (components family (plain v)) (components family (plain w)) (plain-bodies family n wide v o) (plain-bodies family n wide w p) e in
-          sym (spelled-whole family (plain v) (check-plain family v o ∙ ok)) ∙ ap spelled parts
-          ∙ spelled-whole family (plain w) (check-plain family w p ∙ also)
+          let heads : headOf family (plain family v) ≡ headOf family (plain family w) = head-eq-of-cons-eq e in
+          let parts = components-only (components family (plain family v)) (components family (plain family w)) (plain-bodies family n wide v o) (plain-bodies family n wide w p)
+          (tail-eq-of-cons-eq e) in
+          sym (spelled-whole family (plain family v) (check-plain family v o ∙ ok)) ∙ ap₂ (λ (l : List ℕ) (ps : List Component). l ++ spelled ps) heads parts
+          ∙ spelled-whole family (plain family w) (check-plain family w p ∙ also)
 
       -- **Tie**: 01, "A tie occurs exactly between equal plain spellings."
-      pub tie-equal : precedence family v w ≡ Ordering·eq → plain v ≡ plain w
+      pub tie-equal : precedence family v w ≡ Ordering·eq → plain family v ≡ plain family w
       tie-equal e = keys-only (key-order .only (keysOf family v) (keysOf family w) (sym (one-order v w o p) ∙ e))
 
       -- Of two accepted values that are not one rule, one comes first.
-      pub one-first : (plain v ≡ plain w → ⊥) → (precedence family v w ≡ Ordering·lt) ⊎ (precedence family w v ≡ Ordering·lt)
+      pub one-first : (plain family v ≡ plain family w → ⊥) → (precedence family v w ≡ Ordering·lt) ⊎ (precedence family w v ≡ Ordering·lt)
       one-first differ = go (precedence family v w) refl
         where
           go : (x : Ordering) → precedence family v w ≡ x → (precedence family v w ≡ Ordering·lt) ⊎ (precedence family w v ≡ Ordering·lt)
@@ -131,15 +143,15 @@ module _ (family : Family) (n : ℕ) (wide : family .width ≡ 8 * n) where
           go Ordering·gt e = inr (precedence-flip v w o p ∙ ap swap e)
 
 -- a value has the key of its plain spelling, and what has that plain spelling has its key
-pub keys-plain : (family : Family) (v : List ℕ) → Octets v → keysOf family (plain v) ≡ keysOf family v
+pub keys-plain : (family : Family) (v : List ℕ) → Octets v → keysOf family (plain family v) ≡ keysOf family v
 unfolding keysOf
-keys-plain family v o = rw (plain-again v o)
+keys-plain family v o = rw (plain-again family v o)
 
-pub keys-same : (family : Family) (v w : List ℕ) → plain v ≡ plain w → keysOf family v ≡ keysOf family w
+pub keys-same : (family : Family) (v w : List ℕ) → plain family v ≡ plain family w → keysOf family v ≡ keysOf family w
 unfolding keysOf
 keys-same family v w e = rw e
 
 -- precedence knows a value by its plain spelling alone
-pub precedence-plain : (family : Family) (v w : List ℕ) → Octets v → Octets w → precedence family (plain v) (plain w) ≡ precedence family v w
+pub precedence-plain : (family : Family) (v w : List ℕ) → Octets v → Octets w → precedence family (plain family v) (plain family w) ≡ precedence family v w
 unfolding precedence
-precedence-plain family v w o p = rw (plain-again v o, plain-again w p)
+precedence-plain family v w o p = rw (plain-again family v o, plain-again family w p)

@@ -9,15 +9,15 @@ use Rattle.octets.specs.declared.Order.{Order}
 use Rattle.octets.specs.declared.Order.the-variants.{First, Second, Same}
 use Rattle.rule.specs.declared.Next.{Next}
 use Rattle.rule.specs.declared.Next.the-variants.{Nothing, Another, Refused}
-use Rattle.rule.specs.Family.{ipv4}
+use Rattle.rule.specs.declared.Family.{Family}
 use Rattle.rule.specs.Value.{Component, componentsFrom}
 use Rattle.order.specs.declared.Turn.{Turn}
 use Rattle.order.specs.declared.Turn.the-variants.{Decided, Tied}
 use Rattle.order.specs.Precedence.{componentsOrder}
 
 -- The components from a place on, behind one of the type `previous`.
-abbrev pub componentsLeft : List ℕ → ℕ → ℕ → List Component
-componentsLeft v at previous = componentsFrom ipv4 v (record { at = at; previous = previous }) .items
+abbrev pub componentsLeft : Family → List ℕ → ℕ → ℕ → List Component
+componentsLeft family v at previous = componentsFrom family v (record { at = at; previous = previous }) .items
 
 -- The answer where the first value has run out, by what stands in the second.
 abbrev pub runsOut : Next → Order
@@ -32,9 +32,9 @@ turnFor Second kind here there = Decided Second
 turnFor Same kind here there = Tied kind here there
 
 -- The answer for both values, where a turn decided it or what is left decides it.
-abbrev pub settled : List ℕ → List ℕ → Turn → Order
-settled v w (Decided order) = order
-settled v w (Tied kind here there) = ordered (componentsOrder ipv4 (componentsLeft v here kind) (componentsLeft w there kind))
+abbrev pub settled : Family → List ℕ → List ℕ → Turn → Order
+settled family v w (Decided order) = order
+settled family v w (Tied kind here there) = ordered (componentsOrder family (componentsLeft family v here kind) (componentsLeft family w there kind))
 
 -- A turn that ties goes on in the first value.
 abbrev pub Ahead : List ℕ → ℕ → Turn → Type 0
@@ -42,6 +42,6 @@ Ahead v at (Decided order) = Unit {0}
 Ahead v at (Tied kind here there) = (at < here) × (here ≤ length v)
 
 -- What a turn must say.
-pub record Turned (v : List ℕ) (here : ℕ) (w : List ℕ) (there previous : ℕ) (turn : Turn) : Type 0 where
-  pub says : settled v w turn ≡ ordered (componentsOrder ipv4 (componentsLeft v here previous) (componentsLeft w there previous))
+pub record Turned (family : Family) (v : List ℕ) (here : ℕ) (w : List ℕ) (there previous : ℕ) (turn : Turn) : Type 0 where
+  pub says : settled family v w turn ≡ ordered (componentsOrder family (componentsLeft family v here previous) (componentsLeft family w there previous))
   pub ahead : Ahead v here turn

@@ -1,29 +1,34 @@
-// Which of two IPv4 rules comes first (RFC 8955 section 5.1). Values are compared in their plain spelling.
+// Which of two rules of a family comes first (RFC 8955 section 5.1). Values are compared in their plain spelling.
 ghost use mathlib.Core.Path.{_≡_};
-ghost use mathlib.Core.List.{_++_};
 ghost use Prim.Native.Nat.{_≤_};
 ghost use lib.ListN.{length};
 ghost use Rattle.octets.specs.Order.{ordered};
-ghost use Rattle.rule.specs.Family.{ipv4};
-ghost use Rattle.rule.specs.Value.{components, component};
-ghost use Rattle.order.specs.Precedence.{bodyOrder, componentOrder, componentsOrder, precedence};
+ghost use Rattle.rule.specs.Family.{Fits};
+ghost use Rattle.rule.specs.Value.{mostValue, components, component};
+ghost use Rattle.order.specs.Precedence.{bodyOrder, componentOrder, componentsOrder, headsOrder, plainOrder, precedence};
 ghost use Rattle.order.specs.Turn.{runsOut, turnFor, Turned};
 use octets::Order;
+use rule::Family;
 use rule::Next;
 
 // Two bodies of one type: prefixes as prefixes, others octet by octet.
-pub fn compare_bodies(kind: u8, first: &[u8], second: &[u8]) -> Order
-    ensures { λ r. ⌜ r ≡ ordered (bodyOrder ipv4 kind (now (first .entry)) (now (second .entry))) ⌝ }
+pub fn compare_bodies(family: Family, kind: u8, first: &[u8], second: &[u8]) -> Order
+    requires { ⌜ Fits family ⌝ }
+    ensures { λ r. ⌜ r ≡ ordered (bodyOrder family kind (now (first .entry)) (now (second .entry))) ⌝ }
 {
-    if rule::is_prefix(kind) {
-        return prefix::compare_prefixes(prefix::prefix_of(first), prefix::prefix_of(second));
+    let shape = rule::shape_of(family, kind);
+    if shape.prefix {
+        let here = prefix::prefix_of(family.width, family.offsets, first);
+        let there = prefix::prefix_of(family.width, family.offsets, second);
+        return prefix::compare_prefixes(family.width, here, there);
     }
     octets::compare_octets(first, second)
 }
 
 // Two components: the lower type first, then their bodies.
-pub fn compare_components(kind: u8, first: &[u8], other: u8, second: &[u8]) -> Order
-    ensures { λ r. ⌜ r ≡ ordered (componentOrder ipv4 (component kind (now (first .entry))) (component other (now (second .entry)))) ⌝ }
+pub fn compare_components(family: Family, kind: u8, first: &[u8], other: u8, second: &[u8]) -> Order
+    requires { ⌜ Fits family ⌝ }
+    ensures { λ r. ⌜ r ≡ ordered (componentOrder family (component kind (now (first .entry))) (component other (now (second .entry)))) ⌝ }
 {
     if kind < other {
         return Order::First;
@@ -31,7 +36,7 @@ pub fn compare_components(kind: u8, first: &[u8], other: u8, second: &[u8]) -> O
     if other < kind {
         return Order::Second;
     }
-    compare_bodies(kind, first, second)
+    compare_bodies(family, kind, first, second)
 }
 
 // What one turn of a comparison finds: which value comes first, or that the components at hand tie, and where to go on in each.
@@ -66,10 +71,17 @@ pub fn turn_for(order: Order, kind: u8, here: usize, there: usize) -> Turn
 }
 
 // Compares the components at a place of each value, behind components of the type `previous`.
-pub fn compare_next(first: &[u8], here: usize, second: &[u8], there: usize, previous: u8) -> Turn
-    ensures { λ r. ⌜ Turned (now (first .entry)) here (now (second .entry)) there previous r ⌝ }
+pub fn compare_next(
+    family: Family,
+    first: &[u8],
+    here: usize,
+    second: &[u8],
+    there: usize,
+    previous: u8,
+) -> Turn
+    requires { ⌜ Fits family ⌝ }
+    ensures { λ r. ⌜ Turned family (now (first .entry)) here (now (second .entry)) there previous r ⌝ }
 {
-    let family = rule::ipv4();
     let left = rule::next_component(family, first, here, previous);
     let right = rule::next_component(family, second, there, previous);
     match left {
@@ -91,6 +103,7 @@ pub fn compare_next(first: &[u8], here: usize, second: &[u8], there: usize, prev
                 let start = here + 1;
                 let begin = there + 1;
                 let order = compare_components(
+                    family,
                     kind,
                     &first[start..next],
                     other,
@@ -102,15 +115,16 @@ pub fn compare_next(first: &[u8], here: usize, second: &[u8], there: usize, prev
     }
 }
 
-// Two values that are plain already: component by component, and what runs out first comes later.
-pub fn compare_plain(first: &[u8], second: &[u8]) -> Order
-    ensures { λ r. ⌜ r ≡ ordered (componentsOrder ipv4 (components ipv4 (now (first .entry))) (components ipv4 (now (second .entry)))) ⌝ }
+// The components of two values that are plain already: one by one, and what runs out first comes later.
+fn compare_lists(family: Family, first: &[u8], second: &[u8]) -> Order
+    requires { ⌜ Fits family ⌝ }
+    ensures { λ r. ⌜ r ≡ ordered (componentsOrder family (components family (now (first .entry))) (components family (now (second .entry)))) ⌝ }
 {
-    let mut at: usize = 0;
-    let mut place: usize = 0;
+    let mut at = family.head;
+    let mut place = family.head;
     let mut previous: u8 = 0;
     loop {
-        let turn = compare_next(first, at, second, place, previous);
+        let turn = compare_next(family, first, at, second, place, previous);
         match turn {
             Turn::Decided(order) => {
                 return order;
@@ -124,16 +138,37 @@ pub fn compare_plain(first: &[u8], second: &[u8]) -> Order
     }
 }
 
+// The octets that stand before the first component of two values.
+fn compare_heads(family: Family, first: &[u8], second: &[u8]) -> Order
+    ensures { λ r. ⌜ r ≡ ordered (headsOrder family (now (first .entry)) (now (second .entry))) ⌝ }
+{
+    let here = octets::least(family.head, first.len());
+    let there = octets::least(family.head, second.len());
+    octets::compare_octets(&first[..here], &second[..there])
+}
+
+// Two values that are plain already: what stands before their components decides, and then these do.
+pub fn compare_plain(family: Family, first: &[u8], second: &[u8]) -> Order
+    requires { ⌜ Fits family ⌝ }
+    ensures { λ r. ⌜ r ≡ ordered (plainOrder family (now (first .entry)) (now (second .entry))) ⌝ }
+{
+    match compare_heads(family, first, second) {
+        Order::First => Order::First,
+        Order::Second => Order::Second,
+        Order::Same => compare_lists(family, first, second),
+    }
+}
+
 // Two values: their plain spellings are built in working arrays and compared there.
-pub fn compare_values(first: &[u8], second: &[u8]) -> Order
-    requires { ⌜ (length (now first) ≤ 4096) × (length (now second) ≤ 4096) ⌝ }
-    ensures { λ r. ⌜ r ≡ ordered (precedence ipv4 (now (first .entry)) (now (second .entry))) ⌝ }
+pub fn compare_values(family: Family, first: &[u8], second: &[u8]) -> Order
+    requires { ⌜ Fits family × ((length (now first) ≤ mostValue) × (length (now second) ≤ mostValue)) ⌝ }
+    ensures { λ r. ⌜ r ≡ ordered (precedence family (now (first .entry)) (now (second .entry))) ⌝ }
 {
     let size = first.len();
     let other = second.len();
     let mut work = [0u8; rule::WORKING];
     let mut space = [0u8; rule::WORKING];
-    rule::fill_plain(first, &mut work);
-    rule::fill_plain(second, &mut space);
-    compare_plain(&work[..size], &space[..other])
+    rule::fill_plain(family, first, &mut work);
+    rule::fill_plain(family, second, &mut space);
+    compare_plain(family, &work[..size], &space[..other])
 }

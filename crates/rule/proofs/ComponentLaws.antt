@@ -119,6 +119,20 @@ prefix-cases family v at P cut long ends =
     let fits = ltb-false (length v - start) octets y in
     rw (t, u, w, x, y) (ends (omega arith) (ltb-false (family .width) bits u) (not-below bits offset x)))))))
 
+-- a prefix that ends somewhere begins below its length, or has neither length nor offset
+pub prefix-begins : (family : Family) (v : List ℕ) (at next : ℕ) → prefixEnd family v at ≡ At next → getD v at 0 ≤ offsetAt family v (at + 1) → offsetAt family v (at + 1) ≡ 0
+unfolding prefixEnd
+prefix-begins family v at next e h =
+    let bits = getD v at 0 in
+    let offset = offsetAt family v (at + 1) in
+    by-test (ltb 0 offset)
+    (λ x.
+    by-test (leb (length v) at) (λ t. let z : RefusedBody 6 (length v) ≡ At next = rw t at e in apart (cc))
+    (λ t. by-test (ltb (family .width) bits) (λ u. let z : RefusedBody 5 at ≡ At next = rw (t, u) at e in apart (cc))
+    (λ u. by-test (ltb (length v) (at + leadOf family)) (λ w. let z : RefusedBody 6 (length v) ≡ At next = rw (t, u, w) at e in apart (cc))
+    (λ w. let z : RefusedBody 5 at ≡ At next = rw (t, u, w, x, le-leb bits offset h) at e in apart (cc)))))
+    (λ x. let n = ltb-false 0 offset x in omega arith)
+
 -- and of the cursor
 pub component-cases : (family : Family) (v : List ℕ) (at previous : ℕ) (P : Next → Type 0) → let kind = getD v at 0 in
     (length v ≤ at → P Nothing) → (at < length v → P (Refused 3 at)) → (at < length v → P (Refused 4 at))

@@ -20,7 +20,7 @@ use Rattle.rule.specs.declared.Checked.the-variants.{Accepted}
 use Rattle.rule.specs.Shape.{shapeOf}
 use Rattle.rule.specs.Component.{leadOf, offsetAt, prefixEnd, bodyEnd}
 use Rattle.rule.specs.Value.{Component, spelled, between, headOf, componentsFrom, components, checkValue}
-use Rattle.rule.proofs.ComponentLaws.{prefix-cases, lead-with, offset-with, offset-without}
+use Rattle.rule.proofs.ComponentLaws.{prefix-cases, prefix-begins, lead-with, offset-with, offset-without}
 use Rattle.rule.proofs.ValueLaws.{Found, was-found, none-left, components-ind, accepted-walk}
 
 -- the octets up to a place, and those from it on
@@ -74,6 +74,7 @@ module _ (family : Family) (v : List ℕ) where
 pub record PrefixBody (family : Family) (body : List ℕ) : Type 0 where
   pub within : getD body 0 0 ≤ family .width
   pub below : offsetAt family body 1 ≤ getD body 0 0
+  pub begins : getD body 0 0 ≤ offsetAt family body 1 → offsetAt family body 1 ≡ 0
   pub whole : length body ≡ leadOf family + (getD body 0 0 - offsetAt family body 1 + 7) / 8
 
 -- a component that the cursor can find
@@ -117,6 +118,7 @@ module _ (family : Family) (v : List ℕ) where
         record {
           within = rw body-first (ends .0);
           below = rw (body-first, offset) (ends .1 .0);
+          begins = rw (body-first, offset) (prefix-begins family v at next (rw t at e));
           whole = rw (body-first, offset, body-length) (omega arith);
         }
 

@@ -1,14 +1,11 @@
 -- Two prefixes are compared as prefixes, and other bodies octet by octet.
-use Rattle.octets.specs.Order.{ordered}
-use Rattle.prefix.specs.Prefix.{prefixOrder}
-use mathlib.Core.Path.{_∙_, ap₂}
 use Rattle.order.proofs.TurnLaws.{order-prefixes, order-octets}
 use borrow.Author.Needs.{needs}
 use Rattle.order.proofs.compare_bodies.Statement.{statement}
 use Rattle.order.proofs.compare_bodies.Tie as tie
 
-is-prefix-requires : tie.Need-is-prefix-requires
-is-prefix-requires c κs = search needs
+shape-of-requires : tie.Need-shape-of-requires
+shape-of-requires c κs = search needs
 
 prefix-of-requires : tie.Need-prefix-of-requires
 prefix-of-requires c κs = search needs
@@ -20,9 +17,7 @@ compare-prefixes-requires : tie.Need-compare-prefixes-requires
 compare-prefixes-requires c κs = search needs
 
 returns : tie.Need-returns
-returns c = let two = c .before .prefix-of2 .ensures in
-    let one = c .before .before .prefix-of .ensures in
-    order-prefixes _ _ _ _ (c .before .before .before .before .is-prefix .ensures) _ (c .before .before .before .if1 .taken) (c .compare-prefixes .ensures ∙ ap₂ (λ p q. ordered (prefixOrder 32 p q)) one two)
+returns c = search (order-prefixes, needs)
 
 compare-octets-requires : tie.Need-compare-octets-requires
 compare-octets-requires c κs = search needs
@@ -34,7 +29,7 @@ pub compare-bodies-spec : {M : Type 1} → statement M
 compare-bodies-spec =
     tie.close
     (tie.spec
-    is-prefix-requires
+    shape-of-requires
     prefix-of-requires
     prefix-of-requires-2
     compare-prefixes-requires

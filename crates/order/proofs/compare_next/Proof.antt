@@ -1,26 +1,24 @@
 -- Where both values have a component, its body lies in the value; then one law for each return.
 use native.Mathlib.Omega.{arith}
-use Rattle.rule.specs.Family.{ipv4}
 use Rattle.rule.proofs.ValueLaws.{Found}
 use Rattle.order.proofs.TurnLaws.{left-found, right-found, turn-none, turn-refused, turn-second-none, turn-second-refused, turn-both}
 use borrow.Author.Needs.{needs}
 use Rattle.order.proofs.compare_next.Statement.{statement}
 use Rattle.order.proofs.compare_next.Tie as tie
 
-here-found : (c : tie.After-known-told2) → Found ipv4 (c .before .before .before .before .before .before .before .before .before .before .before .args .first .now) (c .before .before .before .before .before .before .before .before .before .before .before .args .here) (c .before .before .before .before .before .before .before .before .before .before .before .args .previous)
+here-found : (c : tie.After-known-told2)
+    → Found (c .before .before .before .before .before .before .before .before .before .before .args .family) (c .before .before .before .before .before .before .before .before .before .before .args .first .now) (c .before .before .before .before .before .before .before .before .before .before .args .here) (c .before .before .before .before .before .before .before .before .before .before .args .previous)
     (c .before .before .before .before .left .given .0 .0) (c .before .before .before .before .left .given .0 .1 .0)
 here-found c =
-    left-found _ _ (c .before .before .before .before .before .before .before .before .before .before .before .args .second .now) (c .before .before .before .before .before .before .before .before .before .before .before .args .there) _ _ (c .before .before .before .before .before .before .before .before .ipv4 .ensures) _ _ (c .before .before .before .before .before .before .before .next-component .ensures)
+    left-found _ _ _ (c .before .before .before .before .before .before .before .before .before .before .args .second .now) (c .before .before .before .before .before .before .before .before .before .before .args .there) _ _ _ (c .before .before .before .before .before .before .before .next-component .ensures)
     (c .before .before .before .before .before .before .next-component2 .ensures) _ _ (c .before .before .before .before .left .given .1)
 
-there-found : (c : tie.After-known-told2) → Found ipv4 (c .before .before .before .before .before .before .before .before .before .before .before .args .second .now) (c .before .before .before .before .before .before .before .before .before .before .before .args .there) (c .before .before .before .before .before .before .before .before .before .before .before .args .previous)
+there-found : (c : tie.After-known-told2)
+    → Found (c .before .before .before .before .before .before .before .before .before .before .args .family) (c .before .before .before .before .before .before .before .before .before .before .args .second .now) (c .before .before .before .before .before .before .before .before .before .before .args .there) (c .before .before .before .before .before .before .before .before .before .before .args .previous)
     (c .before .right .given .0 .0) (c .before .right .given .0 .1 .0)
 there-found c =
-    right-found _ _ _ _ _ _ (c .before .before .before .before .before .before .before .before .ipv4 .ensures) _ _ (c .before .before .before .before .before .before .before .next-component .ensures) (c .before .before .before .before .before .before .next-component2 .ensures) _ _ (c .before .before .before .before .left .given .1) _ _
+    right-found _ _ _ _ _ _ _ _ (c .before .before .before .before .before .before .before .next-component .ensures) (c .before .before .before .before .before .before .next-component2 .ensures) _ _ (c .before .before .before .before .left .given .1) _ _
     (c .before .right .given .1)
-
-ipv4-requires : tie.Need-ipv4-requires
-ipv4-requires c κs = search needs
 
 next-component-requires : tie.Need-next-component-requires
 next-component-requires c κs = search needs
@@ -101,7 +99,6 @@ pub compare-next-spec : {M : Type 1} → statement M
 compare-next-spec =
     tie.close
     (tie.spec
-    ipv4-requires
     next-component-requires
     next-component-requires-2
     enum-told

@@ -1,56 +1,42 @@
--- The components passed tie, so that the order of both values is the order of what is left of them.
+-- What stands before the components decides, and where it ties the components do.
+use Rattle.order.proofs.TurnLaws.{plain-first, plain-second, plain-same}
 use borrow.Author.Needs.{needs}
-use Prim.Native.Nat.{_-_}
-use mathlib.Core.Path.{_≡_, refl}
-use native.Mathlib.Omega.{arith}
-use lib.ListN.{length}
-use Rattle.octets.specs.Order.{ordered}
-use Rattle.rule.specs.Family.{ipv4}
-use Rattle.rule.specs.Value.{components}
-use Rattle.order.specs.Precedence.{componentsOrder}
-use Rattle.order.specs.Turn.{componentsLeft}
-use Rattle.order.proofs.TurnLaws.{plain-decided, plain-tied, plain-ahead}
 use Rattle.order.proofs.compare_plain.Statement.{statement}
 use Rattle.order.proofs.compare_plain.Tie as tie
 
-abbrev Inv-loop : tie.InvT-loop
-Inv-loop first second at₀ place₀ previous₀ at place previous = ordered (componentsOrder ipv4 (components ipv4 first) (components ipv4 second)) ≡ ordered (componentsOrder ipv4 (componentsLeft first at previous) (componentsLeft second place previous))
+compare-heads-requires : tie.Need-compare-heads-requires
+compare-heads-requires c κs = search needs
 
-abbrev μ-loop : tie.MeasureT-loop
-μ-loop first second at₀ place₀ previous₀ at place previous = length first - at
+enum-told : tie.Need-enum-told
+enum-told c = search needs
 
-loop-holds : tie.Need-loop-holds Inv-loop μ-loop
-unfolding components
-loop-holds c = refl
+enum-told-2 : tie.Need-enum-told-2
+enum-told-2 c = search needs
 
-compare-next-requires : tie.Need-compare-next-requires Inv-loop μ-loop
-compare-next-requires c κs = search needs
+enum-told-3 : tie.Need-enum-told-3
+enum-told-3 c = search needs
 
-enum-known-turn : tie.Need-enum-known-turn Inv-loop μ-loop
-enum-known-turn c = search needs
+compare-lists-requires : tie.Need-compare-lists-requires
+compare-lists-requires c κs = search needs
 
-returns : tie.Need-returns Inv-loop μ-loop
-returns c = search (plain-decided, needs)
+returns : tie.Need-returns
+returns c = search (plain-first, needs)
 
-enum-known-turn-2 : tie.Need-enum-known-turn-2 Inv-loop μ-loop
-enum-known-turn-2 c = search needs
+returns-2 : tie.Need-returns-2
+returns-2 c = search (plain-second, needs)
 
-loop-less : tie.Need-loop-less Inv-loop μ-loop
-loop-less c = omega (arith, plain-ahead _ (c .before .before .before .before .loop .at) _ _ _ _ (c .before .before .before .compare-next .ensures) _ (c .before .before .before .before .loop .inv) _ _ _ (c .before .turn2 .given .1))
-
-loop-again : tie.Need-loop-again Inv-loop μ-loop
-loop-again c = search (plain-tied, needs)
+returns-3 : tie.Need-returns-3
+returns-3 c = search (plain-same, needs)
 
 pub compare-plain-spec : {M : Type 1} → statement M
 compare-plain-spec =
     tie.close
     (tie.spec
-    Inv-loop
-    μ-loop
-    loop-holds
-    compare-next-requires
-    enum-known-turn
+    compare-heads-requires
+    enum-told
+    enum-told-2
+    enum-told-3
+    compare-lists-requires
     returns
-    enum-known-turn-2
-    loop-less
-    loop-again)
+    returns-2
+    returns-3)
