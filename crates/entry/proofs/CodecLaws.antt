@@ -1,15 +1,17 @@
 -- A record stands for one entry, and an entry has one record: reading and writing undo one another, both ways. Assumes nothing.
 use mathlib.Core.Path.{_≡_, refl, sym, ap, ap₂, _∙_}
-use mathlib.Core.Bool.{Bool, true, false, not, _&&_}
+use mathlib.Core.Bool.{Bool, true, false, not, _&&_, and-true}
 use mathlib.Core.List.{List, [], _∷_, _++_, append-assoc, append-nil}
 use Prim.Native.Nat.{ℕ, zero, suc, _+_, _-_, _/_, _^_, _<_, _≤_}
 use native.Mathlib.Omega.{arith}
 use lib.Bits.{bitAnd}
-use lib.Dec.{ltb, eqb, lit<}
+use lib.Dec.{eqb, lit<}
 use lib.ListN.{length, getD, take, drop, length-append, length-drop, take-append-drop}
 use lib.Seq.{drop-at, take-all}
-use borrow.Author.Tests.{ltb-true, lt-ltb, le-ltb, eqb-true, ne-eqb, not-true, not-false}
+use borrow.Author.Tests.{ltb-true, lt-ltb, leb-true, eqb-true, ne-eqb, not-true, not-false}
 use Rattle.octets.specs.Number.{numberAt}
+use Rattle.octets.specs.Test.{sameList}
+use Rattle.octets.proofs.TestLaws.{same-list, list-same}
 use Rattle.octets.proofs.Cases.{by-test, apart, both}
 use Rattle.octets.proofs.Facts.{Octets, below}
 use Rattle.octets.proofs.NumberLaws.{number-small, one-octet}
@@ -24,7 +26,7 @@ use Rattle.action.proofs.GivenLaws.{Fine, by-fine}
 use Rattle.action.proofs.PossibleLaws.{could, sixBits, redirectType}
 use Rattle.action.specs.Possible.{couldBe}
 use Rattle.entry.specs.Entry.{Entry, plainValue, possible}
-use Rattle.entry.specs.Record.{headWidths, headCost, writtenFields, readFields, fieldsOf, recordOf, actionsIn, entryOf, goodRecord}
+use Rattle.entry.specs.Record.{lengthWidth, headWidths, widthOf, headCost, writtenFields, readFields, fieldsOf, recordOf, actionsIn, entryOf, Measured, goodRecord}
 use Rattle.entry.proofs.ValueLaws.{Possible, is-possible}
 use Rattle.entry.proofs.RecordLaws.{Fit, length-written, fields-back, back-fields}
 
@@ -104,6 +106,10 @@ actions-back a =
         let e = eqb-true (bitAnd (flagSum flags) bit) (bitIf (getD flags place false) bit) (at-list (hasFlag bit place) flags h) in
         rw e (flag-set (getD flags place false) bit some)
 
+-- where a field of a head begins: behind those before it
+abbrev place : ℕ → ℕ
+place field = widthOf (take field headWidths)
+
 -- every number fits the width of its field
 fine-small : (test : ℕ → Bool) (limit : ℕ) → ((n : ℕ) → test n ≡ true → n < limit) → 0 < limit → (g : Given) → Fine test g → g .number < limit
 fine-small test limit small some = by-fine test (λ g. g .number < limit) small some
@@ -132,12 +138,12 @@ head-fits family e p =
     (omega arith, (omega arith, (omega arith, (marks, (bytes, (packets, (redirects, tt)))))))
 
 -- how `record_actions` comes to its answer
-pub head-actions : (s : List ℕ) (a : Actions) (flags dscp bytes packets redirect : ℕ) → flags ≡ getD s 6 0 → dscp ≡ getD s 7 0
-    → bytes ≡ numberAt 8 s 8 → packets ≡ numberAt 8 s 16 → redirect ≡ numberAt 8 s 24
+pub head-actions : (s : List ℕ) (a : Actions) (flags dscp bytes packets redirect : ℕ) → flags ≡ getD s (place 2) 0 → dscp ≡ getD s (place 3) 0
+    → bytes ≡ numberAt 8 s (place 4) → packets ≡ numberAt 8 s (place 5) → redirect ≡ numberAt 8 s (place 6)
     → a ≡ actionsIn flags dscp bytes packets redirect → a ≡ entryOf s .actions
 unfolding entryOf readFields
 head-actions s a flags dscp bytes packets redirect f d b p r h =
-    h ∙ rw (f, d, b, p, r, one-octet s 6, one-octet s 7)
+    h ∙ rw (f, d, b, p, r, one-octet s (place 2), one-octet s (place 3))
 
 -- the record of an entry
 
@@ -175,14 +181,14 @@ module _ (family : Family) (e : Entry) (ok : possible family e ≡ true) where
       = ap (λ (l : List ℕ). actionsIn (getD l 2 0) (getD l 3 0) (getD l 4 0) (getD l 5 0) (getD l 6 0)) fields ∙ actions-back (e .actions) in
       λ i. record { originator = getD (fields i) 1 0; actions = actions i; value = value i }
 
-  flags-octet : getD (recordOf e) 6 0 ≡ flagsOf (e .actions)
+  flags-octet : getD (recordOf e) (place 2) 0 ≡ flagsOf (e .actions)
   unfolding readFields fieldsOf
-  flags-octet = sym (one-octet (recordOf e) 6) ∙ ap (λ (l : List ℕ). getD l 2 0) fields-alone
+  flags-octet = sym (one-octet (recordOf e) (place 2)) ∙ ap (λ (l : List ℕ). getD l 2 0) fields-alone
 
   -- and its record could be
   pub good-written : goodRecord family (recordOf e) ≡ true
   unfolding goodRecord
-  good-written = rw (flags-octet, lt-ltb (flagsOf (e .actions)) 64 (flags-small (e .actions)), read-written) ok
+  good-written = rw (read-written, ok) (list-same (recordOf e))
 
 -- two entries that could be have different records
 pub record-only : (family : Family) (a b : Entry) → possible family a ≡ true → possible family b ≡ true → recordOf a ≡ recordOf b → a ≡ b
@@ -190,38 +196,41 @@ record-only family a b p q h = sym (read-written family a p) ∙ ap entryOf h �
 
 -- what a record that could be is
 module _ (family : Family) (r : List ℕ) (good : goodRecord family r ≡ true) where
-  pub good-flags : getD r 6 0 < 64
-  unfolding goodRecord
-  good-flags = ltb-true (getD r 6 0) 64 (both (ltb (getD r 6 0) 64) (possible family (entryOf r)) good .0)
-
   pub good-possible : possible family (entryOf r) ≡ true
   unfolding goodRecord
-  good-possible = both (ltb (getD r 6 0) 64) (possible family (entryOf r)) good .1
+  good-possible = both (possible family (entryOf r)) (sameList (recordOf (entryOf r)) r) good .0
 
-  -- a record that is read is written as it stood, where its length field says how long it is
-  pub written-read : Octets r → headCost ≤ length r → numberAt 2 r 0 ≡ length r - headCost → recordOf (entryOf r) ≡ r
-  unfolding recordOf entryOf fieldsOf readFields actionsIn
-  written-read o long size =
-      let n : length (drop headCost r) ≡ numberAt 2 r 0 = length-drop headCost r ∙ sym size in
-      let f = flags-back (numberAt 1 r 6) (numberAt 1 r 7) (numberAt 8 r 8) (numberAt 8 r 16) (numberAt 8 r 24) (rw (one-octet r 6) good-flags) in
-      let fields : fieldsOf (entryOf r) ≡ readFields headWidths r 0
-      = ap₂ (λ (a b : ℕ). a ∷ numberAt 4 r 2 ∷ b ∷ numberAt 1 r 7 ∷ numberAt 8 r 8 ∷ numberAt 8 r 16 ∷ numberAt 8 r 24 ∷ []) n f in
-      ap (λ (l : List ℕ). writtenFields headWidths l ++ drop headCost r) fields
-      ∙ ap (λ (l : List ℕ). l ++ drop headCost r) (back-fields headWidths r 0 o (omega arith)) ∙ take-append-drop headCost r
+  pub written-read : recordOf (entryOf r) ≡ r
+  unfolding goodRecord
+  written-read = same-list (recordOf (entryOf r)) r (both (possible family (entryOf r)) (sameList (recordOf (entryOf r)) r) good .1)
+
+  pub good-flags : getD r (place 2) 0 < 64
+  good-flags =
+      let e = entryOf r in
+      let flags : getD r (place 2) 0 ≡ flagsOf (entryOf r .actions)
+      = ap (λ (s : List ℕ). getD s (place 2) 0) (sym written-read) ∙ flags-octet family (entryOf r) good-possible in
+      rw flags (flags-small (entryOf r .actions))
+
+-- octets that are read are written as they stood, where they are as many as their length field says and have no other flag than the six
+written-back : (r : List ℕ) → Octets r → Measured r → getD r (place 2) 0 < 64 → recordOf (entryOf r) ≡ r
+unfolding recordOf entryOf fieldsOf readFields actionsIn
+written-back r o long small =
+    let n : length (drop headCost r) ≡ numberAt lengthWidth r 0 = length-drop headCost r ∙ omega arith in
+    let f
+    = flags-back (numberAt 1 r (place 2)) (numberAt 1 r (place 3)) (numberAt 8 r (place 4)) (numberAt 8 r (place 5)) (numberAt 8 r (place 6))
+    (rw (one-octet r (place 2)) small) in
+    let fields : fieldsOf (entryOf r) ≡ readFields headWidths r 0
+    = ap₂ (λ (a b : ℕ). a ∷ numberAt 4 r (place 1) ∷ b ∷ numberAt 1 r (place 3) ∷ numberAt 8 r (place 4) ∷ numberAt 8 r (place 5) ∷ numberAt 8 r (place 6) ∷ []) n f in
+    ap (λ (l : List ℕ). writtenFields headWidths l ++ drop headCost r) fields
+    ∙ ap (λ (l : List ℕ). l ++ drop headCost r) (back-fields headWidths r 0 o (omega arith)) ∙ take-append-drop headCost r
 
 -- how `is_good_record` comes to each of its answers
 module _ (family : Family) (r : List ℕ) where
   never : (goodRecord family r ≡ true → ⊥) → false ≡ goodRecord family r
   never h = by-test (goodRecord family r) (λ t. absurd (h t)) (λ t. sym t)
 
-  pub good-short : length r < headCost → false ≡ goodRecord family r
-  unfolding entryOf
-  good-short h =
-      never (λ t. let v = is-possible family (entryOf r) (good-possible family r t) .value .some in omega (arith, length-drop headCost r))
-
-  pub good-no-flags : 64 ≤ getD r 6 0 → false ≡ goodRecord family r
-  unfolding goodRecord
-  good-no-flags h = rw (le-ltb (getD r 6 0) 64 h)
+  pub good-no-flags : 64 ≤ getD r (place 2) 0 → false ≡ goodRecord family r
+  good-no-flags h = never (λ t. omega (arith, good-flags family r t))
 
   module _ (actions : Actions) (acts : actions ≡ entryOf r .actions) (could : Bool) (tells : could ≡ couldBe actions) where
     pub good-no-actions : not could ≡ true → false ≡ goodRecord family r
@@ -231,10 +240,11 @@ module _ (family : Family) (r : List ℕ) where
         let z : false ≡ true = sym (not-true could h) ∙ tells ∙ ap couldBe acts ∙ c in
         apart (cc))
 
-    pub good-value : (plain : Bool) → getD r 6 0 < 64 → not could ≡ false → Octets r
+    pub good-value : (plain : Bool) → Octets r → Measured r → getD r (place 2) 0 < 64 → not could ≡ false
         → plain ≡ plainValue family (take (length r - headCost) (drop headCost r)) → plain ≡ goodRecord family r
     unfolding goodRecord possible entryOf readFields
-    good-value plain small h o p =
+    good-value plain o long small h p =
         let c : couldBe (entryOf r .actions) ≡ true = sym (ap couldBe acts) ∙ sym tells ∙ not-false could h in
         let value = take-all (length r - headCost) (drop headCost r) (simp length-drop (omega arith)) in
-        rw (lt-ltb (getD r 6 0) 64 small, lt-ltb (numberAt 4 r 2) (2 ^ 32) (number-small 4 r 2 o), c) (p ∙ ap (plainValue family) value)
+        let same : sameList (recordOf (entryOf r)) r ≡ true = rw (written-back r o long small) (list-same r) in
+        rw (lt-ltb (numberAt 4 r (place 1)) (2 ^ 32) (number-small 4 r (place 1) o), c, same) (p ∙ ap (plainValue family) value ∙ sym (and-true _))

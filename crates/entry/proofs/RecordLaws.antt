@@ -14,16 +14,7 @@ use Rattle.octets.proofs.NumberLaws.{length-octetsOf, number-octets, octets-num
 use Rattle.octets.proofs.StoreLaws.{stored-none, stored-then, length-stored}
 use Rattle.action.specs.Actions.{valuesOf}
 use Rattle.entry.specs.Entry.{Entry}
-use Rattle.entry.specs.Record.{headWidths, headCost, writtenFields, readFields, fieldsOf, recordOf}
-
--- the octets of all fields together
-abbrev pub widthOf : List ℕ → ℕ
-widthOf [] = 0
-widthOf (w ∷ ws) = w + widthOf ws
-
--- the widths of a head add up to what a head costs
-pub head-width : widthOf headWidths ≡ headCost
-head-width = refl
+use Rattle.entry.specs.Record.{headWidths, widthOf, headCost, writtenFields, readFields, fieldsOf, recordOf}
 
 -- as many numbers as widths, each within its width
 abbrev pub Fit : List ℕ → List ℕ → Type 0

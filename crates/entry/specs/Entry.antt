@@ -9,9 +9,10 @@ use Rattle.rule.specs.declared.Checked.{Checked}
 use Rattle.rule.specs.declared.Checked.the-variants.{Accepted, Refused}
 use Rattle.rule.specs.Value.{checkValue}
 use Rattle.rule.specs.Plain.{plain}
-use Rattle.order.specs.Key.{keysOf}
+use Rattle.order.specs.Key.{RuleKey, keysOf}
 use Rattle.action.specs.declared.Actions.{Actions}
 use Rattle.action.specs.Possible.{couldBe}
+use Rattle.entry.specs.declared.Head.{Head}
 
 -- The originator and the actions of the announcement, and the rule's value in its plain spelling.
 pub record Entry : Type 0 where
@@ -19,8 +20,12 @@ pub record Entry : Type 0 where
   pub actions : Actions
   pub value : List ℕ
 
+-- The entry of a rule, by its plain value, that an announcement's originator and actions head.
+abbrev pub entryFor : Head → List ℕ → Entry
+entryFor head v = record { originator = head .originator; actions = head .actions; value = v }
+
 -- Entries stand in precedence order, which is the order of these keys (RFC 8955 section 5.1).
-abbrev pub entryKey : Family → Entry → List (List ℕ)
+abbrev pub entryKey : Family → Entry → RuleKey
 entryKey family e = keysOf family (e .value)
 
 -- Whether the check of a value ended in no refusal.
@@ -30,7 +35,7 @@ isAccepted (Refused number place) = false
 
 -- A value that the table may hold: accepted, and in its plain spelling.
 unfoldable pub plainValue : Family → List ℕ → Bool
-plainValue family v = isAccepted (checkValue family v) && sameList (plain v) v
+plainValue family v = isAccepted (checkValue family v) && sameList (plain family v) v
 
 -- 01: "accepted plain rules and actions": an originator of 32 bits, actions that some communities give, and an accepted plain value.
 unfoldable pub possible : Family → Entry → Bool

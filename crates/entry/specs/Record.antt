@@ -1,25 +1,35 @@
 -- A record: its head, a list of fields of fixed widths, and then the value. 01: "Record: value length (2), originator (4), flags (1:
 -- ...), DSCP (1), byte rate (8), packet rate (8), redirect community (8), then the value; big-endian, absent fields zero."
 use Prim.Native.Nat.{ℕ, _+_}
+use mathlib.Core.Path.{_≡_}
 use mathlib.Core.Bool.{Bool, _&&_}
 use mathlib.Core.List.{List, [], _∷_, _++_}
-use lib.Dec.{ltb}
 use lib.ListN.{length, getD, drop}
 use Rattle.octets.specs.Bit.{has}
 use Rattle.octets.specs.Number.{numberAt, octetsOf}
+use Rattle.octets.specs.Test.{sameList}
 use Rattle.rule.specs.declared.Family.{Family}
 use Rattle.action.specs.declared.Actions.{Actions}
 use Rattle.action.specs.declared.Given.{Given}
 use Rattle.action.specs.Actions.{valuesOf}
 use Rattle.entry.specs.Entry.{Entry, possible}
 
+-- How many octets the length of a value has.
+abbrev pub lengthWidth : ℕ
+lengthWidth = 2
+
 -- How many octets each field of a head has.
 abbrev pub headWidths : List ℕ
-headWidths = 2 ∷ 4 ∷ 1 ∷ 1 ∷ 8 ∷ 8 ∷ 8 ∷ []
+headWidths = lengthWidth ∷ 4 ∷ 1 ∷ 1 ∷ 8 ∷ 8 ∷ 8 ∷ []
+
+-- The octets of fields together.
+abbrev pub widthOf : List ℕ → ℕ
+widthOf [] = 0
+widthOf (width ∷ widths) = width + widthOf widths
 
 -- The octets of a head; 01: "A rule costs 32 plus its length".
 abbrev pub headCost : ℕ
-headCost = 32
+headCost = widthOf headWidths
 
 -- Numbers written one behind the other, each in its width.
 unfoldable pub writtenFields : List ℕ → List ℕ → List ℕ
@@ -67,6 +77,10 @@ entryOf r =
       value = drop headCost r;
     }
 
--- A record that could be: no other flag than the six, and an entry that could be.
+-- A record's octets are as many as its length field says.
+abbrev pub Measured : List ℕ → Type 0
+Measured r = length r ≡ headCost + numberAt lengthWidth r 0
+
+-- A record that could be: its entry could be, and writing the entry gives these octets back.
 unfoldable pub goodRecord : Family → List ℕ → Bool
-goodRecord family r = ltb (getD r 6 0) 64 && possible family (entryOf r)
+goodRecord family r = possible family (entryOf r) && sameList (recordOf (entryOf r)) r

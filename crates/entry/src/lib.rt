@@ -4,12 +4,11 @@ ghost use Prim.Native.Nat.{_+_, _≤_};
 ghost use lib.ListN.{length};
 ghost use Rattle.octets.specs.Store.{stored};
 ghost use Rattle.octets.specs.Test.{sameList};
-ghost use Rattle.rule.specs.Family.{ipv4};
 ghost use Rattle.rule.specs.Plain.{plain};
 ghost use Rattle.action.specs.Actions.{flagsOf, valuesOf};
-ghost use Rattle.entry.specs.Entry.{plainValue};
+ghost use Rattle.entry.specs.Entry.{entryFor, plainValue};
 ghost use Rattle.entry.specs.Passing.{Passes};
-ghost use Rattle.entry.specs.Record.{headCost, writtenFields, recordOf, fieldIf, actionsIn, entryOf, goodRecord};
+ghost use Rattle.entry.specs.Record.{headCost, writtenFields, recordOf, fieldIf, actionsIn, entryOf, Measured, goodRecord};
 use action::Actions;
 use action::Given;
 use action::could_be;
@@ -20,13 +19,46 @@ use octets::store;
 use octets::write_number;
 use rule::Checked;
 use rule::Expected;
+use rule::Family;
 use rule::check_value;
 use rule::cleared_octet;
 use rule::expected_after;
+use rule::expected_at_start;
 use rule::operand_after;
+use rule::shape_of;
+
+// How many octets each field of a record's head has: value length, originator, flags, DSCP, each rate, redirect community.
+pub const LENGTH_WIDTH: usize = 2;
+
+const ORIGINATOR_WIDTH: usize = 4;
+
+const FLAGS_WIDTH: usize = 1;
+
+const DSCP_WIDTH: usize = 1;
+
+const RATE_WIDTH: usize = 8;
+
+const REDIRECT_WIDTH: usize = 8;
+
+// Where each field of the actions begins in a record: behind the fields before it.
+const FLAGS_PLACE: usize = LENGTH_WIDTH + ORIGINATOR_WIDTH;
+
+const DSCP_PLACE: usize = FLAGS_PLACE + FLAGS_WIDTH;
+
+const BYTES_PLACE: usize = DSCP_PLACE + DSCP_WIDTH;
+
+const PACKETS_PLACE: usize = BYTES_PLACE + RATE_WIDTH;
+
+const REDIRECT_PLACE: usize = PACKETS_PLACE + RATE_WIDTH;
 
 // The octets of a record's head.
-pub const HEAD_COST: usize = 32;
+pub const HEAD_COST: usize = REDIRECT_PLACE + REDIRECT_WIDTH;
+
+// What an announcement says of its rule: who announces it, and the actions.
+pub struct Head {
+    pub originator: u32,
+    pub actions: Actions,
+}
 
 // Writes numbers one behind the other from a place on, each in its width.
 fn write_fields(widths: &[usize], numbers: &[u64], buffer: &mut [u8], at: usize)
@@ -72,15 +104,23 @@ pub fn values_of(actions: Actions) -> [u64; 5]
 }
 
 // Writes the record of a rule at a place of a table: the head, and then the value.
-pub fn write_record(table: &mut [u8], at: usize, originator: u32, actions: Actions, value: &[u8])
+pub fn write_record(table: &mut [u8], at: usize, head: Head, value: &[u8])
     requires { ⌜ at + (headCost + length (now value)) ≤ length (now table) ⌝ }
-    ensures { λ _. ⌜ now (table .exit) ≡ stored (now (table .entry)) at (recordOf (record { originator = originator; actions = actions; value = now (value .entry) })) ⌝ }
+    ensures { λ _. ⌜ now (table .exit) ≡ stored (now (table .entry)) at (recordOf (entryFor head (now (value .entry)))) ⌝ }
 {
-    let values = values_of(actions);
-    let widths = [2, 4, 1, 1, 8, 8, 8];
+    let values = values_of(head.actions);
+    let widths = [
+        LENGTH_WIDTH,
+        ORIGINATOR_WIDTH,
+        FLAGS_WIDTH,
+        DSCP_WIDTH,
+        RATE_WIDTH,
+        RATE_WIDTH,
+        REDIRECT_WIDTH,
+    ];
     let numbers = [
         value.len() as u64,
-        originator as u64,
+        head.originator as u64,
         values[0],
         values[1],
         values[2],
@@ -124,11 +164,11 @@ fn actions_in(flags: u8, dscp: u64, bytes: u64, packets: u64, redirect: u64) -> 
 pub fn record_actions(octets: &[u8]) -> Actions
     ensures { λ r. ⌜ r ≡ entryOf (now (octets .entry)) .actions ⌝ }
 {
-    let flags = octet_at(octets, 6);
-    let dscp = octet_at(octets, 7);
-    let bytes = number_at(8, octets, 8);
-    let packets = number_at(8, octets, 16);
-    let redirect = number_at(8, octets, 24);
+    let flags = octet_at(octets, FLAGS_PLACE);
+    let dscp = octet_at(octets, DSCP_PLACE);
+    let bytes = number_at(RATE_WIDTH, octets, BYTES_PLACE);
+    let packets = number_at(RATE_WIDTH, octets, PACKETS_PLACE);
+    let redirect = number_at(REDIRECT_WIDTH, octets, REDIRECT_PLACE);
     actions_in(flags, dscp as u64, bytes, packets, redirect)
 }
 
@@ -139,8 +179,8 @@ pub struct Passed {
 }
 
 // The octets of a prefix that lie before its last one.
-fn passed_address(left: u8) -> Passed
-    ensures { λ r. ⌜ Passes (Expected.Address left) r ⌝ }
+fn passed_address(family: Family, left: u8) -> Passed
+    ensures { λ r. ⌜ Passes family (Expected.Address left) r ⌝ }
 {
     if left == 0 {
         return Passed {
@@ -155,11 +195,12 @@ fn passed_address(left: u8) -> Passed
     }
 }
 
-// The octets of a value, none of whose bits are ignored but for a DSCP or a fragment value.
-fn passed_operand(kind: u8, left: usize, last: bool) -> Passed
-    ensures { λ r. ⌜ Passes (Expected.Operand kind left last) r ⌝ }
+// The octets of a pair's value, where none of its bits are ignored.
+fn passed_operand(family: Family, kind: u8, left: usize, last: bool) -> Passed
+    ensures { λ r. ⌜ Passes family (Expected.Operand kind left last) r ⌝ }
 {
-    if (kind == 11) | (kind == 12) | (left == 0) | (8 < left) {
+    let shape = shape_of(family, kind);
+    if (shape.ignored != 0) | (left == 0) | (8 < left) {
         return Passed {
             size: 0,
             expected: Expected::Operand { kind, left, last },
@@ -172,28 +213,28 @@ fn passed_operand(kind: u8, left: usize, last: bool) -> Passed
 }
 
 // The octets that need not be looked at, where the next one is as expected.
-fn passed_over(expected: Expected) -> Passed
-    ensures { λ r. ⌜ Passes expected r ⌝ }
+fn passed_over(family: Family, expected: Expected) -> Passed
+    ensures { λ r. ⌜ Passes family expected r ⌝ }
 {
     match expected {
-        Expected::Address(left) => passed_address(left),
-        Expected::Operand { kind, left, last } => passed_operand(kind, left, last),
+        Expected::Address(left) => passed_address(family, left),
+        Expected::Operand { kind, left, last } => passed_operand(family, kind, left, last),
         _ => Passed { size: 0, expected },
     }
 }
 
 // Whether octets are their own plain spelling.
-fn is_plain(value: &[u8]) -> bool
-    ensures { λ r. ⌜ r ≡ sameList (plain (now (value .entry))) (now (value .entry)) ⌝ }
+fn is_plain(family: Family, value: &[u8]) -> bool
+    ensures { λ r. ⌜ r ≡ sameList (plain family (now (value .entry))) (now (value .entry)) ⌝ }
 {
-    let mut expected = Expected::Kind;
+    let mut expected = expected_at_start(family);
     let mut i = 0;
     while i < value.len() {
         let x = value[i];
-        if cleared_octet(expected, x) != x {
+        if cleared_octet(family, expected, x) != x {
             return false;
         }
-        let passed = passed_over(expected_after(expected, x));
+        let passed = passed_over(family, expected_after(family, expected, x));
         i += 1;
         if value.len() - i < passed.size {
             return true;
@@ -205,11 +246,11 @@ fn is_plain(value: &[u8]) -> bool
 }
 
 // Whether the table may hold a value: it is accepted, and in its plain spelling.
-pub fn is_plain_value(value: &[u8]) -> bool
-    ensures { λ r. ⌜ r ≡ plainValue ipv4 (now (value .entry)) ⌝ }
+pub fn is_plain_value(family: Family, value: &[u8]) -> bool
+    ensures { λ r. ⌜ r ≡ plainValue family (now (value .entry)) ⌝ }
 {
-    match check_value(rule::ipv4(), value) {
-        Checked::Accepted => is_plain(value),
+    match check_value(family, value) {
+        Checked::Accepted => is_plain(family, value),
         Checked::Refused {
             number: _,
             place: _,
@@ -217,19 +258,18 @@ pub fn is_plain_value(value: &[u8]) -> bool
     }
 }
 
-// Whether a record could be: no other flag than the six, actions that some communities give, and a plain value.
-pub fn is_good_record(octets: &[u8]) -> bool
-    ensures { λ r. ⌜ r ≡ goodRecord ipv4 (now (octets .entry)) ⌝ }
+// Whether a record, as long as its length field says, could be: no other flag than the six, actions that some communities give, and a
+// plain value.
+pub fn is_good_record(family: Family, octets: &[u8]) -> bool
+    requires { ⌜ Measured (now octets) ⌝ }
+    ensures { λ r. ⌜ r ≡ goodRecord family (now (octets .entry)) ⌝ }
 {
-    if octets.len() < HEAD_COST {
-        return false;
-    }
-    if 64 <= octets[6] {
+    if 64 <= octets[FLAGS_PLACE] {
         return false;
     }
     let actions = record_actions(octets);
     if !could_be(actions) {
         return false;
     }
-    is_plain_value(&octets[HEAD_COST..])
+    is_plain_value(family, &octets[HEAD_COST..])
 }

@@ -11,13 +11,16 @@ use Rattle.entry.proofs.is_plain.Statement.{statement}
 use Rattle.entry.proofs.is_plain.Tie as tie
 
 abbrev Inv-loop : tie.InvT-loop
-Inv-loop value expected₀ i₀ expected i = sameList (plain value) value ≡ plainFromHere expected (drop i value)
+Inv-loop family value expected₀ i₀ expected i = sameList (plain family value) value ≡ plainFromHere family expected (drop i value)
 
 abbrev μ-loop : tie.MeasureT-loop
-μ-loop value expected₀ i₀ expected i = length value - i
+μ-loop family value expected₀ i₀ expected i = length value - i
+
+expected-at-start-requires : tie.Need-expected-at-start-requires Inv-loop μ-loop
+expected-at-start-requires c κs = search needs
 
 loop-holds : tie.Need-loop-holds Inv-loop μ-loop
-loop-holds c = plain-starts _
+loop-holds c = search (plain-starts, needs)
 
 shared-slice-read-x : tie.Need-shared-slice-read-x Inv-loop μ-loop
 shared-slice-read-x c = search needs
@@ -61,6 +64,7 @@ is-plain-spec =
     (tie.spec
     Inv-loop
     μ-loop
+    expected-at-start-requires
     loop-holds
     shared-slice-read-x
     cleared-octet-requires

@@ -4,9 +4,6 @@ use borrow.Author.Needs.{needs}
 use Rattle.entry.proofs.is_plain_value.Statement.{statement}
 use Rattle.entry.proofs.is_plain_value.Tie as tie
 
-ipv4-requires : tie.Need-ipv4-requires
-ipv4-requires c κs = search needs
-
 check-value-requires : tie.Need-check-value-requires
 check-value-requires c κs = search needs
 
@@ -29,7 +26,6 @@ pub is-plain-value-spec : {M : Type 1} → statement M
 is-plain-value-spec =
     tie.close
     (tie.spec
-    ipv4-requires
     check-value-requires
     enum-told
     is-plain-requires

@@ -11,17 +11,17 @@ returns c = search needs
 sub-size : tie.Need-sub-size
 sub-size c = search needs
 
-cast-t6 : tie.Need-cast-t6
-cast-t6 c = search needs
+cast-t7 : tie.Need-cast-t7
+cast-t7 c = search needs
 
-mul-t5 : tie.Need-mul-t5
-mul-t5 c = search needs
+mul-t6 : tie.Need-mul-t6
+mul-t6 c = search needs
 
-sub-t7 : tie.Need-sub-t7
-sub-t7 c = search needs
+sub-t8 : tie.Need-sub-t8
+sub-t8 c = search needs
 
 returns-2 : tie.Need-returns-2
-returns-2 c = address-all (c .before .args .left) (c .if1 .left) (omega arith)
+returns-2 c = address-all _ (c .before .args .left) (c .if1 .left) (omega arith)
 
 pub passed-address-spec : {M : Type 1} → statement M
-passed-address-spec = tie.close (tie.spec returns sub-size cast-t6 mul-t5 sub-t7 returns-2)
+passed-address-spec = tie.close (tie.spec returns sub-size cast-t7 mul-t6 sub-t8 returns-2)

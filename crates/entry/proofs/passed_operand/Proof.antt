@@ -4,6 +4,9 @@ use borrow.Author.Needs.{needs}
 use Rattle.entry.proofs.passed_operand.Statement.{statement}
 use Rattle.entry.proofs.passed_operand.Tie as tie
 
+shape-of-requires : tie.Need-shape-of-requires
+shape-of-requires c κs = search needs
+
 returns : tie.Need-returns
 returns c = search needs
 
@@ -11,7 +14,7 @@ operand-after-requires : tie.Need-operand-after-requires
 operand-after-requires c κs = search needs
 
 returns-2 : tie.Need-returns-2
-returns-2 c = operand-all _ _ _ _ (c .before .if1 .left) (c .operand-after .ensures)
+returns-2 c = search (operand-all, needs)
 
 pub passed-operand-spec : {M : Type 1} → statement M
-passed-operand-spec = tie.close (tie.spec returns operand-after-requires returns-2)
+passed-operand-spec = tie.close (tie.spec shape-of-requires returns operand-after-requires returns-2)

@@ -1,27 +1,30 @@
 -- The head is written field by field, and the value is stored right behind it.
 use mathlib.Core.Path.{refl}
-use borrow.Author.Needs.{needs}
 use Rattle.entry.proofs.RecordLaws.{head-room, record-stored}
+use borrow.Author.Needs.{needs}
 use Rattle.entry.proofs.write_record.Statement.{statement}
 use Rattle.entry.proofs.write_record.Tie as tie
 
 values-of-requires : tie.Need-values-of-requires
 values-of-requires c κs = search needs
 
-array-read-t16 : tie.Need-array-read-t16
-array-read-t16 c = search needs
+cast-t12 : tie.Need-cast-t12
+cast-t12 c = search needs
 
-array-read-t19 : tie.Need-array-read-t19
-array-read-t19 c = search needs
+array-read-t15 : tie.Need-array-read-t15
+array-read-t15 c = search needs
 
-array-read-t22 : tie.Need-array-read-t22
-array-read-t22 c = search needs
+array-read-t18 : tie.Need-array-read-t18
+array-read-t18 c = search needs
 
-array-read-t25 : tie.Need-array-read-t25
-array-read-t25 c = search needs
+array-read-t21 : tie.Need-array-read-t21
+array-read-t21 c = search needs
 
-array-read-t28 : tie.Need-array-read-t28
-array-read-t28 c = search needs
+array-read-t24 : tie.Need-array-read-t24
+array-read-t24 c = search needs
+
+array-read-t27 : tie.Need-array-read-t27
+array-read-t27 c = search needs
 
 slice-aggregate-write-fields : tie.Need-slice-aggregate-write-fields
 slice-aggregate-write-fields c = search needs
@@ -49,11 +52,12 @@ write-record-spec =
     tie.close
     (tie.spec
     values-of-requires
-    array-read-t16
-    array-read-t19
-    array-read-t22
-    array-read-t25
-    array-read-t28
+    cast-t12
+    array-read-t15
+    array-read-t18
+    array-read-t21
+    array-read-t24
+    array-read-t27
     slice-aggregate-write-fields
     slice-aggregate-write-fields-2
     write-fields-requires
