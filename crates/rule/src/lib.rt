@@ -3,10 +3,9 @@
 // the cursor, and whoever walks a value asks `next_component`, which takes plain parameters. The plain spelling has a walk of its own,
 // octet by octet; only what fills or writes a buffer asks for its size.
 ghost use mathlib.Core.Path.{_≡_};
-ghost use mathlib.Core.Bool.{Bool, true, false};
 ghost use mathlib.Core.List.{_++_};
-ghost use Prim.Native.Nat.{_+_, _-_, _<_, _≤_};
-ghost use lib.ListN.{length, getD, take, drop};
+ghost use Prim.Native.Nat.{_≤_};
+ghost use lib.ListN.{length, drop};
 ghost use Rattle.rule.specs.Family.{ipv4};
 ghost use Rattle.rule.specs.Shape.{shapeOf};
 ghost use Rattle.rule.specs.Operator.{endsList, sizeOf};
