@@ -97,6 +97,39 @@ contains-one-way w p q r e f =
       | no h ↦ rw (nested w p q r (omega arith) e f)
     ]
 
+-- patterns that differ past their length at most cover the same addresses, and contain and are contained in the same patterns
+pub record Alike (w : ℕ) (p q : Pattern) : Type 0 where
+  pub offset : p .offset ≡ q .offset
+  pub length : p .length ≡ q .length
+  pub begin : patternBits w p ≡ patternBits w q
+
+module _ (w : ℕ) (p q : Pattern) (same : Alike w p q) where
+  pub covers-alike : (a : ℕ) → coversAddress w p a ≡ coversAddress w q a
+  unfolding coversAddress
+  covers-alike a = rw (same .begin, same .offset, same .length)
+
+  pub contains-alike : (r : Pattern) → contains w p r ≡ contains w q r
+  unfolding contains
+  contains-alike r = rw (covers-alike (r .address), same .offset, same .length)
+
+  pub contained-alike : (r : Pattern) → contains w r p ≡ contains w r q
+  contained-alike r =
+      let o = same .offset in
+      let l = same .length in
+      let begin : bitsBetween w (p .offset) (p .length) (p .address) ≡ bitsBetween w (p .offset) (p .length) (q .address) = same .begin ∙ rw (← o, ← l) in
+      let under : r .offset ≡ p .offset → r .length ≤ p .length → bitsBetween w (r .offset) (r .length) (p .address) ≡ bitsBetween w (r .offset) (r .length) (q .address) =
+      λ a h. rw a (fewer w (p .offset) (p .length) (r .length) (p .address) (q .address) h begin) in
+      same-test (contains w r p) (contains w r q)
+      (λ t.
+      let i = contains-says w r p t in
+      let longer = i .longer in
+      says-contains w r q (record { aligned = i .aligned ∙ o; longer = omega arith; begins = i .begins ∙ under (i .aligned) longer }))
+      (λ t.
+      let i = contains-says w r q t in
+      let longer = i .longer in
+      let aligned : r .offset ≡ p .offset = i .aligned ∙ sym o in
+      says-contains w r p (record { aligned = aligned; longer = omega arith; begins = i .begins ∙ sym (under aligned (omega arith)) }))
+
 -- a plain pattern ends no sooner than it begins
 pub begins-within : (w : ℕ) (p : Pattern) → WellFormed w p → p .offset ≤ p .length
 begins-within w p P = ⊎-elim (λ h. omega arith) (λ h. let o = h .0 in omega arith) (P .begins)

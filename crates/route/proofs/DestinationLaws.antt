@@ -1,7 +1,7 @@
 -- The destination of a value: types rise strictly, so only the first component can be of type 1. Assumes nothing.
 use mathlib.Core.Path.{_≡_, refl, sym, ap, _∙_}
 use mathlib.Core.List.{List}
-use Prim.Native.Nat.{ℕ, _≤_}
+use Prim.Native.Nat.{ℕ, _+_, _≤_}
 use native.Mathlib.Omega.{arith}
 use borrow.Author.Tests.{eq-eqb, ne-eqb}
 use Rattle.octets.specs.Walk.{Walk}
@@ -45,23 +45,23 @@ module _ (family : Family) (v : List ℕ) where
   parts w = w .items
 
   -- how `destination_of` comes to its answers
-  module _ (next : Next) (is : next ≡ componentAt family v 0 0) where
-    pub first-found : (kind behind : ℕ) → next ≡ Another kind behind → Found family v 0 0 kind behind
-    first-found kind behind e = was-found family v 0 0 kind behind (sym is ∙ e)
+  module _ (next : Next) (is : next ≡ componentAt family v (family .head) 0) where
+    pub first-found : (kind behind : ℕ) → next ≡ Another kind behind → Found family v (family .head) 0 kind behind
+    first-found kind behind e = was-found family v (family .head) 0 kind behind (sym is ∙ e)
 
     pub by-first : (kind behind : ℕ) (r : Destination) → next ≡ Another kind behind
-        → r ≡ destinationFor family (record { kind = kind; body = between v 1 behind }) Missing → r ≡ destinationOf family v
+        → r ≡ destinationFor family (record { kind = kind; body = between v (family .head + 1) behind }) Missing → r ≡ destinationOf family v
     unfolding destinationOf components destinationAmong parts Later
     by-first kind behind r e s =
         let f = first-found kind behind e in
         let given = f .given in
-        let c = ap parts (components-more family v 0 0 kind behind (sym is ∙ e)) in
+        let c = ap parts (components-more family v (family .head) 0 kind behind (sym is ∙ e)) in
         s ∙ rw (c, later behind kind (omega arith))
 
     pub by-none : next ≡ Nothing → Missing ≡ destinationOf family v
     unfolding destinationOf components destinationAmong parts
-    by-none e = rw (ap parts (components-none family v 0 0 (sym is ∙ e)))
+    by-none e = rw (ap parts (components-none family v (family .head) 0 (sym is ∙ e)))
 
     pub by-refused : (number place : ℕ) → next ≡ Refused number place → Missing ≡ destinationOf family v
     unfolding destinationOf components destinationAmong parts
-    by-refused number place e = rw (ap parts (components-refused family v 0 0 number place (sym is ∙ e)))
+    by-refused number place e = rw (ap parts (components-refused family v (family .head) 0 number place (sym is ∙ e)))

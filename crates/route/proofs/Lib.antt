@@ -1,4 +1,5 @@
 -- The laws of this crate.
+pub mod AlikeLaws
 pub mod Examples
 pub mod FeasibleLaws
 pub mod PassLaws

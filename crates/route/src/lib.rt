@@ -287,8 +287,12 @@ pub fn destination_of(family: Family, value: &[u8]) -> Destination
     requires { ⌜ Fits family ⌝ }
     ensures { λ r. ⌜ destinationIn r ≡ destinationOf family (now (value .entry)) ⌝ }
 {
-    match rule::next_component(family, value, 0, 0) {
-        Next::Another { kind, next } => destination_for(family, kind, &value[1..next]),
+    let start = family.head;
+    match rule::next_component(family, value, start, 0) {
+        Next::Another { kind, next } => {
+            let begin = start + 1;
+            destination_for(family, kind, &value[begin..next])
+        }
         Next::Nothing => Destination::Missing,
         Next::Refused {
             number: _,

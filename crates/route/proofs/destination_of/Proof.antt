@@ -6,7 +6,7 @@ use borrow.Author.Needs.{needs}
 use Rattle.route.proofs.destination_of.Statement.{statement}
 use Rattle.route.proofs.destination_of.Tie as tie
 
-found-first : (c : tie.After-known-told) → Found (c .before .before .before .before .before .args .family) (c .before .before .before .before .before .args .value .now) 0 0 (c .before .kind .given .0 .0) (c .before .kind .given .0 .1 .0)
+found-first : (c : tie.After-known-told) → Found (c .before .before .before .before .before .args .family) (c .before .before .before .before .before .args .value .now) (c .before .before .before .before .before .args .family .head) 0 (c .before .kind .given .0 .0) (c .before .kind .given .0 .1 .0)
 found-first c = first-found (c .before .before .before .before .before .args .family) _ _ (c .before .before .before .next-component .ensures) _ _ (c .before .kind .given .1)
 
 next-component-requires : tie.Need-next-component-requires
@@ -14,6 +14,9 @@ next-component-requires c κs = search needs
 
 enum-known-kind : tie.Need-enum-known-kind
 enum-known-kind c = search needs
+
+add-begin : tie.Need-add-begin
+add-begin c = omega (arith, found-first c)
 
 sub-destination-for : tie.Need-sub-destination-for
 sub-destination-for c = omega (arith, found-first c)
@@ -48,6 +51,7 @@ destination-of-spec =
     (tie.spec
     next-component-requires
     enum-known-kind
+    add-begin
     sub-destination-for
     part-destination-for-start
     part-destination-for-end
