@@ -1,74 +1,51 @@
 -- Announcing and withdrawing a value: its plain spelling stands at the front of the working array, and the changes are those of the
 -- table's entries. Assumes nothing.
-use mathlib.Core.Path.{_≡_, refl, sym, _∙_}
-use mathlib.Core.Bool.{Bool, true, false, not, cond}
+use mathlib.Core.Path.{_≡_, refl, _∙_}
+use mathlib.Core.Bool.{Bool, true, false}
 use mathlib.Core.List.{List, _++_}
 use Prim.Native.Nat.{ℕ}
 use lib.ListN.{length, take, drop}
-use borrow.Author.Tests.{not-true, not-false}
 use Rattle.octets.proofs.Facts.{Octets}
+use Rattle.rule.specs.declared.Family.{Family}
 use Rattle.rule.specs.declared.Checked.the-variants.{Accepted}
-use Rattle.rule.specs.Family.{ipv4}
 use Rattle.rule.specs.Value.{checkValue}
 use Rattle.rule.specs.Plain.{plain}
 use Rattle.rule.proofs.ClearedLaws.{plain-again}
 use Rattle.rule.proofs.SpellingLaws.{check-plain}
 use Rattle.rule.proofs.WritingLaws.{front-plain}
 use Rattle.order.specs.Key.{keysOf}
-use Rattle.action.specs.declared.Actions.{Actions}
-use Rattle.entry.specs.Entry.{plainValue}
+use Rattle.entry.specs.declared.Head.{Head}
+use Rattle.entry.specs.Entry.{entryFor, plainValue}
 use Rattle.entry.proofs.ValueLaws.{holds as value-holds}
+use Rattle.table.specs.declared.Answer.{Answer}
 use Rattle.table.specs.Sound.{soundTable}
-use Rattle.table.proofs.ChangeLaws.{removed-none}
-use Rattle.table.specs.Change.{holds, removed, hasRoom, inserted, announced, withdrawn}
+use Rattle.table.specs.Change.{announced, withdrawn, Leaves}
+use Rattle.table.proofs.ChangeLaws.{withdrawn-without}
 
 -- the table may hold the plain spelling of an accepted value
-pub plain-held : (v : List ℕ) → Octets v → checkValue ipv4 v ≡ Accepted → plainValue ipv4 (plain v) ≡ true
-plain-held v o ok = value-holds ipv4 (plain v) (check-plain ipv4 v o ∙ ok) (plain-again v o)
+pub plain-held : (family : Family) (v : List ℕ) → Octets v → checkValue family v ≡ Accepted → plainValue family (plain family v) ≡ true
+plain-held family v o ok = value-holds family (plain family v) (check-plain family v o ∙ ok) (plain-again family v o)
 
 -- what the front of the working array is
-module _ (v zeros work : List ℕ) (filled : work ≡ plain v ++ drop (length v) zeros) where
-  pub front-is : take (length v) work ≡ plain v
-  front-is = front-plain v zeros work filled
+module _ (family : Family) (v zeros work : List ℕ) (filled : work ≡ plain family v ++ drop (length v) zeros) where
+  front-is : take (length v) work ≡ plain family v
+  front-is = front-plain family v zeros work filled
 
-  pub front-held : Octets v → checkValue ipv4 v ≡ Accepted → plainValue ipv4 (take (length v) work) ≡ true
-  front-held o ok = rw front-is (plain-held v o ok)
+  pub front-held : Octets v → checkValue family v ≡ Accepted → plainValue family (take (length v) work) ≡ true
+  front-held o ok = rw front-is (plain-held family v o ok)
 
-  module _ (t exit : List ℕ) (r : Bool) where
-    pub withdrew : (r ≡ holds ipv4 t (keysOf ipv4 (take (length v) work))) × (exit ≡ removed ipv4 t (keysOf ipv4 (take (length v) work))) → r ≡ true
-        → (0 ≡ withdrawn ipv4 t (keysOf ipv4 (plain v)) .number) × (exit ≡ withdrawn ipv4 t (keysOf ipv4 (plain v)) .table)
-    unfolding withdrawn
-    withdrew h e = let s = rw front-is at h in rw (sym (s .0) ∙ e) (refl, s .1)
+  module _ (t exit : List ℕ) (answer : Answer) where
+    pub withdrew : Leaves (withdrawn family t (keysOf family (take (length v) work))) answer exit → Leaves (withdrawn family t (keysOf family (plain family v))) answer exit
+    withdrew h = rw front-is at h
 
-    pub kept : (r ≡ holds ipv4 t (keysOf ipv4 (take (length v) work))) × (exit ≡ removed ipv4 t (keysOf ipv4 (take (length v) work))) → Octets t
-        → soundTable ipv4 t ≡ true → r ≡ false
-        → (14 ≡ withdrawn ipv4 t (keysOf ipv4 (plain v)) .number) × (exit ≡ withdrawn ipv4 t (keysOf ipv4 (plain v)) .table)
-    unfolding withdrawn
-    kept h o sound e =
-        let s = rw front-is at h in
-        let none = sym (s .0) ∙ e in
-        rw none (refl, s .1 ∙ removed-none t o sound (keysOf ipv4 (plain v)) none)
+    module _ (head : Head) (feasible : Bool) where
+      pub put-in : feasible ≡ true → Leaves (announced family t (entryFor head (take (length v) work)) true) answer exit
+          → Leaves (announced family t (entryFor head (plain family v)) feasible) answer exit
+      put-in e h = rw e (rw front-is at h)
 
-    pub infeasible : (originator : ℕ) (actions : Actions) (feasible : Bool) → not feasible ≡ true
-        → (r ≡ holds ipv4 t (keysOf ipv4 (take (length v) work))) × (exit ≡ removed ipv4 t (keysOf ipv4 (take (length v) work)))
-        → (8 ≡ announced ipv4 t (record { originator = originator; actions = actions; value = plain v }) feasible .number)
-        × (exit ≡ announced ipv4 t (record { originator = originator; actions = actions; value = plain v }) feasible .table)
-    infeasible originator actions feasible n h = rw (not-true feasible n) (refl, rw front-is at (h .1))
-
-    module _ (originator : ℕ) (actions : Actions) (feasible : Bool) (yes : not feasible ≡ false)
-        (h : (r ≡ hasRoom ipv4 t (record { originator = originator; actions = actions; value = take (length v) work }))
-        × (exit ≡ cond (hasRoom ipv4 t (record { originator = originator; actions = actions; value = take (length v) work }))
-        (inserted ipv4 t (record { originator = originator; actions = actions; value = take (length v) work })) t)) where
-      pub put-in : r ≡ true → (0 ≡ announced ipv4 t (record { originator = originator; actions = actions; value = plain v }) feasible .number)
-          × (exit ≡ announced ipv4 t (record { originator = originator; actions = actions; value = plain v }) feasible .table)
-      put-in e =
-          let s = rw front-is at h in
-          let room = sym (s .0) ∙ e in
-          rw (not-false feasible yes, room) (refl, rw room at (s .1))
-
-      pub refused-room : r ≡ false → (11 ≡ announced ipv4 t (record { originator = originator; actions = actions; value = plain v }) feasible .number)
-          × (exit ≡ announced ipv4 t (record { originator = originator; actions = actions; value = plain v }) feasible .table)
-      refused-room e =
-          let s = rw front-is at h in
-          let room = sym (s .0) ∙ e in
-          rw (not-false feasible yes, room) (refl, rw room at (s .1))
+      pub infeasible : feasible ≡ false → Octets t → soundTable family t ≡ true → Leaves (withdrawn family t (keysOf family (take (length v) work))) answer exit
+          → Leaves (announced family t (entryFor head (plain family v)) feasible) (record { number = 8; used = answer .used }) exit
+      infeasible e o sound h =
+          let left = rw front-is at h in
+          let out = withdrawn-without family t o sound (keysOf family (plain family v)) in
+          rw e (record { number = refl; used = left .used ∙ out .0; table = left .table ∙ out .1 })

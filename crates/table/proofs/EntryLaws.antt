@@ -1,6 +1,6 @@
 -- The entries of a table as its octets have them: where a record's value stands, what a record costs, and that entries are ordered as
 -- their plain values are. Assumes nothing.
-use mathlib.Core.Path.{_≡_, refl, sym, ap₂, _∙_}
+use mathlib.Core.Path.{_≡_, sym, ap₂, _∙_}
 use mathlib.Core.Bool.{true}
 use mathlib.Core.List.{List, [], _∷_, map}
 use Prim.Native.Nat.{ℕ, zero, suc, _+_, _-_, _^_, _≤_}
@@ -12,16 +12,17 @@ use lib.ListN.{length, take, drop, length-take, length-drop, List·getD-eq-defau
 use lib.Seq.{drop-drop, getD-drop, getD-take, take-nil}
 use Rattle.octets.proofs.Cases.{both}
 use Rattle.octets.proofs.Facts.{Octets}
+use Rattle.octets.proofs.NumberLaws.{number-part}
 use Rattle.rule.specs.declared.Family.{Family}
-use Rattle.rule.specs.Family.{ipv4}
-use Rattle.rule.specs.Value.{between, components}
-use Rattle.order.specs.Precedence.{componentsOrder, precedence}
+use Rattle.rule.specs.Family.{Fits}
+use Rattle.rule.specs.Value.{between}
+use Rattle.order.specs.Precedence.{plainOrder, precedence}
 use Rattle.order.specs.Key.{keysOf, keyOrder}
 use Rattle.order.proofs.KeyLaws.{one-order}
 use Rattle.table.specs.declared.NextRecord.the-variants.{Record}
 use Rattle.action.specs.Possible.{couldBe}
 use Rattle.entry.specs.Entry.{Entry, plainValue, possible}
-use Rattle.entry.specs.Record.{headCost, entryOf, goodRecord}
+use Rattle.entry.specs.Record.{lengthWidth, headCost, entryOf, Measured, goodRecord}
 use Rattle.table.specs.Walk.{recordAt, recordsFrom}
 use Rattle.table.specs.Sound.{cost}
 use Rattle.entry.proofs.CodecLaws.{good-possible}
@@ -65,19 +66,28 @@ module _ (t : List ℕ) (at next : ℕ) (found : recordAt t at ≡ Record next) 
   pub length-there : length (between t at next) ≡ next - at
   length-there = simp (length-take, length-drop) (omega (arith, bounds))
 
+  -- a record is as long as its length field says
+  pub measured-there : Measured (between t at next)
+  measured-there =
+      let f = was-found t at next found in
+      let size = f .size in
+      let number = number-part lengthWidth (next - at) at t (omega arith) in
+      let long = length-there in
+      omega arith
+
   -- a record costs what it takes
   pub cost-there : at + cost (entryOf (between t at next)) ≡ next
   unfolding entryOf
   cost-there = simp (length-drop, length-there) (omega (arith, bounds))
 
 -- two plain values are ordered as their keys are
-pub plain-order : (v w : List ℕ) → Octets v → Octets w → plainValue ipv4 v ≡ true → plainValue ipv4 w ≡ true
-    → componentsOrder ipv4 (components ipv4 v) (components ipv4 w) ≡ keyOrder (keysOf ipv4 v) (keysOf ipv4 w)
+pub plain-order : (family : Family) → Fits family → (v w : List ℕ) → Octets v → Octets w → plainValue family v ≡ true → plainValue family w ≡ true
+    → plainOrder family v w ≡ keyOrder (keysOf family v) (keysOf family w)
 unfolding precedence
-plain-order v w o p h k =
-    let a = held ipv4 v h in
-    let b = held ipv4 w k in
-    ap₂ (λ x y. componentsOrder ipv4 (components ipv4 x) (components ipv4 y)) (sym (a .spelled)) (sym (b .spelled)) ∙ one-order ipv4 4 refl v w o p
+plain-order family fits v w o p h k =
+    let a = held family v h in
+    let b = held family w k in
+    ap₂ (plainOrder family) (sym (a .spelled)) (sym (b .spelled)) ∙ one-order family fits v w o p
 
 -- what a record that could be says of its entry's value
 pub good-value : (family : Family) (r : List ℕ) → goodRecord family r ≡ true → plainValue family (entryOf r .value) ≡ true

@@ -10,7 +10,6 @@ use lib.Seq.{take-all}
 use borrow.Author.Tests.{eq-eqb, ne-eqb, not-true, not-false}
 use Rattle.octets.proofs.Cases.{by-test, apart}
 use Rattle.rule.specs.declared.Family.{Family}
-use Rattle.rule.specs.Family.{ipv4}
 use Rattle.rule.specs.Value.{between}
 use Rattle.action.specs.declared.Actions.{Actions}
 use Rattle.action.specs.Actions.{noActions}
@@ -28,7 +27,7 @@ use Rattle.entry.specs.Record.{headCost, entryOf}
 use Rattle.table.specs.Walk.{recordAt, records, entries}
 use Rattle.table.specs.Lookup.{hit, collected, mergedOnto, verdictOf, verdictFor, hitOf, firstPlace}
 use Rattle.table.proofs.WalkLaws.{was-found}
-use Rattle.table.proofs.EntryLaws.{entriesFrom, value-there, cost-there}
+use Rattle.table.proofs.EntryLaws.{entriesFrom, cost-there}
 use Rattle.table.proofs.FindLaws.{left-more, left-end, left-unsound}
 
 -- how `verdict_of` comes to its answers
@@ -41,43 +40,29 @@ module _ (actions : Actions) (count : ℕ) where
   unfolding verdictOf
   verdict-some h = rw (ne-eqb count 0 h)
 
--- how `judge_record` comes to its answers
-module _ (r : List ℕ) (packet : Packet) (family : Family) (four : family ≡ ipv4) (says : Bool)
-    (is : says ≡ matches family (take (length r - headCost) (drop headCost r)) packet) where
-  tells : hit ipv4 packet (entryOf r) ≡ says
-  unfolding entryOf
-  tells =
-      let whole = take-all (length r - headCost) (drop headCost r) (simp length-drop (omega arith)) in
-      rw (← four) (sym (rw whole at is))
+-- how `hits_record` comes to its answer
+pub record-hit : (family : Family) (r : List ℕ) (packet : Packet) (says : Bool) → says ≡ matches family (take (length r - headCost) (drop headCost r)) packet
+    → says ≡ hit family packet (entryOf r)
+unfolding entryOf
+record-hit family r packet says is =
+    let whole = take-all (length r - headCost) (drop headCost r) (simp length-drop (omega arith)) in
+    rw whole at is
 
-  pub judge-missed : not says ≡ true → Missed ≡ hitOf (hit ipv4 packet (entryOf r)) (entryOf r .actions)
-  judge-missed h = rw (tells, not-true says h)
+-- how `judge_record` comes to its answers
+module _ (family : Family) (r : List ℕ) (packet : Packet) (says : Bool) (is : says ≡ hit family packet (entryOf r)) where
+  pub judge-missed : not says ≡ true → Missed ≡ hitOf (hit family packet (entryOf r)) (entryOf r .actions)
+  judge-missed h = rw (← is, not-true says h)
 
   module _ (ok : not says ≡ false) (actions : Actions) (acts : actions ≡ entryOf r .actions) where
-    pub judge-goes-on : actions .onward ≡ true → GoesOn actions ≡ hitOf (hit ipv4 packet (entryOf r)) (entryOf r .actions)
-    judge-goes-on h = rw (tells, not-false says ok, ← acts, h)
+    pub judge-goes-on : actions .onward ≡ true → GoesOn actions ≡ hitOf (hit family packet (entryOf r)) (entryOf r .actions)
+    judge-goes-on h = rw (← is, not-false says ok, ← acts, h)
 
-    pub judge-stops : actions .onward ≡ false → Stops actions ≡ hitOf (hit ipv4 packet (entryOf r)) (entryOf r .actions)
-    judge-stops h = rw (tells, not-false says ok, ← acts, h)
+    pub judge-stops : actions .onward ≡ false → Stops actions ≡ hitOf (hit family packet (entryOf r)) (entryOf r .actions)
+    judge-stops h = rw (← is, not-false says ok, ← acts, h)
 
 -- the verdict where some entries are left and some were collected
 abbrev pub verdictWith : (Entry → Bool) → Actions → ℕ → List Entry → Verdict
 verdictWith test actions count es = verdictOf (mergedOnto actions (collected test es)) (count + length (collected test es))
-
--- the walk has come to a place with merged actions and a count
-pub record Looking (t : List ℕ) (packet : Packet) (at count : ℕ) (actions : Actions) : Type 0 where
-  pub within : at ≤ length t
-  pub few : count ≤ at
-  pub so-far : verdictFor ipv4 packet (entries t) ≡ verdictWith (hit ipv4 packet) actions count (entriesFrom t at)
-
-pub look-starts : (t : List ℕ) (packet : Packet) (actions : Actions) → actions ≡ noActions → Looking t packet 0 0 actions
-unfolding verdictFor entries records
-look-starts t packet actions e =
-    record {
-      within = omega arith;
-      few = omega arith;
-      so-far = rw e (ap (verdictOf (mergedOnto noActions (collected (hit ipv4 packet) (entriesFrom t 0)))) (omega arith));
-    }
 
 -- what an entry's hit means for the entries collected from it on
 module _ (test : Entry → Bool) (e : Entry) (es : List Entry) where
@@ -125,90 +110,102 @@ module _ (test : Entry → Bool) (e : Entry) (es : List Entry) where
         ∙ ap (λ m. verdictOf (merged actions m) (count + 1)) s))
         (λ t. apart (cc))
 
-module _ (t : List ℕ) (packet : Packet) (at count : ℕ) (actions : Actions) (l : Looking t packet at count actions) where
-  nothing-left : entriesFrom t at ≡ [] → verdictOf actions count ≡ verdictFor ipv4 packet (entries t)
-  unfolding collected mergedOnto
-  nothing-left e = sym (l .so-far ∙ rw (e, add-zero count))
+module _ (family : Family) where
+  -- the walk has come to a place with merged actions and a count
+  pub record Looking (t : List ℕ) (packet : Packet) (at count : ℕ) (actions : Actions) : Type 0 where
+    pub within : at ≤ length t
+    pub few : count ≤ at
+    pub so-far : verdictFor family packet (entries t) ≡ verdictWith (hit family packet) actions count (entriesFrom t at)
 
-  pub look-end : (next : NextRecord) (r : Verdict) → next ≡ recordAt t at → next ≡ Nothing → r ≡ verdictOf actions count → r ≡ verdictFor ipv4 packet (entries t)
-  look-end next r is e v = v ∙ nothing-left (left-end t at (sym is ∙ e))
+  pub look-starts : (t : List ℕ) (packet : Packet) (actions : Actions) → actions ≡ noActions → Looking t packet 0 0 actions
+  unfolding verdictFor entries records
+  look-starts t packet actions e =
+      record {
+        within = omega arith;
+        few = omega arith;
+        so-far = rw e (ap (verdictOf (mergedOnto noActions (collected (hit family packet) (entriesFrom t 0)))) (omega arith));
+      }
 
-  pub look-unsound : (next : NextRecord) (r : Verdict) → next ≡ recordAt t at → next ≡ Unsound → r ≡ verdictOf actions count → r ≡ verdictFor ipv4 packet (entries t)
-  look-unsound next r is e v = v ∙ nothing-left (left-unsound t at (sym is ∙ e))
+  module _ (t : List ℕ) (packet : Packet) (at count : ℕ) (actions : Actions) (l : Looking t packet at count actions) where
+    nothing-left : entriesFrom t at ≡ [] → verdictOf actions count ≡ verdictFor family packet (entries t)
+    unfolding collected mergedOnto
+    nothing-left e = sym (l .so-far ∙ rw (e, add-zero count))
 
-  module _ (next : ℕ) (found : recordAt t at ≡ Record next) (h : Hit)
-      (is : h ≡ hitOf (hit ipv4 packet (entryOf (between t at next))) (entryOf (between t at next) .actions)) where
-    here : verdictFor ipv4 packet (entries t) ≡ verdictWith (hit ipv4 packet) actions count (entryOf (between t at next) ∷ entriesFrom t next)
-    here = l .so-far ∙ rw (left-more t at next found)
+    pub look-end : (next : NextRecord) (r : Verdict) → next ≡ recordAt t at → next ≡ Nothing → r ≡ verdictOf actions count → r ≡ verdictFor family packet (entries t)
+    look-end next r is e v = v ∙ nothing-left (left-end t at (sym is ∙ e))
 
-    bounds : (next ≤ length t) × (count + 1 ≤ next)
-    bounds =
-        let f = was-found t at next found in
-        let size = f .size in
-        let within = f .within in
-        let some = f .some in
-        let few = l .few in
-        (omega arith, omega arith)
+    pub look-unsound : (next : NextRecord) (r : Verdict) → next ≡ recordAt t at → next ≡ Unsound → r ≡ verdictOf actions count → r ≡ verdictFor family packet (entries t)
+    look-unsound next r is e v = v ∙ nothing-left (left-unsound t at (sym is ∙ e))
 
-    pub look-missed : h ≡ Missed → Looking t packet next count actions
-    look-missed e =
-        let few = bounds .1 in
-        record {
-          within = bounds .0;
-          few = omega arith;
-          so-far = here ∙ one-missed (hit ipv4 packet) (entryOf (between t at next)) (entriesFrom t next) actions count (sym is ∙ e);
-        }
+    module _ (next : ℕ) (found : recordAt t at ≡ Record next) (h : Hit)
+        (is : h ≡ hitOf (hit family packet (entryOf (between t at next))) (entryOf (between t at next) .actions)) where
+      here : verdictFor family packet (entries t) ≡ verdictWith (hit family packet) actions count (entryOf (between t at next) ∷ entriesFrom t next)
+      here = l .so-far ∙ rw (left-more t at next found)
 
-    pub look-goes-on : (more after : Actions) → h ≡ GoesOn more → after ≡ merged actions more → Looking t packet next (count + 1) after
-    look-goes-on more after e m =
-        record {
-          within = bounds .0;
-          few = bounds .1;
-          so-far = rw m (here ∙ one-goes-on (hit ipv4 packet) (entryOf (between t at next)) (entriesFrom t next) actions count more (sym is ∙ e));
-        }
+      bounds : (next ≤ length t) × (count + 1 ≤ next)
+      bounds =
+          let f = was-found t at next found in
+          let size = f .size in
+          let within = f .within in
+          let some = f .some in
+          let few = l .few in
+          (omega arith, omega arith)
 
-    pub look-stops : (more after : Actions) (r : Verdict) → h ≡ Stops more → after ≡ merged actions more → r ≡ verdictOf after (count + 1)
-        → r ≡ verdictFor ipv4 packet (entries t)
-    look-stops more after r e m v =
-        v ∙ rw m (sym (here ∙ one-stops (hit ipv4 packet) (entryOf (between t at next)) (entriesFrom t next) actions count more (sym is ∙ e)))
+      pub look-missed : h ≡ Missed → Looking t packet next count actions
+      look-missed e =
+          let few = bounds .1 in
+          record {
+            within = bounds .0;
+            few = omega arith;
+            so-far = here ∙ one-missed (hit family packet) (entryOf (between t at next)) (entriesFrom t next) actions count (sym is ∙ e);
+          }
 
--- the first match: the walk has come to a place and has met no match
-pub record Missing (t : List ℕ) (packet : Packet) (at : ℕ) : Type 0 where
-  pub within : at ≤ length t
-  pub so-far : firstPlace (hit ipv4 packet) 0 (entries t) ≡ firstPlace (hit ipv4 packet) at (entriesFrom t at)
+      pub look-goes-on : (more after : Actions) → h ≡ GoesOn more → after ≡ merged actions more → Looking t packet next (count + 1) after
+      look-goes-on more after e m =
+          record {
+            within = bounds .0;
+            few = bounds .1;
+            so-far = rw m (here ∙ one-goes-on (hit family packet) (entryOf (between t at next)) (entriesFrom t next) actions count more (sym is ∙ e));
+          }
 
-pub miss-starts : (t : List ℕ) (packet : Packet) → Missing t packet 0
-unfolding entries records
-miss-starts t packet = record { within = omega arith; so-far = refl }
+      pub look-stops : (more after : Actions) (r : Verdict) → h ≡ Stops more → after ≡ merged actions more → r ≡ verdictOf after (count + 1)
+          → r ≡ verdictFor family packet (entries t)
+      look-stops more after r e m v =
+          v ∙ rw m (sym (here ∙ one-stops (hit family packet) (entryOf (between t at next)) (entriesFrom t next) actions count more (sym is ∙ e)))
 
-module _ (t : List ℕ) (packet : Packet) (at : ℕ) (m : Missing t packet at) where
-  none-met : entriesFrom t at ≡ [] → record { start = 0; end = 0 } ≡ firstPlace (hit ipv4 packet) 0 (entries t)
-  unfolding firstPlace
-  none-met e = sym (m .so-far ∙ rw e)
+  -- the first match: the walk has come to a place and has met no match
+  pub record Missing (t : List ℕ) (packet : Packet) (at : ℕ) : Type 0 where
+    pub within : at ≤ length t
+    pub so-far : firstPlace (hit family packet) 0 (entries t) ≡ firstPlace (hit family packet) at (entriesFrom t at)
 
-  pub first-end : (next : NextRecord) → next ≡ recordAt t at → next ≡ Nothing → record { start = 0; end = 0 } ≡ firstPlace (hit ipv4 packet) 0 (entries t)
-  first-end next is e = none-met (left-end t at (sym is ∙ e))
+  pub miss-starts : (t : List ℕ) (packet : Packet) → Missing t packet 0
+  unfolding entries records
+  miss-starts t packet = record { within = omega arith; so-far = refl }
 
-  pub first-unsound : (next : NextRecord) → next ≡ recordAt t at → next ≡ Unsound → record { start = 0; end = 0 } ≡ firstPlace (hit ipv4 packet) 0 (entries t)
-  first-unsound next is e = none-met (left-unsound t at (sym is ∙ e))
-
-  module _ (next : ℕ) (found : recordAt t at ≡ Record next) (family : Family) (four : family ≡ ipv4) (says : Bool)
-      (is : says ≡ matches family (between t (at + headCost) next) packet) where
-    met : hit ipv4 packet (entryOf (between t at next)) ≡ says
-    met = rw (value-there t at next found, ← four) (sym is)
-
-    there : firstPlace (hit ipv4 packet) 0 (entries t)
-        ≡ cond says (record { start = at; end = next }) (firstPlace (hit ipv4 packet) next (entriesFrom t next))
+  module _ (t : List ℕ) (packet : Packet) (at : ℕ) (m : Missing t packet at) where
+    none-met : entriesFrom t at ≡ [] → record { start = 0; end = 0 } ≡ firstPlace (hit family packet) 0 (entries t)
     unfolding firstPlace
-    there = m .so-far ∙ rw (left-more t at next found, met, cost-there t at next found)
+    none-met e = sym (m .so-far ∙ rw e)
 
-    pub first-met : says ≡ true → record { start = at; end = next } ≡ firstPlace (hit ipv4 packet) 0 (entries t)
-    first-met h = sym (there ∙ rw h)
+    pub first-end : (next : NextRecord) → next ≡ recordAt t at → next ≡ Nothing → record { start = 0; end = 0 } ≡ firstPlace (hit family packet) 0 (entries t)
+    first-end next is e = none-met (left-end t at (sym is ∙ e))
 
-    pub first-missed : says ≡ false → Missing t packet next
-    first-missed h =
-        let f = was-found t at next found in
-        let size = f .size in
-        let within = f .within in
-        let some = f .some in
-        record { within = omega arith; so-far = there ∙ rw h }
+    pub first-unsound : (next : NextRecord) → next ≡ recordAt t at → next ≡ Unsound → record { start = 0; end = 0 } ≡ firstPlace (hit family packet) 0 (entries t)
+    first-unsound next is e = none-met (left-unsound t at (sym is ∙ e))
+
+    module _ (next : ℕ) (found : recordAt t at ≡ Record next) (says : Bool) (is : says ≡ hit family packet (entryOf (between t at next))) where
+      there : firstPlace (hit family packet) 0 (entries t)
+          ≡ cond says (record { start = at; end = next }) (firstPlace (hit family packet) next (entriesFrom t next))
+      unfolding firstPlace
+      there = m .so-far ∙ rw (left-more t at next found, ← is, cost-there t at next found)
+
+      pub first-met : says ≡ true → record { start = at; end = next } ≡ firstPlace (hit family packet) 0 (entries t)
+      first-met h = sym (there ∙ rw h)
+
+      pub first-missed : says ≡ false → Missing t packet next
+      first-missed h =
+          let f = was-found t at next found in
+          let size = f .size in
+          let within = f .within in
+          let some = f .some in
+          record { within = omega arith; so-far = there ∙ rw h }

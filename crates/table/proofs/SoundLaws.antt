@@ -15,7 +15,7 @@ use Rattle.octets.specs.Number.{numberAt}
 use Rattle.octets.specs.Walk.{Walk, before}
 use Rattle.octets.proofs.Cases.{apart, both}
 use Rattle.octets.proofs.Facts.{Octets}
-use Rattle.octets.proofs.NumberLaws.{number-behind, number-part}
+use Rattle.octets.proofs.NumberLaws.{number-behind}
 use Rattle.octets.proofs.TestLaws.{every-both, all-zero, zeros-zero}
 use Rattle.sorted.specs.History.{costs}
 use Rattle.sorted.proofs.TableLaws.{sorted-test, test-sorted}
@@ -23,14 +23,14 @@ use Rattle.rule.specs.declared.Family.{Family}
 use Rattle.rule.specs.Value.{between}
 use Rattle.order.specs.Key.{keyOrder}
 use Rattle.entry.specs.Entry.{Entry, entryKey, possible}
-use Rattle.entry.specs.Record.{recordOf, entryOf, goodRecord}
+use Rattle.entry.specs.Record.{lengthWidth, headCost, recordOf, entryOf, goodRecord}
 use Rattle.entry.proofs.ValueLaws.{is-possible}
 use Rattle.entry.proofs.CodecLaws.{length-record, size-back, read-written, good-written, written-read, good-possible}
 use Rattle.table.specs.declared.NextRecord.the-variants.{Nothing, Record}
 use Rattle.table.specs.Walk.{recordAt, recordsFrom, records, entries}
 use Rattle.table.specs.Sound.{mostOctets, cost, joined, tableOf, Encodes, soundTable}
 use Rattle.table.proofs.WalkLaws.{was-found, rest-zero, records-more, records-end, records-ind, at-end, at-record}
-use Rattle.table.proofs.EntryLaws.{octets-between, length-there, cost-there}
+use Rattle.table.proofs.EntryLaws.{length-there, cost-there}
 
 number-zeros : (n m : ℕ) → numberAt n (replicate m 0) 0 ≡ 0
 unfolding numberAt
@@ -67,8 +67,7 @@ module _ (family : Family) (t : List ℕ) (o : Octets t) where
           let gs = every-both (goodRecord family) (between t at next) (w .items) g in
           let long = length-there t at next e in
           let paid = cost-there t at next e in
-          let number = number-part 2 (next - at) at t (omega arith) in
-          let written = written-read family (between t at next) (gs .0) (octets-between t at next o) (omega arith) (omega arith) in
+          let written = written-read family (between t at next) (gs .0) in
           let k = rest (omega arith) z (gs .1) in
           let room = k .1 in
           let left : length t - next - costs cost (map entryOf (w .items)) ≡ length t - at - (cost (entryOf (between t at next)) + costs cost (map entryOf (w .items)))
@@ -111,8 +110,8 @@ module _ (family : Family) where
   unfolding joined
   records-back [] p m g =
       let t = p ++ replicate m 0 in
-      let number : 0 ≡ numberAt 2 (p ++ replicate m 0) (length p)
-      = sym (ap (numberAt 2 (p ++ replicate m 0)) (sym (add-zero (length p))) ∙ number-behind 2 p (replicate m 0) 0 ∙ number-zeros 2 m) in
+      let number : 0 ≡ numberAt lengthWidth (p ++ replicate m 0) (length p)
+      = sym (ap (numberAt lengthWidth (p ++ replicate m 0)) (sym (add-zero (length p))) ∙ number-behind lengthWidth p (replicate m 0) 0 ∙ number-zeros lengthWidth m) in
       let rest : true ≡ allZero (drop (length p) (p ++ replicate m 0)) = sym (rw (drop-at p (replicate m 0) (length p) refl) (zeros-zero m)) in
       records-end (p ++ replicate m 0) (length p) (sym (at-end (p ++ replicate m 0) (length p) 0 number true rest refl refl))
   records-back (e ∷ es) p m g =
@@ -135,15 +134,15 @@ module _ (family : Family) where
           let here = is-possible family e ok .value in
           let some = here .some in
           let size = length-record e in
-          let number : length (e .value) ≡ numberAt 2 (p ++ (recordOf e ++ rest)) (length p)
-          = sym (ap (numberAt 2 (p ++ (recordOf e ++ rest))) (sym (add-zero (length p))) ∙ number-behind 2 p (recordOf e ++ rest) 0 ∙ size-back family e ok rest) in
+          let number : length (e .value) ≡ numberAt lengthWidth (p ++ (recordOf e ++ rest)) (length p)
+          = sym (ap (numberAt lengthWidth (p ++ (recordOf e ++ rest))) (sym (add-zero (length p))) ∙ number-behind lengthWidth p (recordOf e ++ rest) 0 ∙ size-back family e ok rest) in
           let long : length (p ++ (recordOf e ++ rest)) ≡ length p + (length (recordOf e) + length rest) = simp length-append in
           let found = at-record (p ++ (recordOf e ++ rest)) (length p) (length (e .value)) number (omega arith) (omega arith) in
-          let next : length p + (32 + length (e .value)) ≡ length p + length (recordOf e) = omega arith in
-          let count : length p + (32 + length (e .value)) - length p ≡ length (recordOf e) = omega arith in
-          let part : between (p ++ (recordOf e ++ rest)) (length p) (length p + (32 + length (e .value))) ≡ recordOf e
+          let next : length p + (headCost + length (e .value)) ≡ length p + length (recordOf e) = omega arith in
+          let count : length p + (headCost + length (e .value)) - length p ≡ length (recordOf e) = omega arith in
+          let part : between (p ++ (recordOf e ++ rest)) (length p) (length p + (headCost + length (e .value))) ≡ recordOf e
           = ap₂ take count (drop-at p (recordOf e ++ rest) (length p) refl) ∙ take-at (recordOf e) rest (length (recordOf e)) refl in
-          records-more (p ++ (recordOf e ++ rest)) (length p) (length p + (32 + length (e .value))) (sym found)
+          records-more (p ++ (recordOf e ++ rest)) (length p) (length p + (headCost + length (e .value))) (sym found)
           ∙ ap₂ before part (ap (recordsFrom (p ++ (recordOf e ++ rest))) next)
 
   -- the entries that a table was made of are read again

@@ -16,14 +16,14 @@ use Rattle.octets.proofs.WalkLaws.{walk-stop, walk-more, walk-ind}
 use Rattle.rule.specs.Value.{between}
 use Rattle.table.specs.declared.NextRecord.{NextRecord}
 use Rattle.table.specs.declared.NextRecord.the-variants.{Nothing, Record, Unsound}
-use Rattle.entry.specs.Record.{headCost}
+use Rattle.entry.specs.Record.{lengthWidth, headCost}
 use Rattle.table.specs.Walk.{recordAt, recordStep, recordsFrom}
 
 -- a record that was found: its length field, and that it lies in the table
 pub record Found (t : List ℕ) (at next : ℕ) : Type 0 where
-  pub size : next ≡ at + (headCost + numberAt 2 t at)
-  pub some : numberAt 2 t at ≡ 0 → ⊥
-  pub within : headCost + numberAt 2 t at ≤ length t - at
+  pub size : next ≡ at + (headCost + numberAt lengthWidth t at)
+  pub some : numberAt lengthWidth t at ≡ 0 → ⊥
+  pub within : headCost + numberAt lengthWidth t at ≤ length t - at
 
 abbrev pub Says : List ℕ → ℕ → NextRecord → Type 0
 Says t at Nothing = allZero (drop at t) ≡ true
@@ -31,7 +31,7 @@ Says t at (Record next) = Found t at next
 Says t at Unsound = Unit {0}
 
 -- how `record_at` comes to each of its answers
-module _ (t : List ℕ) (at size : ℕ) (is : size ≡ numberAt 2 t at) where
+module _ (t : List ℕ) (at size : ℕ) (is : size ≡ numberAt lengthWidth t at) where
   pub at-end : (zero-rest : Bool) → zero-rest ≡ allZero (drop at t) → size ≡ 0 → zero-rest ≡ true → Nothing ≡ recordAt t at
   unfolding recordAt
   at-end z e h k = rw (← is, eq-eqb size 0 h, ← e, k)
@@ -40,11 +40,11 @@ module _ (t : List ℕ) (at size : ℕ) (is : size ≡ numberAt 2 t at) where
   unfolding recordAt
   at-rubbish z e h k = rw (← is, eq-eqb size 0 h, ← e, k)
 
-  pub at-short : (size ≡ 0 → ⊥) → length t - at < 32 + size → Unsound ≡ recordAt t at
+  pub at-short : (size ≡ 0 → ⊥) → length t - at < headCost + size → Unsound ≡ recordAt t at
   unfolding recordAt
   at-short h k = rw (← is, ne-eqb size 0 h, lt-ltb _ _ k)
 
-  pub at-record : (size ≡ 0 → ⊥) → 32 + size ≤ length t - at → Record (at + (32 + size)) ≡ recordAt t at
+  pub at-record : (size ≡ 0 → ⊥) → headCost + size ≤ length t - at → Record (at + (headCost + size)) ≡ recordAt t at
   unfolding recordAt
   at-record h k = rw (← is, ne-eqb size 0 h, le-ltb _ _ k)
 
@@ -52,9 +52,9 @@ module _ (t : List ℕ) where
   pub step-says : (at : ℕ) → Says t at (recordAt t at)
   unfolding recordAt
   step-says at =
-      by-test (eqb (numberAt 2 t at) 0)
+      by-test (eqb (numberAt lengthWidth t at) 0)
       (λ s. by-test (allZero (drop at t)) (λ z. rw (s, z) z) (λ z. rw (s, z) tt))
-      (λ s. by-test (ltb (length t - at) (headCost + numberAt 2 t at)) (λ l. rw (s, l) tt)
+      (λ s. by-test (ltb (length t - at) (headCost + numberAt lengthWidth t at)) (λ l. rw (s, l) tt)
       (λ l. rw (s, l) (record { size = refl; some = eqb-false _ _ s; within = ltb-false _ _ l })))
 
   pub was-found : (at next : ℕ) → recordAt t at ≡ Record next → Found t at next

@@ -6,9 +6,9 @@ use mathlib.Core.List.{List}
 use lib.Dec.{eqb}
 use lib.ListN.{length}
 use Rattle.sorted.specs.Table.{byOrder}
-use Rattle.rule.specs.Family.{ipv4}
-use Rattle.rule.specs.Value.{between, components}
-use Rattle.order.specs.Precedence.{componentsOrder}
+use Rattle.rule.specs.declared.Family.{Family}
+use Rattle.rule.specs.Value.{between}
+use Rattle.order.specs.Precedence.{plainOrder}
 use Rattle.entry.specs.Record.{headCost}
 
 -- A record ends at a place, unless that is octet 0, and another stands from there up to the next place.
@@ -18,7 +18,6 @@ pub record Adjacent (t : List ℕ) (previous at next : ℕ) : Type 0 where
   pub within : next ≤ length t
 
 -- The record at `at` comes after the record at `previous` in precedence order; a record at octet 0 has none before it.
-unfoldable pub followsAt : List ℕ → ℕ → ℕ → ℕ → Bool
-followsAt t previous at next =
-    cond (eqb at 0) true
-    (byOrder (componentsOrder ipv4 (components ipv4 (between t (previous + headCost) at)) (components ipv4 (between t (at + headCost) next))) true false false)
+unfoldable pub followsAt : Family → List ℕ → ℕ → ℕ → ℕ → Bool
+followsAt family t previous at next =
+    cond (eqb at 0) true (byOrder (plainOrder family (between t (previous + headCost) at) (between t (at + headCost) next)) true false false)

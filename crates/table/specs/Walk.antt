@@ -12,13 +12,13 @@ use Rattle.rule.specs.Value.{between}
 use Rattle.table.specs.declared.NextRecord.{NextRecord}
 use Rattle.table.specs.declared.NextRecord.the-variants.{Nothing, Record, Unsound}
 use Rattle.entry.specs.Entry.{Entry}
-use Rattle.entry.specs.Record.{headCost, entryOf}
+use Rattle.entry.specs.Record.{lengthWidth, headCost, entryOf}
 
 -- What stands at a place: nothing more, where all octets from there on are zero; a record, with the place behind it; or octets that are
 -- neither a record nor all zero.
 unfoldable pub recordAt : List ℕ → ℕ → NextRecord
 recordAt t at =
-    let size = numberAt 2 t at in
+    let size = numberAt lengthWidth t at in
     cond (eqb size 0) (cond (allZero (drop at t)) Nothing Unsound)
     (cond (ltb (length t - at) (headCost + size)) Unsound (Record (at + (headCost + size))))
 

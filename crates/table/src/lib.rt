@@ -2,24 +2,25 @@
 ghost use mathlib.Core.Path.{_≡_};
 ghost use Prim.Native.Nat.{_≤_};
 ghost use lib.ListN.{length};
-ghost use mathlib.Core.Bool.{true, cond};
-ghost use Rattle.rule.specs.Family.{ipv4};
+ghost use mathlib.Core.Bool.{true};
+ghost use Rattle.rule.specs.Family.{Fits};
 ghost use Rattle.rule.specs.Value.{checkValue};
 ghost use Rattle.rule.specs.Plain.{plain};
 ghost use Rattle.order.specs.Key.{keysOf};
-ghost use Rattle.entry.specs.Entry.{plainValue};
+ghost use Rattle.entry.specs.Entry.{entryFor, plainValue};
 ghost use Rattle.table.specs.Walk.{recordAt, entries};
-ghost use Rattle.table.specs.Sound.{cost, soundTable, soundness};
-ghost use Rattle.sorted.specs.History.{costs};
+ghost use Rattle.table.specs.Sound.{soundTable, soundness};
 ghost use Rattle.table.specs.Follow.{Adjacent, followsAt};
 ghost use Rattle.table.specs.Place.{placeIn};
-ghost use Rattle.entry.specs.Record.{headCost, entryOf, goodRecord};
-ghost use Rattle.table.specs.Change.{holds, removed, hasRoom, inserted, announced, withdrawn};
+ghost use Rattle.entry.specs.Record.{headCost, entryOf};
+ghost use Rattle.table.specs.Change.{announced, withdrawn, Ready, Leaves};
 ghost use Rattle.table.specs.Lookup.{hit, hitOf, verdictOf, verdictFor, firstPlace};
 use action::Actions;
+use entry::Head;
 use octets::Order;
 use packet::Packet;
 use rule::Checked;
+use rule::Family;
 
 // The octets a table's buffer has at most.
 pub const MOST_OCTETS: usize = 65536;
@@ -36,7 +37,7 @@ pub fn record_at(table: &[u8], at: usize) -> NextRecord
     requires { ⌜ at ≤ length (now table) ⌝ }
     ensures { λ r. ⌜ r ≡ recordAt (now (table .entry)) at ⌝ }
 {
-    let size = octets::number_at(2, table, at) as usize;
+    let size = octets::number_at(entry::LENGTH_WIDTH, table, at) as usize;
     if size == 0 {
         if octets::is_zero(table, at) {
             return NextRecord::Nothing;
@@ -76,9 +77,9 @@ pub enum Soundness {
 }
 
 // The place of a rule, by its plain value, in a sound table.
-pub fn find(table: &[u8], value: &[u8]) -> Place
-    requires { ⌜ (soundTable ipv4 (now table) ≡ true) × (plainValue ipv4 (now value) ≡ true) ⌝ }
-    ensures { λ r. ⌜ r ≡ placeIn ipv4 (keysOf ipv4 (now (value .entry))) 0 (entries (now (table .entry))) ⌝ }
+pub fn find(family: Family, table: &[u8], value: &[u8]) -> Place
+    requires { ⌜ Fits family × ((soundTable family (now table) ≡ true) × (plainValue family (now value) ≡ true)) ⌝ }
+    ensures { λ r. ⌜ r ≡ placeIn family (keysOf family (now (value .entry))) 0 (entries (now (table .entry))) ⌝ }
 {
     let mut at: usize = 0;
     loop {
@@ -92,7 +93,7 @@ pub fn find(table: &[u8], value: &[u8]) -> Place
             }
             NextRecord::Record(behind) => {
                 let start = at + entry::HEAD_COST;
-                match order::compare_plain(value, &table[start..behind]) {
+                match order::compare_plain(family, value, &table[start..behind]) {
                     Order::First => {
                         return Place { start: at, end: at };
                     }
@@ -111,12 +112,20 @@ pub fn find(table: &[u8], value: &[u8]) -> Place
     }
 }
 
-// What a record says of a packet.
-fn judge_record(held: &[u8], packet: Packet) -> Hit
-    requires { ⌜ headCost ≤ length (now held) ⌝ }
-    ensures { λ r. ⌜ r ≡ hitOf (hit ipv4 packet (entryOf (now (held .entry)))) (entryOf (now (held .entry)) .actions) ⌝ }
+// Whether a record's rule matches a packet.
+fn hits_record(family: Family, held: &[u8], packet: Packet) -> bool
+    requires { ⌜ Fits family × (headCost ≤ length (now held)) ⌝ }
+    ensures { λ r. ⌜ r ≡ hit family packet (entryOf (now (held .entry))) ⌝ }
 {
-    if !packet::matches_rule(rule::ipv4(), &held[entry::HEAD_COST..], packet) {
+    packet::matches_rule(family, &held[entry::HEAD_COST..], packet)
+}
+
+// What a record says of a packet.
+fn judge_record(family: Family, held: &[u8], packet: Packet) -> Hit
+    requires { ⌜ Fits family × (headCost ≤ length (now held)) ⌝ }
+    ensures { λ r. ⌜ r ≡ hitOf (hit family packet (entryOf (now (held .entry)))) (entryOf (now (held .entry)) .actions) ⌝ }
+{
+    if !hits_record(family, held, packet) {
         return Hit::Missed;
     }
     let actions = entry::record_actions(held);
@@ -137,9 +146,9 @@ fn verdict_of(actions: Actions, count: usize) -> Verdict
 }
 
 // Looks a packet up in a sound table: goes down the records, collects those that match, and stops after one without T.
-pub fn look_up(table: &[u8], packet: Packet) -> Verdict
-    requires { ⌜ soundTable ipv4 (now table) ≡ true ⌝ }
-    ensures { λ r. ⌜ r ≡ verdictFor ipv4 packet (entries (now (table .entry))) ⌝ }
+pub fn look_up(family: Family, table: &[u8], packet: Packet) -> Verdict
+    requires { ⌜ Fits family ⌝ }
+    ensures { λ r. ⌜ r ≡ verdictFor family packet (entries (now (table .entry))) ⌝ }
 {
     let mut at: usize = 0;
     let mut count: usize = 0;
@@ -152,7 +161,7 @@ pub fn look_up(table: &[u8], packet: Packet) -> Verdict
             NextRecord::Unsound => {
                 break verdict_of(actions, count);
             }
-            NextRecord::Record(next) => match judge_record(&table[at..next], packet) {
+            NextRecord::Record(next) => match judge_record(family, &table[at..next], packet) {
                 Hit::Missed => {
                     at = next;
                 }
@@ -170,11 +179,10 @@ pub fn look_up(table: &[u8], packet: Packet) -> Verdict
 }
 
 // Where the first match's record stands in a sound table; 0 and 0 where nothing matches.
-pub fn first_place(table: &[u8], packet: Packet) -> Place
-    requires { ⌜ soundTable ipv4 (now table) ≡ true ⌝ }
-    ensures { λ r. ⌜ (r ≡ firstPlace (hit ipv4 packet) 0 (entries (now (table .entry)))) × ((r .start ≤ r .end) × (r .end ≤ length (now (table .entry)))) ⌝ }
+pub fn first_place(family: Family, table: &[u8], packet: Packet) -> Place
+    requires { ⌜ Fits family ⌝ }
+    ensures { λ r. ⌜ (r ≡ firstPlace (hit family packet) 0 (entries (now (table .entry)))) × ((r .start ≤ r .end) × (r .end ≤ length (now (table .entry)))) ⌝ }
 {
-    let family = rule::ipv4();
     let mut at: usize = 0;
     loop {
         match record_at(table, at) {
@@ -185,8 +193,7 @@ pub fn first_place(table: &[u8], packet: Packet) -> Place
                 return Place { start: 0, end: 0 };
             }
             NextRecord::Record(next) => {
-                let start = at + entry::HEAD_COST;
-                if packet::matches_rule(family, &table[start..next], packet) {
+                if hits_record(family, &table[at..next], packet) {
                     return Place {
                         start: at,
                         end: next,
@@ -199,16 +206,16 @@ pub fn first_place(table: &[u8], packet: Packet) -> Place
 }
 
 // Whether the record at a place comes after the one before it; the first record comes after none.
-fn follows(table: &[u8], previous: usize, at: usize, next: usize) -> bool
-    requires { ⌜ Adjacent (now table) previous at next ⌝ }
-    ensures { λ r. ⌜ r ≡ followsAt (now (table .entry)) previous at next ⌝ }
+fn follows(family: Family, table: &[u8], previous: usize, at: usize, next: usize) -> bool
+    requires { ⌜ Fits family × Adjacent (now table) previous at next ⌝ }
+    ensures { λ r. ⌜ r ≡ followsAt family (now (table .entry)) previous at next ⌝ }
 {
     if at == 0 {
         return true;
     }
     let start = previous + entry::HEAD_COST;
     let begin = at + entry::HEAD_COST;
-    match order::compare_plain(&table[start..at], &table[begin..next]) {
+    match order::compare_plain(family, &table[start..at], &table[begin..next]) {
         Order::First => true,
         Order::Second => false,
         Order::Same => false,
@@ -216,8 +223,9 @@ fn follows(table: &[u8], previous: usize, at: usize, next: usize) -> bool
 }
 
 // Whether a buffer is a sound table: each record is looked at once, beside the one before it, and then the zeros.
-pub fn sound_table(table: &[u8]) -> Soundness
-    ensures { λ r. ⌜ r ≡ soundness ipv4 (now (table .entry)) ⌝ }
+pub fn sound_table(family: Family, table: &[u8]) -> Soundness
+    requires { ⌜ Fits family ⌝ }
+    ensures { λ r. ⌜ r ≡ soundness family (now (table .entry)) ⌝ }
 {
     if MOST_OCTETS < table.len() {
         return Soundness::Unsound;
@@ -233,10 +241,10 @@ pub fn sound_table(table: &[u8]) -> Soundness
                 return Soundness::Unsound;
             }
             NextRecord::Record(next) => {
-                if !entry::is_good_record(&table[at..next]) {
+                if !entry::is_good_record(family, &table[at..next]) {
                     return Soundness::Unsound;
                 }
-                if !follows(table, previous, at, next) {
+                if !follows(family, table, previous, at, next) {
                     return Soundness::Unsound;
                 }
                 previous = at;
@@ -246,84 +254,92 @@ pub fn sound_table(table: &[u8]) -> Soundness
     }
 }
 
-// Takes a rule, by its plain value, out of a sound table whose records take `used` octets, and tells whether it was held.
-pub fn remove_rule(table: &mut [u8], used: usize, value: &[u8]) -> bool
-    requires { ⌜ (soundTable ipv4 (now table) ≡ true) × ((plainValue ipv4 (now value) ≡ true) × (used ≡ costs cost (entries (now table)))) ⌝ }
-    ensures { λ r. ⌜ (r ≡ holds ipv4 (now (table .entry)) (keysOf ipv4 (now (value .entry)))) × (now (table .exit) ≡ removed ipv4 (now (table .entry)) (keysOf ipv4 (now (value .entry)))) ⌝ }
+// What a change of a table answers: the refusal's number, 0 where it is done, and how many octets the records take then.
+pub struct Answer {
+    pub number: u8,
+    pub used: usize,
+}
+
+// Takes a rule, by its plain value, out of a sound table whose records take `used` octets; one that is not held is 14.
+pub fn remove_rule(family: Family, table: &mut [u8], used: usize, value: &[u8]) -> Answer
+    requires { ⌜ Ready family (now table) used × (plainValue family (now value) ≡ true) ⌝ }
+    ensures { λ r. ⌜ Leaves (withdrawn family (now (table .entry)) (keysOf family (now (value .entry)))) r (now (table .exit)) ⌝ }
 {
-    let place = find(table, value);
+    let place = find(family, table, value);
     let start = place.start;
     let size = place.end - start;
     if size == 0 {
-        return false;
+        return Answer { number: 14, used };
     }
     octets::cut_out(&mut table[..used], start, size);
-    true
+    Answer {
+        number: 0,
+        used: used - size,
+    }
 }
 
-// Puts a rule, by its plain value, with its originator and actions into a sound table whose records take `used` octets; where there is
-// no room it tells so and changes nothing, and a held one, whose record has the same length, is written over where it stands.
+// Puts a rule, by its plain value, under its head into a sound table whose records take `used` octets; no room is 11, and a held rule,
+// whose record has the same length, is written over where it stands.
 pub fn insert_rule(
+    family: Family,
     table: &mut [u8],
     used: usize,
-    originator: u32,
-    actions: Actions,
+    head: Head,
     value: &[u8],
-) -> bool
-    requires { ⌜ (soundTable ipv4 (now table) ≡ true) × ((plainValue ipv4 (now value) ≡ true) × (used ≡ costs cost (entries (now table)))) ⌝ }
-    ensures { λ r. ⌜ (r ≡ hasRoom ipv4 (now (table .entry)) (record { originator = originator; actions = actions; value = now (value .entry) })) × (now (table .exit) ≡ cond (hasRoom ipv4 (now (table .entry)) (record { originator = originator; actions = actions; value = now (value .entry) })) (inserted ipv4 (now (table .entry)) (record { originator = originator; actions = actions; value = now (value .entry) })) (now (table .entry))) ⌝ }
+) -> Answer
+    requires { ⌜ Ready family (now table) used × (plainValue family (now value) ≡ true) ⌝ }
+    ensures { λ r. ⌜ Leaves (announced family (now (table .entry)) (entryFor head (now (value .entry))) true) r (now (table .exit)) ⌝ }
 {
-    let place = find(table, value);
+    let place = find(family, table, value);
     let start = place.start;
     let held = place.end - start;
-    let others = used - held;
     let size = entry::HEAD_COST + value.len();
-    if table.len() < others + size {
-        return false;
+    let after = used - held + size;
+    if table.len() < after {
+        return Answer { number: 11, used };
     }
     if held == 0 {
-        let end = used + size;
-        octets::open_gap(&mut table[..end], start, size);
+        octets::open_gap(&mut table[..after], start, size);
     }
-    entry::write_record(table, start, originator, actions, value);
-    true
+    entry::write_record(table, start, head, value);
+    Answer {
+        number: 0,
+        used: after,
+    }
 }
 
-// Announces an accepted value, feasible or not, to a sound table whose records take `used` octets: the refusal's number, 0 where done.
+// Announces an accepted value, feasible or not, under its head to a sound table whose records take `used` octets; an infeasible one is 8.
 pub fn announce_value(
+    family: Family,
     table: &mut [u8],
     used: usize,
-    originator: u32,
-    actions: Actions,
+    head: Head,
     feasible: bool,
     value: &[u8],
-) -> u8
-    requires { ⌜ (soundTable ipv4 (now table) ≡ true) × ((checkValue ipv4 (now value) ≡ Checked.Accepted) × (used ≡ costs cost (entries (now table)))) ⌝ }
-    ensures { λ r. ⌜ (r ≡ announced ipv4 (now (table .entry)) (record { originator = originator; actions = actions; value = plain (now (value .entry)) }) feasible .number) × (now (table .exit) ≡ announced ipv4 (now (table .entry)) (record { originator = originator; actions = actions; value = plain (now (value .entry)) }) feasible .table) ⌝ }
+) -> Answer
+    requires { ⌜ Ready family (now table) used × (checkValue family (now value) ≡ Checked.Accepted) ⌝ }
+    ensures { λ r. ⌜ Leaves (announced family (now (table .entry)) (entryFor head (plain family (now (value .entry)))) feasible) r (now (table .exit)) ⌝ }
 {
     let size = value.len();
     let mut work = [0u8; rule::WORKING];
-    rule::fill_plain(value, &mut work);
-    if !feasible {
-        remove_rule(table, used, &work[..size]);
-        return 8;
+    rule::fill_plain(family, value, &mut work);
+    if feasible {
+        return insert_rule(family, table, used, head, &work[..size]);
     }
-    if insert_rule(table, used, originator, actions, &work[..size]) {
-        return 0;
+    let removed = remove_rule(family, table, used, &work[..size]);
+    Answer {
+        number: 8,
+        used: removed.used,
     }
-    11
 }
 
-// Withdraws an accepted value from a sound table whose records take `used` octets: the refusal's number, 0 where done.
-pub fn withdraw_value(table: &mut [u8], used: usize, value: &[u8]) -> u8
-    requires { ⌜ (soundTable ipv4 (now table) ≡ true) × ((checkValue ipv4 (now value) ≡ Checked.Accepted) × (used ≡ costs cost (entries (now table)))) ⌝ }
-    ensures { λ r. ⌜ (r ≡ withdrawn ipv4 (now (table .entry)) (keysOf ipv4 (plain (now (value .entry)))) .number) × (now (table .exit) ≡ withdrawn ipv4 (now (table .entry)) (keysOf ipv4 (plain (now (value .entry)))) .table) ⌝ }
+// Withdraws an accepted value from a sound table whose records take `used` octets.
+pub fn withdraw_value(family: Family, table: &mut [u8], used: usize, value: &[u8]) -> Answer
+    requires { ⌜ Ready family (now table) used × (checkValue family (now value) ≡ Checked.Accepted) ⌝ }
+    ensures { λ r. ⌜ Leaves (withdrawn family (now (table .entry)) (keysOf family (plain family (now (value .entry))))) r (now (table .exit)) ⌝ }
 {
     let size = value.len();
     let mut work = [0u8; rule::WORKING];
-    rule::fill_plain(value, &mut work);
-    if remove_rule(table, used, &work[..size]) {
-        return 0;
-    }
-    14
+    rule::fill_plain(family, value, &mut work);
+    remove_rule(family, table, used, &work[..size])
 }

@@ -2,7 +2,7 @@
 use native.Mathlib.Omega.{arith}
 use Rattle.rule.proofs.ValueLaws.{accepted-small}
 use Rattle.rule.proofs.WritingLaws.{front-length}
-use Rattle.table.proofs.CallLaws.{front-held, infeasible, put-in, refused-room}
+use Rattle.table.proofs.CallLaws.{front-held, infeasible, put-in}
 use borrow.Author.Needs.{needs}
 use Rattle.table.proofs.announce_value.Statement.{statement}
 use Rattle.table.proofs.announce_value.Tie as tie
@@ -11,46 +11,43 @@ slice-aggregate-fill-plain : tie.Need-slice-aggregate-fill-plain
 slice-aggregate-fill-plain c = search needs
 
 fill-plain-requires : tie.Need-fill-plain-requires
-fill-plain-requires c κs = omega (arith, accepted-small _ _ (c .before .before .before .pre .1 .0))
+fill-plain-requires c κs = omega (arith, accepted-small _ _ (c .before .before .before .pre .1))
 
 array-share-prefix-work : tie.Need-array-share-prefix-work
-array-share-prefix-work c = omega (arith, accepted-small _ _ (c .before .before .before .before .before .before .before .pre .1 .0))
+array-share-prefix-work c = omega (arith, accepted-small _ _ (c .before .before .before .before .before .before .before .pre .1))
 
-slice-aggregate-remove-rule : tie.Need-slice-aggregate-remove-rule
-slice-aggregate-remove-rule c = front-length _ _ _ (c .before .before .before .before .fill-plain .ensures)
+slice-aggregate-insert-rule : tie.Need-slice-aggregate-insert-rule
+slice-aggregate-insert-rule c = front-length _ _ _ _ (c .before .before .before .before .fill-plain .ensures)
 
-remove-rule-requires : tie.Need-remove-rule-requires
-remove-rule-requires c κs = (c .before .before .before .before .before .before .before .before .pre .0, (front-held _ _ _ (c .before .before .before .before .fill-plain .ensures) (λ i. c .before .before .before .before .before .before .shared-slice-known .given i .fits) (c .before .before .before .before .before .before .before .before .pre .1 .0), c .before .before .before .before .before .before .before .before .pre .1 .1))
+insert-rule-requires : tie.Need-insert-rule-requires
+insert-rule-requires c κs =
+    let k = c .before .before .before .before .before .before .before .before in
+    (k .pre .0, front-held _ _ _ _ (c .before .before .before .before .fill-plain .ensures) (λ i. c .before .before .before .before .before .before .shared-slice-known .given i .fits) (k .pre .1))
 
 same-length : tie.Need-same-length
 same-length c = search needs
 
 returns : tie.Need-returns
-returns c = let a = c .before .before .before .before .before .before .before .before .before .before .before .args in
-    infeasible _ _ _ (c .before .before .before .before .before .before .before .fill-plain .ensures) _ _ _ (a .originator) (a .actions) (a .feasible) (c .before .before .before .before .before .if1 .taken) (c .before .before .remove-rule .ensures)
+returns c =
+    put-in _ _ _ _ (c .before .before .before .before .before .before .before .fill-plain .ensures) _ _ _ _ _ (c .before .before .before .before .before .if1 .taken) (c .before .before .insert-rule .ensures)
 
 array-share-prefix-work-2 : tie.Need-array-share-prefix-work-2
-array-share-prefix-work-2 c = omega (arith, accepted-small _ _ (c .before .before .before .before .before .before .before .pre .1 .0))
+array-share-prefix-work-2 c = omega (arith, accepted-small _ _ (c .before .before .before .before .before .before .before .pre .1))
 
-slice-aggregate-insert-rule : tie.Need-slice-aggregate-insert-rule
-slice-aggregate-insert-rule c = front-length _ _ _ (c .before .before .before .before .fill-plain .ensures)
+slice-aggregate-remove-rule : tie.Need-slice-aggregate-remove-rule
+slice-aggregate-remove-rule c = front-length _ _ _ _ (c .before .before .before .before .fill-plain .ensures)
 
-insert-rule-requires : tie.Need-insert-rule-requires
-insert-rule-requires c κs = (c .before .before .before .before .before .before .before .before .pre .0, (front-held _ _ _ (c .before .before .before .before .fill-plain .ensures) (λ i. c .before .before .before .before .before .before .shared-slice-known .given i .fits) (c .before .before .before .before .before .before .before .before .pre .1 .0), c .before .before .before .before .before .before .before .before .pre .1 .1))
+remove-rule-requires : tie.Need-remove-rule-requires
+remove-rule-requires c κs =
+    let k = c .before .before .before .before .before .before .before .before in
+    (k .pre .0, front-held _ _ _ _ (c .before .before .before .before .fill-plain .ensures) (λ i. c .before .before .before .before .before .before .shared-slice-known .given i .fits) (k .pre .1))
 
 same-length-2 : tie.Need-same-length-2
 same-length-2 c = search needs
 
 returns-2 : tie.Need-returns-2
-returns-2 c = let a = c .before .before .before .before .before .before .before .before .before .before .before .before .args in
-    put-in _ _ _ (c .before .before .before .before .before .before .before .before .fill-plain .ensures) _ _ _ (a .originator) (a .actions) (a .feasible) (c .before .before .before .before .before .before .if1 .left) (c .before .before .before .insert-rule .ensures) (c .if2 .taken)
-
-same-length-3 : tie.Need-same-length-3
-same-length-3 c = search needs
-
-returns-3 : tie.Need-returns-3
-returns-3 c = let a = c .before .before .before .before .before .before .before .before .before .before .before .before .args in
-    refused-room _ _ _ (c .before .before .before .before .before .before .before .before .fill-plain .ensures) _ _ _ (a .originator) (a .actions) (a .feasible) (c .before .before .before .before .before .before .if1 .left) (c .before .before .before .insert-rule .ensures) (c .if2 .left)
+returns-2 c =
+    infeasible _ _ _ _ (c .before .before .before .before .before .before .before .fill-plain .ensures) _ _ _ _ _ (c .before .before .before .before .before .if1 .left) (λ i. c .before .before .before .before .before .before .before .before .before .before .slice-known .given i .fits) (c .before .before .before .before .before .before .before .before .before .before .before .pre .0 .sound) (c .before .before .remove-rule .ensures)
 
 pub announce-value-spec : {M : Type 1} → statement M
 announce-value-spec =
@@ -59,14 +56,12 @@ announce-value-spec =
     slice-aggregate-fill-plain
     fill-plain-requires
     array-share-prefix-work
-    slice-aggregate-remove-rule
-    remove-rule-requires
+    slice-aggregate-insert-rule
+    insert-rule-requires
     same-length
     returns
     array-share-prefix-work-2
-    slice-aggregate-insert-rule
-    insert-rule-requires
+    slice-aggregate-remove-rule
+    remove-rule-requires
     same-length-2
-    returns-2
-    same-length-3
-    returns-3)
+    returns-2)

@@ -12,16 +12,16 @@ use Rattle.table.proofs.find.Statement.{statement}
 use Rattle.table.proofs.find.Tie as tie
 
 abbrev Inv-loop : tie.InvT-loop
-Inv-loop table value at₀ at = Searching table value at
+Inv-loop family table value at₀ at = Searching family table value at
 
 abbrev μ-loop : tie.MeasureT-loop
-μ-loop table value at₀ at = length table - at
+μ-loop family table value at₀ at = length table - at
 
 found-here : (c : tie.After-known-told Inv-loop μ-loop) → recordAt (c .before .before .before .before .before .before .before .args .table .now) (c .before .before .before .before .loop .at) ≡ Record (c .before .next .given .0 .0)
 found-here c = sym (c .before .before .before .record-at .ensures) ∙ c .before .next .given .1
 
 loop-holds : tie.Need-loop-holds Inv-loop μ-loop
-loop-holds c = search-starts _ _ (c .before .before .pre .0)
+loop-holds c = search-starts _ _ _ (c .before .before .pre .1 .0)
 
 record-at-requires : tie.Need-record-at-requires Inv-loop μ-loop
 record-at-requires c κs = search needs
@@ -61,7 +61,7 @@ enum-told-3 c = search needs
 
 returns-3 : tie.Need-returns-3 Inv-loop μ-loop
 returns-3 c = let k = c .before .before .before .before in
-    search-first _ _ _ (k .before .before .before .before .loop .inv) _ (found-here k) (λ i. k .before .before .before .before .before .before .shared-slice-known .given i .fits) (λ i. k .before .before .before .before .before .shared-slice-known2 .given i .fits) (k .before .before .before .before .before .before .before .pre .1) _
+    search-first _ _ _ _ (k .before .before .before .before .loop .inv) (k .before .before .before .before .before .before .before .pre .0) _ (found-here k) (λ i. k .before .before .before .before .before .before .shared-slice-known .given i .fits) (λ i. k .before .before .before .before .before .shared-slice-known2 .given i .fits) (k .before .before .before .before .before .before .before .pre .1 .1) _
     (c .before .before .compare-plain .ensures) (c .enum-told3 .given .1)
 
 enum-told-4 : tie.Need-enum-told-4 Inv-loop μ-loop
@@ -69,7 +69,7 @@ enum-told-4 c = search needs
 
 returns-4 : tie.Need-returns-4 Inv-loop μ-loop
 returns-4 c = let k = c .before .before .before .before in
-    search-same _ _ _ (k .before .before .before .before .loop .inv) _ (found-here k) (λ i. k .before .before .before .before .before .before .shared-slice-known .given i .fits) (λ i. k .before .before .before .before .before .shared-slice-known2 .given i .fits) (k .before .before .before .before .before .before .before .pre .1) _
+    search-same _ _ _ _ (k .before .before .before .before .loop .inv) (k .before .before .before .before .before .before .before .pre .0) _ (found-here k) (λ i. k .before .before .before .before .before .before .shared-slice-known .given i .fits) (λ i. k .before .before .before .before .before .shared-slice-known2 .given i .fits) (k .before .before .before .before .before .before .before .pre .1 .1) _
     (c .before .before .compare-plain .ensures) (c .enum-told4 .given .1)
 
 enum-told-5 : tie.Need-enum-told-5 Inv-loop μ-loop
@@ -80,7 +80,7 @@ loop-less c = omega (arith, was-found _ (c .before .before .before .before .befo
 
 loop-again : tie.Need-loop-again Inv-loop μ-loop
 loop-again c = let k = c .before .before .before .before in
-    search-on _ _ _ (k .before .before .before .before .loop .inv) _ (found-here k) (λ i. k .before .before .before .before .before .before .shared-slice-known .given i .fits) (λ i. k .before .before .before .before .before .shared-slice-known2 .given i .fits) (k .before .before .before .before .before .before .before .pre .1) _
+    search-on _ _ _ _ (k .before .before .before .before .loop .inv) (k .before .before .before .before .before .before .before .pre .0) _ (found-here k) (λ i. k .before .before .before .before .before .before .shared-slice-known .given i .fits) (λ i. k .before .before .before .before .before .shared-slice-known2 .given i .fits) (k .before .before .before .before .before .before .before .pre .1 .1) _
     (c .before .before .compare-plain .ensures) (c .enum-told5 .given .1)
 
 pub find-spec : {M : Type 1} → statement M

@@ -7,24 +7,22 @@ use lib.ListN.{length}
 use Rattle.table.specs.declared.NextRecord.the-variants.{Record}
 use Rattle.table.specs.Walk.{recordAt}
 use Rattle.table.proofs.WalkLaws.{was-found}
+use Rattle.table.proofs.EntryLaws.{length-there}
 use Rattle.table.proofs.LookupLaws.{Missing, miss-starts, first-end, first-unsound, first-met, first-missed}
 use Rattle.table.proofs.first_place.Statement.{statement}
 use Rattle.table.proofs.first_place.Tie as tie
 
 abbrev Inv-loop : tie.InvT-loop
-Inv-loop table packet family at₀ at = Missing table packet at
+Inv-loop family table packet at₀ at = Missing family table packet at
 
 abbrev μ-loop : tie.MeasureT-loop
-μ-loop table packet family at₀ at = length table - at
+μ-loop family table packet at₀ at = length table - at
 
-found-here : (c : tie.After-known-told Inv-loop μ-loop) → recordAt (c .before .before .before .before .before .before .before .args .table .now) (c .before .before .before .before .loop .at) ≡ Record (c .before .next .given .0 .0)
+found-here : (c : tie.After-known-told Inv-loop μ-loop) → recordAt (c .before .before .before .before .before .before .args .table .now) (c .before .before .before .before .loop .at) ≡ Record (c .before .next .given .0 .0)
 found-here c = sym (c .before .before .before .record-at .ensures) ∙ c .before .next .given .1
 
-ipv4-requires : tie.Need-ipv4-requires Inv-loop μ-loop
-ipv4-requires c κs = search needs
-
 loop-holds : tie.Need-loop-holds Inv-loop μ-loop
-loop-holds c = miss-starts _ _
+loop-holds c = miss-starts _ _ _
 
 record-at-requires : tie.Need-record-at-requires Inv-loop μ-loop
 record-at-requires c κs = search needs
@@ -33,35 +31,34 @@ enum-told : tie.Need-enum-told Inv-loop μ-loop
 enum-told c = search needs
 
 returns : tie.Need-returns Inv-loop μ-loop
-returns c = (first-end _ _ _ (c .before .before .before .loop .inv) _ (c .before .before .record-at .ensures) (c .enum-told .given .1), (omega arith, omega arith))
+returns c = (first-end _ _ _ _ (c .before .before .before .loop .inv) _ (c .before .before .record-at .ensures) (c .enum-told .given .1), (omega arith, omega arith))
 
 enum-told-2 : tie.Need-enum-told-2 Inv-loop μ-loop
 enum-told-2 c = search needs
 
 returns-2 : tie.Need-returns-2 Inv-loop μ-loop
-returns-2 c = (first-unsound _ _ _ (c .before .before .before .loop .inv) _ (c .before .before .record-at .ensures) (c .enum-told2 .given .1), (omega arith, omega arith))
+returns-2 c = (first-unsound _ _ _ _ (c .before .before .before .loop .inv) _ (c .before .before .record-at .ensures) (c .enum-told2 .given .1), (omega arith, omega arith))
 
 enum-known-next : tie.Need-enum-known-next Inv-loop μ-loop
 enum-known-next c = search needs
 
-add-start : tie.Need-add-start Inv-loop μ-loop
-add-start c = omega (arith, was-found _ (c .before .before .before .before .loop .at) _ (found-here c))
+sub-hits-record : tie.Need-sub-hits-record Inv-loop μ-loop
+sub-hits-record c = omega (arith, was-found _ (c .before .before .before .before .loop .at) _ (found-here c))
 
-sub-matches-rule : tie.Need-sub-matches-rule Inv-loop μ-loop
-sub-matches-rule c = omega (arith, was-found _ (c .before .before .before .before .loop .at) _ (found-here c))
+part-hits-record-start : tie.Need-part-hits-record-start Inv-loop μ-loop
+part-hits-record-start c = omega (arith, was-found _ (c .before .before .before .before .loop .at) _ (found-here c))
 
-part-matches-rule-start : tie.Need-part-matches-rule-start Inv-loop μ-loop
-part-matches-rule-start c = omega (arith, was-found _ (c .before .before .before .before .loop .at) _ (found-here c))
+part-hits-record-end : tie.Need-part-hits-record-end Inv-loop μ-loop
+part-hits-record-end c = omega (arith, was-found _ (c .before .before .before .before .loop .at) _ (found-here c))
 
-part-matches-rule-end : tie.Need-part-matches-rule-end Inv-loop μ-loop
-part-matches-rule-end c = omega (arith, was-found _ (c .before .before .before .before .loop .at) _ (found-here c))
-
-matches-rule-requires : tie.Need-matches-rule-requires Inv-loop μ-loop
-matches-rule-requires c κs = search needs
+hits-record-requires : tie.Need-hits-record-requires Inv-loop μ-loop
+hits-record-requires c κs =
+    let k = c .before in
+    (k .before .before .before .before .before .before .pre, omega (arith, was-found _ (k .before .before .before .before .loop .at) _ (found-here k), length-there _ (k .before .before .before .before .loop .at) _ (found-here k)))
 
 returns-3 : tie.Need-returns-3 Inv-loop μ-loop
 returns-3 c = let k = c .before .before .before in (
-  first-met _ _ _ (k .before .before .before .before .loop .inv) _ (found-here k) _ (k .before .before .before .before .before .ipv4 .ensures) _ (c .before .matches-rule .ensures) (c .if1 .taken),
+  first-met _ _ _ _ (k .before .before .before .before .loop .inv) _ (found-here k) _ (c .before .hits-record .ensures) (c .if1 .taken),
   (omega (arith, was-found _ (k .before .before .before .before .loop .at) _ (found-here k)), omega (arith, was-found _ (k .before .before .before .before .loop .at) _ (found-here k))),
 )
 
@@ -70,7 +67,7 @@ loop-less c = let k = c .before .before .before in omega (arith, was-found _ (k 
 
 loop-again : tie.Need-loop-again Inv-loop μ-loop
 loop-again c = let k = c .before .before .before in
-    first-missed _ _ _ (k .before .before .before .before .loop .inv) _ (found-here k) _ (k .before .before .before .before .before .ipv4 .ensures) _ (c .before .matches-rule .ensures) (c .if1 .left)
+    first-missed _ _ _ _ (k .before .before .before .before .loop .inv) _ (found-here k) _ (c .before .hits-record .ensures) (c .if1 .left)
 
 pub first-place-spec : {M : Type 1} → statement M
 first-place-spec =
@@ -78,7 +75,6 @@ first-place-spec =
     (tie.spec
     Inv-loop
     μ-loop
-    ipv4-requires
     loop-holds
     record-at-requires
     enum-told
@@ -86,11 +82,10 @@ first-place-spec =
     enum-told-2
     returns-2
     enum-known-next
-    add-start
-    sub-matches-rule
-    part-matches-rule-start
-    part-matches-rule-end
-    matches-rule-requires
+    sub-hits-record
+    part-hits-record-start
+    part-hits-record-end
+    hits-record-requires
     returns-3
     loop-less
     loop-again)

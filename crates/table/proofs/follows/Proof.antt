@@ -12,16 +12,16 @@ returns : tie.Need-returns
 returns c = search (follows-none, needs)
 
 add-start : tie.Need-add-start
-add-start c = omega (arith, c .before .before .pre .before (c .if1 .left), c .before .before .pre)
+add-start c = omega (arith, c .before .before .pre .1 .before (c .if1 .left), c .before .before .pre)
 
 add-begin : tie.Need-add-begin
 add-begin c = search needs
 
 sub-compare-plain : tie.Need-sub-compare-plain
-sub-compare-plain c = omega (arith, c .before .before .pre .before (c .if1 .left))
+sub-compare-plain c = omega (arith, c .before .before .pre .1 .before (c .if1 .left))
 
 part-compare-plain-start : tie.Need-part-compare-plain-start
-part-compare-plain-start c = omega (arith, c .before .before .pre .before (c .if1 .left))
+part-compare-plain-start c = omega (arith, c .before .before .pre .1 .before (c .if1 .left))
 
 part-compare-plain-end : tie.Need-part-compare-plain-end
 part-compare-plain-end c = search needs
@@ -48,13 +48,13 @@ enum-told-3 : tie.Need-enum-told-3
 enum-told-3 c = search needs
 
 returns-2 : tie.Need-returns-2
-returns-2 c = follows-yes _ _ _ _ (c .before .before .before .before .before .if1 .left) _ (c .before .before .compare-plain .ensures) (c .enum-told .given .1)
+returns-2 c = follows-yes _ _ _ _ _ (c .before .before .before .before .before .if1 .left) _ (c .before .before .compare-plain .ensures) (c .enum-told .given .1)
 
 returns-3 : tie.Need-returns-3
-returns-3 c = follows-not _ _ _ _ (c .before .before .before .before .before .if1 .left) _ (c .before .before .compare-plain .ensures) (λ e. let z : First ≡ Second = sym e ∙ c .enum-told2 .given .1 in apart (cc))
+returns-3 c = follows-not _ _ _ _ _ (c .before .before .before .before .before .if1 .left) _ (c .before .before .compare-plain .ensures) (λ e. let z : First ≡ Second = sym e ∙ c .enum-told2 .given .1 in apart (cc))
 
 returns-4 : tie.Need-returns-4
-returns-4 c = follows-not _ _ _ _ (c .before .before .before .before .before .if1 .left) _ (c .before .before .compare-plain .ensures) (λ e. let z : First ≡ Same = sym e ∙ c .enum-told3 .given .1 in apart (cc))
+returns-4 c = follows-not _ _ _ _ _ (c .before .before .before .before .before .if1 .left) _ (c .before .before .compare-plain .ensures) (λ e. let z : First ≡ Same = sym e ∙ c .enum-told3 .given .1 in apart (cc))
 
 pub follows-spec : {M : Type 1} → statement M
 follows-spec =

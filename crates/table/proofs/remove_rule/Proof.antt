@@ -4,23 +4,22 @@ use native.Mathlib.Omega.{arith}
 use Prim.Native.Nat.{_+_, _-_, _≤_}
 use lib.ListN.{length}
 use lib.Seq.{length-take-le}
-use Rattle.rule.specs.Family.{ipv4}
 use Rattle.order.specs.Key.{keysOf}
 use Rattle.table.specs.Walk.{entries}
-use Rattle.table.proofs.ChangeLaws.{Placed, encoded, place-is, ends-inside, cut-records, not-held, was-held}
+use Rattle.table.proofs.ChangeLaws.{Placed, encoded, place-is, ends-inside, cut-records, removes-none, removes-held}
 use borrow.Author.Needs.{needs}
 use Rattle.table.proofs.remove_rule.Statement.{statement}
 use Rattle.table.proofs.remove_rule.Tie as tie
 
 there : (c : tie.After-struct-known)
-    → Placed (c .before .before .before .before .before .args .table .now) (entries (c .before .before .before .before .before .args .table .now))
-    (encoded (c .before .before .before .before .before .args .table .now) (λ i. c .before .before .before .before .slice-known .given i .fits) (c .before .before .before .before .before .pre .0)) (keysOf ipv4 (c .before .before .before .before .before .args .value .now)) (c .before .find .result)
-there c = place-is _ (λ i. c .before .before .before .before .slice-known .given i .fits) (c .before .before .before .before .before .pre .0) _ _ (c .before .find .ensures)
+    → Placed (c .before .before .before .before .before .args .family) (c .before .before .before .before .before .args .table .now) (entries (c .before .before .before .before .before .args .table .now))
+    (encoded _ (c .before .before .before .before .before .args .table .now) (λ i. c .before .before .before .before .slice-known .given i .fits) (c .before .before .before .before .before .pre .0 .sound)) (keysOf (c .before .before .before .before .before .args .family) (c .before .before .before .before .before .args .value .now)) (c .before .find .result)
+there c = place-is _ _ (λ i. c .before .before .before .before .slice-known .given i .fits) (c .before .before .before .before .before .pre .0 .sound) _ _ (c .before .find .ensures)
 
 inside : (c : tie.After-struct-known)
     → (c .before .find .result .start + (c .before .find .result .end - c .before .find .result .start) ≤ c .before .before .before .before .before .args .used)
     × (c .before .before .before .before .before .args .used ≤ length (c .before .before .before .before .before .args .table .now))
-inside c = ends-inside _ (λ i. c .before .before .before .before .slice-known .given i .fits) (c .before .before .before .before .before .pre .0) _ _ (c .before .find .ensures) _ (c .before .before .before .before .before .pre .1 .1)
+inside c = ends-inside _ _ (λ i. c .before .before .before .before .slice-known .given i .fits) (c .before .before .before .before .before .pre .0 .sound) _ _ (c .before .find .ensures) _ (c .before .before .before .before .before .pre .0 .all)
 
 find-requires : tie.Need-find-requires
 find-requires c κs = search needs
@@ -32,7 +31,8 @@ same-length : tie.Need-same-length
 same-length c = search needs
 
 returns : tie.Need-returns
-returns c = let k = c .before in not-held _ (λ i. k .before .before .before .before .slice-known .given i .fits) (k .before .before .before .before .before .pre .0) _ _ (k .before .find .ensures) (c .if1 .taken)
+returns c = let k = c .before in
+    removes-none _ _ (λ i. k .before .before .before .before .slice-known .given i .fits) (k .before .before .before .before .before .pre .0 .sound) _ _ (k .before .find .ensures) _ (k .before .before .before .before .before .pre .0 .all) (c .if1 .taken)
 
 slice-relend-prefix-cut-out : tie.Need-slice-relend-prefix-cut-out
 slice-relend-prefix-cut-out c = inside (c .before) .1
@@ -43,13 +43,16 @@ slice-aggregate-cut-out c = sym (length-take-le _ (c .before .before .before .be
 cut-out-requires : tie.Need-cut-out-requires
 cut-out-requires c κs = let l = inside (c .before .before) in omega (arith, l, length-take-le _ (c .before .before .before .before .before .before .before .args .table .now) (l .1))
 
+sub-t14 : tie.Need-sub-t14
+sub-t14 c = omega (arith, inside (c .before .before .before .before .before))
+
 same-length-2 : tie.Need-same-length-2
 same-length-2 c = search needs
 
 returns-2 : tie.Need-returns-2
 returns-2 c = let k = c .before .before .before .before .before in
-    was-held _ (λ i. k .before .before .before .before .slice-known .given i .fits) (k .before .before .before .before .before .pre .0) _ _ (k .before .find .ensures) _ (c .before .before .before .before .if1 .left)
-    (cut-records _ (λ i. k .before .before .before .before .slice-known .given i .fits) (k .before .before .before .before .before .pre .0) _ _ (k .before .find .ensures) _ (k .before .before .before .before .before .pre .1 .1) _ (c .before .before .cut-out .ensures))
+    removes-held _ _ (λ i. k .before .before .before .before .slice-known .given i .fits) (k .before .before .before .before .before .pre .0 .sound) _ _ (k .before .find .ensures) _ (k .before .before .before .before .before .pre .0 .all) _ (c .before .before .before .before .if1 .left)
+    (cut-records _ _ (λ i. k .before .before .before .before .slice-known .given i .fits) (k .before .before .before .before .before .pre .0 .sound) _ _ (k .before .find .ensures) _ (k .before .before .before .before .before .pre .0 .all) _ (c .before .before .cut-out .ensures))
 
 pub remove-rule-spec : {M : Type 1} → statement M
 remove-rule-spec =
@@ -62,5 +65,6 @@ remove-rule-spec =
     slice-relend-prefix-cut-out
     slice-aggregate-cut-out
     cut-out-requires
+    sub-t14
     same-length-2
     returns-2)

@@ -8,15 +8,16 @@ use borrow.Author.Tests.{not-false}
 use Rattle.table.specs.declared.NextRecord.the-variants.{Record}
 use Rattle.table.specs.Walk.{recordAt}
 use Rattle.table.proofs.WalkLaws.{was-found}
+use Rattle.table.proofs.EntryLaws.{measured-there}
 use Rattle.table.proofs.TestLaws.{Testing, test-starts, test-long, test-end, test-unsound, adjacent, test-bad, test-disorder, test-on}
 use Rattle.table.proofs.sound_table.Statement.{statement}
 use Rattle.table.proofs.sound_table.Tie as tie
 
 abbrev Inv-loop : tie.InvT-loop
-Inv-loop table previous₀ at₀ previous at = Testing table previous at
+Inv-loop family table previous₀ at₀ previous at = Testing family table previous at
 
 abbrev μ-loop : tie.MeasureT-loop
-μ-loop table previous₀ at₀ previous at = length table - at
+μ-loop family table previous₀ at₀ previous at = length table - at
 
 found-here : (c : tie.After-known-told Inv-loop μ-loop) → recordAt (c .before .before .before .before .before .before .before .args .table .now) (c .before .before .before .before .loop .at) ≡ Record (c .before .next .given .0 .0)
 found-here c = sym (c .before .before .before .record-at .ensures) ∙ c .before .next .given .1
@@ -25,7 +26,7 @@ returns : tie.Need-returns Inv-loop μ-loop
 returns c = search (test-long, needs)
 
 loop-holds : tie.Need-loop-holds Inv-loop μ-loop
-loop-holds c = test-starts _ (c .if1 .left)
+loop-holds c = test-starts _ _ (c .if1 .left)
 
 record-at-requires : tie.Need-record-at-requires Inv-loop μ-loop
 record-at-requires c κs = search needs
@@ -55,18 +56,20 @@ part-is-good-record-end : tie.Need-part-is-good-record-end Inv-loop μ-loop
 part-is-good-record-end c = omega (arith, was-found _ (c .before .before .before .before .loop .at) _ (found-here c))
 
 is-good-record-requires : tie.Need-is-good-record-requires Inv-loop μ-loop
-is-good-record-requires c κs = search needs
+is-good-record-requires c κs = let k = c .before in measured-there _ (k .before .before .before .before .loop .at) _ (found-here k)
 
 returns-4 : tie.Need-returns-4 Inv-loop μ-loop
-returns-4 c = let k = c .before .before .before in test-bad _ _ _ (k .before .before .before .before .loop .inv) _ (found-here k) _ (c .before .is-good-record .ensures) (c .if2 .taken)
+returns-4 c = let k = c .before .before .before in test-bad _ _ _ _ (k .before .before .before .before .loop .inv) _ (found-here k) _ (c .before .is-good-record .ensures) (c .if2 .taken)
 
 follows-requires : tie.Need-follows-requires Inv-loop μ-loop
-follows-requires c κs = let k = c .before .before .before in adjacent _ _ _ (k .before .before .before .before .loop .inv) _ (found-here k)
+follows-requires c κs =
+    let k = c .before .before .before in
+    (k .before .before .before .before .before .before .before .pre, adjacent _ _ _ _ (k .before .before .before .before .loop .inv) _ (found-here k))
 
 returns-5 : tie.Need-returns-5 Inv-loop μ-loop
 returns-5 c = let k = c .before .before .before .before .before in
     let good = sym (c .before .before .before .is-good-record .ensures) ∙ not-false _ (c .before .before .if2 .left) in
-    test-disorder _ _ _ (k .before .before .before .before .loop .inv) _ (found-here k) (λ i. k .before .before .before .before .before .before .shared-slice-known .given i .fits) good _ (c .before .follows .ensures) (c .if3 .taken)
+    test-disorder _ _ _ _ (k .before .before .before .before .loop .inv) _ (found-here k) (k .before .before .before .before .before .before .before .pre) (λ i. k .before .before .before .before .before .before .shared-slice-known .given i .fits) good _ (c .before .follows .ensures) (c .if3 .taken)
 
 loop-less : tie.Need-loop-less Inv-loop μ-loop
 loop-less c = let k = c .before .before .before .before .before in omega (arith, was-found _ (k .before .before .before .before .loop .at) _ (found-here k))
@@ -74,7 +77,7 @@ loop-less c = let k = c .before .before .before .before .before in omega (arith,
 loop-again : tie.Need-loop-again Inv-loop μ-loop
 loop-again c = let k = c .before .before .before .before .before in
     let good = sym (c .before .before .before .is-good-record .ensures) ∙ not-false _ (c .before .before .if2 .left) in
-    test-on _ _ _ (k .before .before .before .before .loop .inv) _ (found-here k) (λ i. k .before .before .before .before .before .before .shared-slice-known .given i .fits) good _ (c .before .follows .ensures) (c .if3 .left)
+    test-on _ _ _ _ (k .before .before .before .before .loop .inv) _ (found-here k) (k .before .before .before .before .before .before .before .pre) (λ i. k .before .before .before .before .before .before .shared-slice-known .given i .fits) good _ (c .before .follows .ensures) (c .if3 .left)
 
 pub sound-table-spec : {M : Type 1} → statement M
 sound-table-spec =

@@ -1,8 +1,8 @@
--- The plain spelling stands at the front of the working array; then one law for each return.
+-- The plain spelling stands at the front of the working array; the change is that of the entries.
 use native.Mathlib.Omega.{arith}
 use Rattle.rule.proofs.ValueLaws.{accepted-small}
 use Rattle.rule.proofs.WritingLaws.{front-length}
-use Rattle.table.proofs.CallLaws.{front-held, withdrew, kept}
+use Rattle.table.proofs.CallLaws.{front-held, withdrew}
 use borrow.Author.Needs.{needs}
 use Rattle.table.proofs.withdraw_value.Statement.{statement}
 use Rattle.table.proofs.withdraw_value.Tie as tie
@@ -11,28 +11,24 @@ slice-aggregate-fill-plain : tie.Need-slice-aggregate-fill-plain
 slice-aggregate-fill-plain c = search needs
 
 fill-plain-requires : tie.Need-fill-plain-requires
-fill-plain-requires c κs = omega (arith, accepted-small _ _ (c .before .before .before .pre .1 .0))
+fill-plain-requires c κs = omega (arith, accepted-small _ _ (c .before .before .before .pre .1))
 
 array-share-prefix-work : tie.Need-array-share-prefix-work
-array-share-prefix-work c = omega (arith, accepted-small _ _ (c .before .before .before .before .before .before .pre .1 .0))
+array-share-prefix-work c = omega (arith, accepted-small _ _ (c .before .before .before .before .before .before .pre .1))
 
 slice-aggregate-remove-rule : tie.Need-slice-aggregate-remove-rule
-slice-aggregate-remove-rule c = front-length _ _ _ (c .before .before .before .fill-plain .ensures)
+slice-aggregate-remove-rule c = front-length _ _ _ _ (c .before .before .before .fill-plain .ensures)
 
 remove-rule-requires : tie.Need-remove-rule-requires
-remove-rule-requires c κs = (c .before .before .before .before .before .before .before .pre .0, (front-held _ _ _ (c .before .before .before .fill-plain .ensures) (λ i. c .before .before .before .before .before .shared-slice-known .given i .fits) (c .before .before .before .before .before .before .before .pre .1 .0), c .before .before .before .before .before .before .before .pre .1 .1))
+remove-rule-requires c κs =
+    let k = c .before .before .before .before .before .before .before in
+    (k .pre .0, front-held _ _ _ _ (c .before .before .before .fill-plain .ensures) (λ i. c .before .before .before .before .before .shared-slice-known .given i .fits) (k .pre .1))
 
 same-length : tie.Need-same-length
 same-length c = search needs
 
 returns : tie.Need-returns
-returns c = withdrew _ _ _ (c .before .before .before .before .before .before .before .fill-plain .ensures) _ _ _ (c .before .before .before .remove-rule .ensures) (c .if1 .taken)
-
-same-length-2 : tie.Need-same-length-2
-same-length-2 c = search needs
-
-returns-2 : tie.Need-returns-2
-returns-2 c = kept _ _ _ (c .before .before .before .before .before .before .before .fill-plain .ensures) _ _ _ (c .before .before .before .remove-rule .ensures) (λ i. c .before .before .before .before .before .before .before .before .before .before .slice-known .given i .fits) (c .before .before .before .before .before .before .before .before .before .before .before .pre .0) (c .if1 .left)
+returns c = withdrew _ _ _ _ (c .before .before .before .before .before .before .fill-plain .ensures) _ _ _ (c .before .before .remove-rule .ensures)
 
 pub withdraw-value-spec : {M : Type 1} → statement M
 withdraw-value-spec =
@@ -44,6 +40,4 @@ withdraw-value-spec =
     slice-aggregate-remove-rule
     remove-rule-requires
     same-length
-    returns
-    same-length-2
-    returns-2)
+    returns)
