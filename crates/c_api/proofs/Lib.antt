@@ -4,4 +4,4 @@ pub mod Halves
 pub mod CallLaws
 pub mod Verdicts
 pub mod Unique
-pub mod DoorLaws
+pub mod HistoryLaws
