@@ -9,12 +9,15 @@ use Rattle.octets.specs.Test.{every, oneHolds, sameList}
 use Rattle.octets.specs.Number.{numberAt}
 use Rattle.octets.specs.Walk.{walk}
 use Rattle.prefix.specs.Prefix.{bits, coversAddress, prefixOf}
+use Rattle.rule.specs.declared.Family.{Family}
 use Rattle.rule.specs.Family.{ipv4}
 use Rattle.rule.specs.Shape.{shapeOf}
 use Rattle.rule.specs.Operator.{endsList, sizeOf}
 use Rattle.rule.specs.Component.{pairAt, pairsFrom, leadOf, offsetAt, prefixEnd, bodyEnd, componentAt}
 use Rattle.rule.specs.Value.{componentsFrom, components}
 use Rattle.rule.specs.Plain.{plainOperand}
+use Rattle.packet.specs.declared.Field.the-variants.{Shown, Hidden}
+use Rattle.packet.specs.declared.Packet.{Packet}
 use Rattle.packet.specs.declared.Sight.{Sight}
 use Rattle.packet.specs.declared.Sight.the-variants.{Usable, Unusable}
 use Rattle.packet.specs.Header.{isUnusable, fragmentData}
@@ -211,3 +214,43 @@ unfolding
     numericHolds bitmaskHolds every oneHolds groupsFrom groups listHolds holdsFor bodyHolds fieldMatches fieldsFor
     bodyCovers componentMatches matches
 packets = refl
+
+-- a family of addresses of 128 bits, with offsets, in which the lowest bit of a fragment value is ignored; and a packet of it that goes from
+-- 2001:db8::2 to 2001:db8::1234:5678:9a00:1, whose protocol is not found, and whose transport header is shown as one of ICMP
+abbrev wide : Family
+wide = record { highest = 13; width = 128; head = 0; offsets = true; fragment = 0x0e; icmp = 58; version = 6; words = 7 }
+
+abbrev seen : Packet
+seen =
+    record {
+      destination = record { high = 0x20010db800000000; low = 0x123456789a000001 };
+      source = record { high = 0x20010db800000000; low = 2 };
+      protocol = Hidden;
+      length = 65575;
+      dscp = 0;
+      fragment = 0;
+      transport =
+          record {
+            «source_port» = Hidden;
+            «destination_port» = Hidden;
+            «icmp_type» = Shown 128;
+            «icmp_code» = Shown 0;
+            flags = Hidden;
+          };
+    }
+
+-- RFC 8956 section 3.8's pattern from bit 64 up to 104, and others with and without an offset
+pub patterns : every (λ value. matches wide value seen)
+    ((0x01 ∷ 0x68 ∷ 0x40 ∷ 0x12 ∷ 0x34 ∷ 0x56 ∷ 0x78 ∷ 0x9a ∷ []) ∷ (0x01 ∷ 0x20 ∷ 0x00 ∷ 0x20 ∷ 0x01 ∷ 0x0d ∷ 0xb8 ∷ [])
+    ∷ (0x01 ∷ 0x00 ∷ 0x00 ∷ [])
+    ∷ (0x01 ∷ 0x68 ∷ 0x40 ∷ 0x12 ∷ 0x34 ∷ 0x56 ∷ 0x78 ∷ 0x9a ∷ 0x02 ∷ 0x80 ∷ 0x00 ∷ 0x20 ∷ 0x01 ∷ 0x0d ∷ 0xb8 ∷ 0x00 ∷ 0x00 ∷ 0x00 ∷ 0x00 ∷ 0x00 ∷ 0x00 ∷ 0x00 ∷ 0x00 ∷ 0x00 ∷ 0x00 ∷ 0x00 ∷ 0x02 ∷ [])
+    ∷ (0x0c ∷ 0x81 ∷ 0x01 ∷ []) ∷ (0x07 ∷ 0x81 ∷ 0x80 ∷ []) ∷ [])
+    && not (oneHolds (λ value. matches wide value seen)
+    ((0x01 ∷ 0x68 ∷ 0x40 ∷ 0x12 ∷ 0x34 ∷ 0x56 ∷ 0x78 ∷ 0x9b ∷ []) ∷ (0x01 ∷ 0x21 ∷ 0x00 ∷ 0x20 ∷ 0x01 ∷ 0x0d ∷ 0xb8 ∷ 0x80 ∷ [])
+    ∷ (0x02 ∷ 0x41 ∷ 0x40 ∷ 0x80 ∷ []) ∷ (0x03 ∷ 0x87 ∷ 0x00 ∷ []) ∷ (0x0c ∷ 0x81 ∷ 0x02 ∷ []) ∷ (0x04 ∷ 0x87 ∷ 0x00 ∷ []) ∷ []))
+    ≡ true
+unfolding
+    numberAt walk bits sameList coversAddress prefixOf shapeOf endsList sizeOf pairAt pairsFrom leadOf offsetAt prefixEnd bodyEnd
+    componentAt componentsFrom components plainOperand numericHolds bitmaskHolds every oneHolds groupsFrom groups listHolds holdsFor
+    bodyHolds fieldMatches fieldsFor bodyCovers componentMatches matches
+patterns = refl

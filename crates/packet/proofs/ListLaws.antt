@@ -19,7 +19,7 @@ use Rattle.rule.specs.declared.Shape.{Shape}
 use Rattle.rule.specs.Operator.{sizeOf}
 use Rattle.rule.specs.Component.{pairAt, Pair, pairOf, pairsFrom}
 use Rattle.rule.specs.Plain.{plainOperand}
-use Rattle.rule.proofs.ComponentLaws.{pair-cases, more-within, last-within, pairs-more, pairs-last, pairs-refused}
+use Rattle.rule.proofs.ComponentLaws.{pair-cases, more-within, pairs-more, pairs-last, pairs-refused}
 use Rattle.packet.specs.declared.Judged.{Judged}
 use Rattle.packet.specs.Operator.{numericHolds, bitmaskHolds}
 use Rattle.packet.specs.Judging.{withPair, judgePair}
