@@ -8,7 +8,7 @@ use native.Mathlib.Omega.{arith}
 use native.Mathlib.Decide.{decLt}
 use native.Mathlib.Numerals.{add-one}
 use lib.Dec.{eqb, ltb}
-use lib.ListN.{length, take, drop, length-append, length-take, length-drop}
+use lib.ListN.{length, take, drop, length-append, length-take, length-drop, take-append-drop}
 use lib.Seq.{take-nil, take-all, take-add, take-at, take-append-le, take-append-add, length-take-le}
 use borrow.Author.Tests.{eq-eqb, ne-eqb, eqb-true, ltb-true}
 use Rattle.octets.proofs.Cases.{by-test}
@@ -16,16 +16,17 @@ use Rattle.octets.specs.Store.{stored}
 use Rattle.text.specs.Field.{inFirst, placeOf}
 use Rattle.text.specs.Print.{laid}
 use Rattle.text.proofs.FieldLaws.{place-within}
-use Rattle.text.proofs.PrintLaws.{length-laid, laid-stored}
+use Rattle.text.proofs.PrintLaws.{length-laid}
 use Rattle.lines.specs.declared.Served.{Served}
 use Rattle.lines.specs.declared.Gathered.{Gathered}
 use Rattle.lines.specs.Line.{mostSigns}
 use Rattle.lines.specs.Answer.{mostText}
-use Rattle.lines.specs.Serve.{Outcome, served}
+use Rattle.lines.specs.Serve.{Outcome}
 use Rattle.lines.specs.Gather.{gathered}
 use Rattle.lines.specs.Promise.{Serves, Gathers}
 use Rattle.lines.specs.Input.{linesOf, State, stateOf, firstState, lineText, afterLine, linesText, afterLines, outputOf, leftBy, Standing, standing, afterOctet, octetText, afterBlock, blockText, endText, afterEnd, joined, blocksText, standingAfter, Holds, LedBy}
 use Rattle.lines.proofs.CutLaws.{cut-alike}
+use Rattle.lines.proofs.ServeLaws.{front-is}
 
 -- a block in two parts
 pub block-append : (s : Standing) (a b : List ℕ) → afterBlock s (a ++ b) ≡ afterBlock (afterBlock s a) b
@@ -254,12 +255,12 @@ module _ (s : Standing) (block line : List ℕ) (held used : ℕ) (routes table 
     taken-open : answer .taken ≡ placeOf 10 block
     taken-open = taken-is ∙ ap (λ b. cond b (placeOf 10 block + 1) (placeOf 10 block)) (sym ended-is ∙ more)
 
-    pub turn-open : Holds (afterBlock s (take (answer .taken) block)) exit (answer .held) used routes table
+    turn-open : Holds (afterBlock s (take (answer .taken) block)) exit (answer .held) used routes table
     turn-open =
         subst (λ m. Holds m exit (answer .held) used routes table) (sym (ap (λ n. afterBlock s (take n block)) taken-open ∙ plain .0))
         (record { long = length-exit ∙ holds .long; within = within-exit; rest = rest-is; state = holds .state })
 
-    pub text-open : blockText s (take (answer .taken) block) ≡ []
+    text-open : blockText s (take (answer .taken) block) ≡ []
     text-open = ap (λ n. blockText s (take n block)) taken-open ∙ plain .1
 
   module _ (ended : answer .ended ≡ true) where
@@ -273,7 +274,7 @@ module _ (s : Standing) (block line : List ℕ) (held used : ℕ) (routes table 
         ap (afterBlock s) to-lf ∙ block-append s (take (placeOf 10 block) block) (10 ∷ []) ∙ ap (λ m. afterBlock m (10 ∷ [])) (plain .0)
         ∙ after-lf (standing (s .rest ++ take (placeOf 10 block) block) (s .state)) 10 [] refl ∙ after-nil _
 
-    pub turn-ended : (u : ℕ) (r t : List ℕ) → stateOf u r t ≡ afterLine (stateOf used routes table) (take (answer .held) exit)
+    turn-ended : (u : ℕ) (r t : List ℕ) → stateOf u r t ≡ afterLine (stateOf used routes table) (take (answer .held) exit)
         → Holds (afterBlock s (take (answer .taken) block)) exit 0 u r t
     turn-ended u r t is =
         subst (λ m. Holds m exit 0 u r t) (sym after-ended)
@@ -284,7 +285,7 @@ module _ (s : Standing) (block line : List ℕ) (held used : ℕ) (routes table 
           state = is ∙ ap (afterLine (stateOf used routes table)) rest-is ∙ after-cut (stateOf used routes table) (s .rest ++ take (placeOf 10 block) block) ∙ ap (λ q. afterLine q (s .rest ++ take (placeOf 10 block) block)) (holds .state);
         })
 
-    pub text-ended : blockText s (take (answer .taken) block) ≡ lineText (stateOf used routes table) (take (answer .held) exit)
+    text-ended : blockText s (take (answer .taken) block) ≡ lineText (stateOf used routes table) (take (answer .held) exit)
     text-ended =
         ap (blockText s) to-lf ∙ text-append s (take (placeOf 10 block) block) (10 ∷ [])
         ∙ ap (λ t. t ++ blockText (afterBlock s (take (placeOf 10 block) block)) (10 ∷ [])) (plain .1)
@@ -293,6 +294,14 @@ module _ (s : Standing) (block line : List ℕ) (held used : ℕ) (routes table 
         ∙ ap (λ t. lineText (s .state) (s .rest ++ take (placeOf 10 block) block) ++ t) (text-nil _)
         ∙ append-nil (lineText (s .state) (s .rest ++ take (placeOf 10 block) block))
         ∙ sym (ap (lineText (stateOf used routes table)) rest-is ∙ text-cut (stateOf used routes table) (s .rest ++ take (placeOf 10 block) block) ∙ ap (λ q. lineText q (s .rest ++ take (placeOf 10 block) block)) (holds .state))
+
+  -- what a turn prints stands in front of what the rest of the block prints
+  pub turn-prints : blockText s block ≡ cond (answer .ended) (lineText (stateOf used routes table) (take (answer .held) exit)) [] ++ blockText (afterBlock s (take (answer .taken) block)) (drop (answer .taken) block)
+  turn-prints =
+      let p : blockText s (take (answer .taken) block) ≡ cond (answer .ended) (lineText (stateOf used routes table) (take (answer .held) exit)) []
+      = by-test (answer .ended) (λ e. rw e (text-ended e)) (λ e. rw e (text-open e)) in
+      ap (blockText s) (sym (take-append-drop (answer .taken) block)) ∙ text-append s (take (answer .taken) block) (drop (answer .taken) block)
+      ∙ ap (λ t. t ++ blockText (afterBlock s (take (answer .taken) block)) (drop (answer .taken) block)) p
 
 -- what serving a line leaves, and what is written then
 module _ (line : List ℕ) (used : ℕ) (routes table out : List ℕ) (answer : Served) (r t x : List ℕ) (k : List (List ℕ)) (serves : Serves line used routes table out answer r t x k) where
@@ -303,12 +312,10 @@ module _ (line : List ℕ) (used : ℕ) (routes table out : List ℕ) (answer : 
       λ i. record { used = u i; routes = serves .leavesRoutes i; table = serves .leavesTable i }
 
   pub serves-text : length out ≡ mostText → take (answer .printed) x ≡ lineText (stateOf used routes table) line
-  unfolding stored
   serves-text l =
-      let p : answer .printed ≡ length (served line used routes table .text) = ap (λ (a : Served). a .printed) (serves .is) in
+      let p : answer .printed ≡ length (lineText (stateOf used routes table) line) = ap (λ (a : Served). a .printed) (serves .is) in
       let h = serves .short in
-      rw (serves .prints, p, laid-stored out 0 (served line used routes table .text) (omega arith))
-      (take-at (served line used routes table .text) (drop (0 + length (served line used routes table .text)) out) (length (served line used routes table .text)) refl)
+      front-is out x (lineText (stateOf used routes table) line) (answer .printed) (serves .prints) p (omega arith)
 
 -- the program's buffers: at the start, from turn to turn of a block, and at the end of the input
 pub led-first : (line routes table : List ℕ) → length line ≡ mostSigns + 1 → stateOf 0 routes table ≡ firstState → LedBy [] line 0 0 routes table

@@ -76,7 +76,12 @@ with-table o table = record { text = o .text; used = o .used; routes = o .routes
 any-table : (words : List ℕ) (used : ℕ) (routes table : List ℕ) → adding words used routes table ≡ with-table (adding words used routes []) table
 any-table words used routes table = by-test (routeFits used routes) (λ e. rw e) (λ e. rw e)
 
--- octets that were read into a room that is long enough
+-- a text that was laid into the front of a room that is long enough
+pub front-is : (room exit text : List ℕ) (count : ℕ) → exit ≡ laid room 0 text → count ≡ length text → length text ≤ length room → take count exit ≡ text
+unfolding stored
+front-is room exit text count e n h = rw (e, n, laid-stored room 0 text (omega arith)) (take-at text (drop (0 + length text) room) (length text) refl)
+
+-- octets that were read into such a room
 module _ (room exit text : List ℕ) (count : ℕ) (reads : (exit ≡ laid room 0 (octetsIn text)) × (count ≡ length (octetsIn text))) (long : length text ≤ 2 * length room) where
   fits : 0 + length (octetsIn text) ≤ length room
   fits = omega (arith, length-octetsIn text)
@@ -88,10 +93,7 @@ module _ (room exit text : List ℕ) (count : ℕ) (reads : (exit ≡ laid room 
   read-size = sym (length-take-le count exit read-within)
 
   pub read-is : take count exit ≡ octetsIn text
-  unfolding stored
-  read-is =
-      rw (reads .0, reads .1, laid-stored room 0 (octetsIn text) fits)
-      (take-at (octetsIn text) (drop (0 + length (octetsIn text)) room) (length (octetsIn text)) refl)
+  read-is = front-is room exit (octetsIn text) count (reads .0) (reads .1) (omega (arith, fits))
 
 -- a change of the table whose answer was printed
 pub changes : (o : Changed) (out : List ℕ) (change : Change) (t x : List ℕ) (printed : ℕ) → change ≡ o .answer → t ≡ o .table
