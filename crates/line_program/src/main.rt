@@ -2,9 +2,16 @@
 // input may have any length: it comes in blocks, and of a line no more is kept than shows that it is too long. The program ends where the
 // input does, and where its input or its output fails, which it then says on standard error.
 ghost use mathlib.Core.Path.{_≡_};
-ghost use Prim.Native.Nat.{_≤_};
+ghost use mathlib.Core.Bool.{true};
+ghost use mathlib.Core.List.{List, _++_};
+ghost use Prim.Native.Nat.{ℕ, _+_, _<_};
+ghost use lib.IntN.{pos};
 ghost use lib.ListN.{length};
+ghost use lib.Signed.{_≤ℤ_};
+ghost use Rattle.text.specs.Print.{laid};
+ghost use Rattle.lines.specs.Line.{mostSigns};
 ghost use Rattle.lines.specs.Answer.{mostText};
+ghost use Rattle.lines.specs.Input.{stateOf, firstState, lineText, afterLine, leftBy, LedBy, Led};
 use libc::STDERR_FILENO;
 use libc::STDIN_FILENO;
 use libc::STDOUT_FILENO;
@@ -32,7 +39,7 @@ fn answer(
     out: &mut [u8],
 ) -> Progress
     requires { ⌜ length (now out) ≡ mostText ⌝ }
-    ensures { λ r. ⌜ r .held ≡ 0 ⌝ }
+    ensures { λ r. ⌜ (r .held ≡ 0) × (stateOf (r .used) (now (routes .exit)) (now (table .exit)) ≡ afterLine (stateOf used (now (routes .entry)) (now (table .entry))) (now (line .entry))) × (now (out .exit) ≡ laid (now (out .entry)) 0 (lineText (stateOf used (now (routes .entry)) (now (table .entry))) (now (line .entry)))) ⌝ }
 {
     let served = lines::serve(line, routes, used, table, out);
     let printed = served.printed;
@@ -50,7 +57,8 @@ fn answer(
     }
 }
 
-// Serves the lines that end in a block, and holds what stands behind the last of them.
+// Serves the lines that end in a block, and holds what stands behind the last of them: what some input led to before, that input and the
+// block lead to now, unless the output failed.
 fn answer_block(
     block: &[u8],
     line: &mut [u8],
@@ -59,8 +67,8 @@ fn answer_block(
     out: &mut [u8],
     start: Progress,
 ) -> Progress
-    requires { ⌜ (length (now out) ≡ mostText) × (start .held ≤ length (now line)) ⌝ }
-    ensures { λ r. ⌜ r .held ≤ length (now (line .entry)) ⌝ }
+    requires { ⌜ (length (now out) ≡ mostText) × Led (now line) (start .held) (start .used) (now routes) (now table) ⌝ }
+    ensures { λ r. ⌜ ((input : List ℕ) → LedBy input (now (line .entry)) (start .held) (start .used) (now (routes .entry)) (now (table .entry)) → r .open ≡ true → LedBy (input ++ now (block .entry)) (now (line .exit)) (r .held) (r .used) (now (routes .exit)) (now (table .exit))) ⌝ }
 {
     let mut at = 0;
     let mut held = start.held;
@@ -90,26 +98,28 @@ fn answer_rest(
     got: isize,
     line: &[u8],
     routes: &mut [u32],
-    used: usize,
     table: &mut [u8],
     out: &mut [u8],
+    last: Progress,
 )
-    requires { ⌜ length (now out) ≡ mostText ⌝ }
+    requires { ⌜ (got ≤ℤ pos 0) × (length (now out) ≡ mostText) × Led (now line) (last .held) (last .used) (now routes) (now table) ⌝ }
+    ensures { λ _. ⌜ (got ≡ pos 0 → (input : List ℕ) → LedBy input (now (line .entry)) (last .held) (last .used) (now (routes .entry)) (now (table .entry)) → (now (routes .exit) ≡ leftBy input .routes) × (now (table .exit) ≡ leftBy input .table)) ⌝ }
 {
     if got < 0 {
         io::write_all(STDERR_FILENO, b"line_program: the input cannot be read\n");
         return;
     }
-    if line.len() == 0 {
+    let held = last.held;
+    if held == 0 {
         return;
     }
-    answer(line, routes, used, table, out);
+    answer(&line[..held], routes, last.used, table, out);
 }
 
 // Reads the input block by block and serves its lines; since a proved loop has to end and nothing says that the input does, it counts its
 // turns down from a number that no run uses up.
 fn run(block: &mut [u8], line: &mut [u8], routes: &mut [u32], table: &mut [u8], out: &mut [u8])
-    requires { ⌜ length (now out) ≡ mostText ⌝ }
+    requires { ⌜ (0 < length (now block)) × (length (now line) ≡ mostSigns + 1) × (stateOf 0 (now routes) (now table) ≡ firstState) × (length (now out) ≡ mostText) ⌝ }
 {
     let mut progress = Progress {
         held: 0,
@@ -121,8 +131,7 @@ fn run(block: &mut [u8], line: &mut [u8], routes: &mut [u32], table: &mut [u8], 
         let got = libc::read(STDIN_FILENO, block);
         let count = io::count(got, block);
         if count == 0 {
-            let held = progress.held;
-            answer_rest(got, &line[..held], routes, progress.used, table, out);
+            answer_rest(got, line, routes, table, out, progress);
             return;
         }
         progress = answer_block(&block[..count], line, routes, table, out, progress);

@@ -1,8 +1,9 @@
--- The text is no longer than its buffer, so that the part that is written lies in it.
-use mathlib.Core.Path.{sym}
+-- The text is no longer than its buffer, so that the part that is written lies in it; serving leaves what the definition says.
+use mathlib.Core.Path.{refl, sym}
 use native.Mathlib.Omega.{arith}
 use lib.Seq.{length-take-le}
 use borrow.Author.Needs.{needs}
+use Rattle.lines.proofs.InputLaws.{serves-leaves}
 use Rattle.line_program.proofs.answer.Statement.{statement}
 use Rattle.line_program.proofs.answer.Tie as tie
 
@@ -34,7 +35,7 @@ same-length-3 : tie.Need-same-length-3
 same-length-3 c = search needs
 
 returns : tie.Need-returns
-returns c = search needs
+returns c = (refl, serves-leaves _ _ _ _ _ _ _ _ _ _ (c .before .before .before .before .before .before .before .before .before .before .before .serve .ensures), c .before .before .before .before .before .before .before .before .before .before .before .serve .ensures .prints)
 
 same-length-4 : tie.Need-same-length-4
 same-length-4 c = search needs
@@ -46,7 +47,7 @@ same-length-6 : tie.Need-same-length-6
 same-length-6 c = search needs
 
 returns-2 : tie.Need-returns-2
-returns-2 c = search needs
+returns-2 c = (refl, serves-leaves _ _ _ _ _ _ _ _ _ _ (c .before .before .before .before .before .before .before .before .before .serve .ensures), c .before .before .before .before .before .before .before .before .before .serve .ensures .prints)
 
 pub answer-spec : {M : Type 1} → statement M
 answer-spec =

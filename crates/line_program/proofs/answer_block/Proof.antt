@@ -1,20 +1,31 @@
--- Each turn takes an octet at least, and leaves what is lent at its length.
+-- Each turn takes an octet at least; an input that led to what the buffers held leads, with what was taken of the block behind it, to what
+-- they hold.
 use borrow.Author.Needs.{needs}
-use Prim.Native.Nat.{_+_, _-_, _<_, _≤_}
-use mathlib.Core.Path.{_≡_, sym}
+use Prim.Native.Nat.{ℕ, _+_, _-_, _<_, _≤_}
+use mathlib.Core.Path.{_≡_, refl, sym, subst, _∙_}
+use mathlib.Core.Bool.{Bool, true, not}
+use mathlib.Core.List.{List, _++_}
 use native.Mathlib.Omega.{arith}
+use lib.Dec.{T}
+use borrow.Author.Tests.{not-true}
 use lib.ListN.{length, take, drop, length-take, length-drop}
 use lib.Seq.{length-take-le}
+use Rattle.lines.specs.Input.{LedBy}
 use Rattle.lines.proofs.GatherLaws.{part-of}
+use Rattle.lines.proofs.InputLaws.{block-first, block-on, block-answered, block-done}
 use Rattle.line_program.proofs.answer_block.Statement.{statement}
 use Rattle.line_program.proofs.answer_block.Tie as tie
 
 abbrev Inv-loop : tie.InvT-loop
 Inv-loop block line₀ routes₀ table₀ out₀ at₀ held₀ used₀ line routes table out at held used =
-    (at ≤ length block) × (held ≤ length line) × (length line ≡ length line₀) × (length routes ≡ length routes₀) × (length table ≡ length table₀) × (length out ≡ length out₀)
+    (at ≤ length block) × (held ≤ length line) × (length line ≡ length line₀) × (length routes ≡ length routes₀) × (length table ≡ length table₀) × (length out ≡ length out₀) × ((input : List ℕ) → LedBy input line₀ held₀ used₀ routes₀ table₀ → LedBy (input ++ take at block) line held used routes table)
 
 abbrev μ-loop : tie.MeasureT-loop
 μ-loop block line₀ routes₀ table₀ out₀ at₀ held₀ used₀ line routes table out at held used = length block - at
+
+-- an output that is closed is not open
+closed : {P : Type 0} (b : Bool) → not b ≡ true → b ≡ true → P
+closed b n o = absurd (subst T (sym o ∙ not-true b n) tt)
 
 -- what is taken of the block, and how much of the line's buffer is held then
 taken : (c : tie.After-struct-known Inv-loop μ-loop) → (0 < c .before .before .before .gather .result .taken) × (c .before .before .before .before .before .before .before .loop .at + c .before .before .before .gather .result .taken ≤ length (c .before .before .before .before .before .before .before .before .before .before .before .before .before .args .block .now)) × (c .before .before .before .gather .result .held ≤ length (c .before .before .before .before .before .before .before .loop .line))
@@ -30,7 +41,7 @@ taken c =
     (some, omega arith, p .fits)
 
 loop-holds : tie.Need-loop-holds Inv-loop μ-loop
-loop-holds c = search needs
+loop-holds c = (omega arith, c .before .before .before .before .before .pre .1 .1 .within, refl, refl, refl, refl, λ input led. block-first input (c .before .before .before .before .before .args .block .now) _ _ _ _ _ led)
 
 sub-gather : tie.Need-sub-gather Inv-loop μ-loop
 sub-gather c = search needs
@@ -69,19 +80,19 @@ same-length-4 : tie.Need-same-length-4 Inv-loop μ-loop
 same-length-4 c = search needs
 
 returns : tie.Need-returns Inv-loop μ-loop
-returns c = search needs
+returns c = λ input led still. closed (c .before .before .before .before .before .before .before .before .answer .result .«open») (search needs) still
 
 loop-less : tie.Need-loop-less Inv-loop μ-loop
 loop-less c = omega (arith, taken (c .before .before .before .before .before .before .before .before .before .before .before .before .before .before))
 
 loop-again : tie.Need-loop-again Inv-loop μ-loop
-loop-again c = let t = taken (c .before .before .before .before .before .before .before .before .before .before .before .before .before .before) in let i = c .before .before .before .before .before .before .before .before .before .before .before .before .before .before .before .before .before .before .before .before .before .loop .inv in (omega arith, omega arith, search needs, search needs, search needs, search needs)
+loop-again c = let t = taken (c .before .before .before .before .before .before .before .before .before .before .before .before .before .before) in let i = c .before .before .before .before .before .before .before .before .before .before .before .before .before .before .before .before .before .before .before .before .before .loop .inv in (omega arith, omega arith, search needs, search needs, search needs, search needs, λ input led. block-answered input _ _ _ _ _ _ _ (i .6 input led) _ _ _ (c .before .before .before .before .before .before .before .before .before .before .before .before .before .before .before .before .before .gather .ensures) (search needs) _ _ _ (c .before .before .before .before .before .before .before .before .answer .ensures .1))
 
 loop-less-2 : tie.Need-loop-less-2 Inv-loop μ-loop
 loop-less-2 c = omega (arith, taken (c .before))
 
 loop-again-2 : tie.Need-loop-again-2 Inv-loop μ-loop
-loop-again-2 c = let t = taken (c .before) in (omega arith, omega arith, search needs, search needs, search needs, search needs)
+loop-again-2 c = let t = taken (c .before) in let i = c .before .before .before .before .before .before .before .before .loop .inv in (omega arith, omega arith, search needs, search needs, search needs, search needs, λ input led. block-on input _ _ _ _ _ _ _ (i .6 input led) _ _ _ (c .before .before .before .before .gather .ensures) (search needs))
 
 same-length-5 : tie.Need-same-length-5 Inv-loop μ-loop
 same-length-5 c = search needs
@@ -96,7 +107,7 @@ same-length-8 : tie.Need-same-length-8 Inv-loop μ-loop
 same-length-8 c = search needs
 
 returns-2 : tie.Need-returns-2 Inv-loop μ-loop
-returns-2 c = search needs
+returns-2 c = λ input led still. block-done input (c .before .before .before .before .before .before .before .args .block .now) (c .before .loop .at) _ _ _ _ _ (c .before .loop .inv .6 input led) (omega arith)
 
 pub answer-block-spec : {M : Type 1} → statement M
 answer-block-spec =

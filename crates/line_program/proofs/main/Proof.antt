@@ -1,9 +1,18 @@
 -- Each of the five arrays is lent at its length.
-use Prim.Native.Nat.{ℕ}
-use mathlib.Core.Path.{sym}
-use lib.ListN.{length-replicate}
+use Prim.Native.Nat.{ℕ, _<_}
+use mathlib.Core.Path.{_≡_, refl, sym, subst}
+use native.Mathlib.Omega.{arith}
+use lib.ListN.{length-replicate, replicate}
+use Rattle.route.specs.Route.{mostWords}
+use Rattle.table.specs.Sound.{mostOctets}
+use Rattle.lines.specs.Input.{stateOf, firstState}
 use Rattle.line_program.proofs.main.Statement.{statement}
 use Rattle.line_program.proofs.main.Tie as tie
+
+-- the arrays of routes and of the table are the first state
+first-is : stateOf 0 (replicate mostWords 0) (replicate mostOctets 0) ≡ firstState
+unfolding firstState
+first-is = refl
 
 slice-aggregate-run : tie.Need-slice-aggregate-run
 slice-aggregate-run c = sym (length-replicate {A = ℕ} _ 0)
@@ -21,7 +30,7 @@ slice-aggregate-run-5 : tie.Need-slice-aggregate-run-5
 slice-aggregate-run-5 c = sym (length-replicate {A = ℕ} _ 0)
 
 run-requires : tie.Need-run-requires
-run-requires c κs = length-replicate {A = ℕ} _ 0
+run-requires c κs = (subst (λ (n : ℕ). 0 < n) (sym (length-replicate {A = ℕ} 65536 0)) (omega arith), length-replicate {A = ℕ} _ 0, first-is, length-replicate {A = ℕ} _ 0)
 
 returns : tie.Need-returns
 returns c = tt

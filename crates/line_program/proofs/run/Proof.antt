@@ -1,23 +1,35 @@
--- Each turn leaves what is lent at its length, and holds no more of a line than its buffer takes.
+-- At each turn some input leads to what the buffers hold: none at first, and a block more with each turn. What is lent keeps its length.
 use borrow.Author.Needs.{needs}
-use Prim.Native.Nat.{_≤_}
-use mathlib.Core.Path.{_≡_, sym}
+use Prim.Native.Nat.{ℕ, _<_}
+use mathlib.Core.Path.{_≡_, refl, sym, subst}
+use mathlib.Core.List.{[]}
 use native.Mathlib.Omega.{arith}
+use lib.IntN.{ℤ, pos, negsuc}
 use lib.ListN.{length}
-use lib.Seq.{length-take-le}
+use lib.Dec.{T}
+use lib.Signed.{_≤ℤ_}
+use borrow.Author.Tests.{not-false, le-leb}
+use Rattle.io.specs.Counts.{clamped}
+use Rattle.lines.specs.Input.{Led}
+use Rattle.lines.proofs.InputLaws.{led-first}
 use Rattle.line_program.proofs.run.Statement.{statement}
 use Rattle.line_program.proofs.run.Tie as tie
 
 abbrev Inv-loop : tie.InvT-loop
 Inv-loop block₀ line₀ routes₀ table₀ out₀ progress₀ turns₀ block line routes table out progress turns =
-    (progress .held ≤ length line) × (length block ≡ length block₀) × (length line ≡ length line₀) × (length routes ≡ length routes₀) × (length table ≡ length table₀) × (length out ≡ length out₀)
+    (Led line (progress .held) (progress .used) routes table) × (length block ≡ length block₀) × (length line ≡ length line₀) × (length routes ≡ length routes₀) × (length table ≡ length table₀) × (length out ≡ length out₀)
 
 abbrev μ-loop : tie.MeasureT-loop
 μ-loop block₀ line₀ routes₀ table₀ out₀ progress₀ turns₀ block line routes table out progress turns =
     turns
 
+-- a read that brought nothing to a buffer that has room
+none-read : (got : ℤ) (count most : ℕ) → count ≡ clamped got most → count ≡ 0 → 0 < most → got ≤ℤ pos 0
+none-read (pos k) count most e z h = record { le = subst T (sym (le-leb k 0 (omega arith))) tt }
+none-read (negsuc k) count most e z h = record { le = tt }
+
 loop-holds : tie.Need-loop-holds Inv-loop μ-loop
-loop-holds c = search needs
+loop-holds c = (([], led-first _ _ _ (c .before .before .before .before .before .pre .1) (c .before .before .before .before .before .pre .2)), refl, refl, refl, refl, refl)
 
 read-requires : tie.Need-read-requires Inv-loop μ-loop
 read-requires c κs = search needs
@@ -25,14 +37,8 @@ read-requires c κs = search needs
 count-requires : tie.Need-count-requires Inv-loop μ-loop
 count-requires c κs = search needs
 
-slice-reshare-prefix-answer-rest : tie.Need-slice-reshare-prefix-answer-rest Inv-loop μ-loop
-slice-reshare-prefix-answer-rest c = search needs
-
-slice-aggregate-answer-rest : tie.Need-slice-aggregate-answer-rest Inv-loop μ-loop
-slice-aggregate-answer-rest c = sym (length-take-le _ _ (omega arith))
-
 answer-rest-requires : tie.Need-answer-rest-requires Inv-loop μ-loop
-answer-rest-requires c κs = search needs
+answer-rest-requires c κs = (search (none-read, needs), search needs, c .before .before .before .before .before .before .before .before .before .before .before .before .loop .inv .0)
 
 same-length : tie.Need-same-length Inv-loop μ-loop
 same-length c = search needs
@@ -59,7 +65,7 @@ slice-aggregate-answer-block : tie.Need-slice-aggregate-answer-block Inv-loop μ
 slice-aggregate-answer-block c = search needs
 
 answer-block-requires : tie.Need-answer-block-requires Inv-loop μ-loop
-answer-block-requires c κs = search needs
+answer-block-requires c κs = (search needs, c .before .before .before .before .before .before .before .before .before .before .before .before .before .loop .inv .0)
 
 same-length-6 : tie.Need-same-length-6 Inv-loop μ-loop
 same-length-6 c = search needs
@@ -86,7 +92,7 @@ loop-less : tie.Need-loop-less Inv-loop μ-loop
 loop-less c = search needs
 
 loop-again : tie.Need-loop-again Inv-loop μ-loop
-loop-again c = search needs
+loop-again c = ((_, c .before .before .before .before .before .before .before .before .before .before .answer-block .ensures (c .before .before .before .before .before .before .before .before .before .before .before .before .before .before .before .before .before .before .before .before .before .before .before .before .loop .inv .0 .0) (c .before .before .before .before .before .before .before .before .before .before .before .before .before .before .before .before .before .before .before .before .before .before .before .before .loop .inv .0 .1) (not-false (c .before .before .before .before .before .before .before .before .before .before .answer-block .result .«open») (search needs))), search needs, search needs, search needs, search needs, search needs)
 
 same-length-11 : tie.Need-same-length-11 Inv-loop μ-loop
 same-length-11 c = search needs
@@ -115,8 +121,6 @@ run-spec =
     loop-holds
     read-requires
     count-requires
-    slice-reshare-prefix-answer-rest
-    slice-aggregate-answer-rest
     answer-rest-requires
     same-length
     same-length-2
