@@ -14,8 +14,9 @@ use Rattle.octets.specs.Number.{numberAt}
 use Rattle.octets.proofs.Cases.{by-test}
 use Rattle.octets.proofs.Facts.{Octets}
 use Rattle.octets.proofs.NumberLaws.{octets-bits, number-small, number-behind, first-octet}
-use Rattle.prefix.specs.Prefix.{Pattern, bits, patternBits, coversAddress, offsetIn, patternStart, prefixOf}
+use Rattle.prefix.specs.Prefix.{Pattern, bits, patternBits, offsetIn, patternStart, prefixOf}
 use Rattle.prefix.proofs.BitLaws.{between-first, first-of}
+use Rattle.prefix.proofs.ContainLaws.{Alike}
 use Rattle.rule.specs.declared.Family.{Family}
 use Rattle.rule.specs.declared.Expected.{Expected}
 use Rattle.rule.specs.declared.Expected.the-variants.{Kind, Length, Address}
@@ -25,16 +26,6 @@ use Rattle.rule.specs.Plain.{patternAfter, after, plainAddress, clearedOctet, p
 use Rattle.rule.proofs.PlainLaws.{whole-octet, above, after-length, after-length-offset}
 use Rattle.rule.proofs.ClearedLaws.{octets-plain-from}
 use Rattle.rule.proofs.ComponentsLaws.{PrefixBody}
-
--- two patterns that cover the same addresses: they differ past their length at most
-pub record Alike (w : ℕ) (p q : Pattern) : Type 0 where
-  pub offset : p .offset ≡ q .offset
-  pub length : p .length ≡ q .length
-  pub begin : patternBits w p ≡ patternBits w q
-
-pub covers-alike : (w : ℕ) (p q : Pattern) → Alike w p q → (a : ℕ) → coversAddress w p a ≡ coversAddress w q a
-unfolding coversAddress
-covers-alike w p q same a = rw (same .begin, same .offset, same .length)
 
 -- the octet in which the length ends
 last-same : (n left x rest other : ℕ) → left ≤ 8 → rest < 2 ^ (8 * n) → other < 2 ^ (8 * n)

@@ -10,6 +10,7 @@ use Rattle.octets.specs.Test.{every, oneHolds, Each}
 use Rattle.octets.proofs.Cases.{by-test}
 use Rattle.octets.proofs.Facts.{Octets, octet}
 use Rattle.prefix.specs.Prefix.{addressOf}
+use Rattle.prefix.proofs.ContainLaws.{covers-alike}
 use Rattle.rule.specs.declared.Family.{Family}
 use Rattle.rule.specs.declared.Shape.{Shape}
 use Rattle.rule.specs.declared.Expected.the-variants.{Length, Operator}
@@ -30,7 +31,7 @@ use Rattle.packet.specs.PairList.{listHolds}
 use Rattle.packet.specs.Match.{holdsFor, pairHolds, bodyHolds, fieldMatches, fieldsFor, bodyCovers, componentMatches, matches}
 use Rattle.packet.proofs.OperatorLaws.{numeric-alike, mask-alike}
 use Rattle.packet.proofs.PairListLaws.{goesOn, from-first}
-use Rattle.packet.proofs.PatternLaws.{covers-alike, pattern-plain}
+use Rattle.packet.proofs.PatternLaws.{pattern-plain}
 
 -- what clearing keeps of an operator: the bits that choose the test, and the AND of one that is not the first
 numeric-kept : (first : Bool) (x : ℕ) → x < 256 → bitAnd (plainOperator false first x) 7 ≡ bitAnd x 7
