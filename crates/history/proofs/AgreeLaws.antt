@@ -79,8 +79,8 @@ module _ (policy : Policy) where
         let other = valueOf (b .rule) from extent in
         let v = octets-value (a .rule) start size o in
         let w = octets-value (b .rule) from extent p in
-        let first = key-order .only k (keysOf ipv4 (plain value)) (tie _ x) ∙ keys-plain ipv4 value v in
-        let second = key-order .only k (keysOf ipv4 (plain other)) (tie _ y) ∙ keys-plain ipv4 other w in
+        let first = key-order .only k (keysOf ipv4 (plain ipv4 value)) (tie _ x) ∙ keys-plain ipv4 value v in
+        let second = key-order .only k (keysOf ipv4 (plain ipv4 other)) (tie _ y) ∙ keys-plain ipv4 other w in
         let values = keys-only ipv4 4 refl value other v w (one-read ipv4 (a .rule) start size (one .read) .accepted)
         (one-read ipv4 (b .rule) from extent (two .read) .accepted) (sym first ∙ second) in
         let reads : Read actions ≡ Read acts = sym (one .acts) ∙ read ∙ two .acts in

@@ -148,7 +148,7 @@ module _ (policy : Policy) (t : List ℕ) (es : List Entry) (c : Encodes ipv4 t 
     where
       go : (r : Reading) → Same (length t) (withdrawnBy t rule r) (apply keyOrder (entryKey ipv4) cost (length t) (asksToWithdraw rule r) es)
       go (NotRead number place) = record { answers = refl; encodes = c; long = refl }
-      go (Rule start size) = same-withdrawn t es c (keysOf ipv4 (plain (valueOf rule start size)))
+      go (Rule start size) = same-withdrawn t es c (keysOf ipv4 (plain ipv4 (valueOf rule start size)))
 
   same-made : (call : Call) (answer : Change) (left : List ℕ) → CanBe call → Promised policy call t answer left
       → Same (length t) (record { answer = answer; table = left }) (apply keyOrder (entryKey ipv4) cost (length t) (asks policy call) es)

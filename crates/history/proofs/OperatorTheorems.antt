@@ -178,7 +178,7 @@ module _ (policy : Policy) (a : Announcement) where
 
 -- rules with one key are the same rule
 same-rule : (rule other : List ℕ) (start size begin extent : ℕ) → Octets rule → Octets other → oneRule ipv4 rule ≡ Rule start size
-    → oneRule ipv4 other ≡ Rule begin extent → keysOf ipv4 (plain (valueOf rule start size)) ≡ keysOf ipv4 (plain (valueOf other begin extent))
+    → oneRule ipv4 other ≡ Rule begin extent → keysOf ipv4 (plain ipv4 (valueOf rule start size)) ≡ keysOf ipv4 (plain ipv4 (valueOf other begin extent))
     → compareRules rule other ≡ Same
 unfolding compareRules
 same-rule rule other start size begin extent o p found also same =

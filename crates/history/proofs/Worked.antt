@@ -15,46 +15,48 @@ use Rattle.octets.specs.Test.{every, oneHolds, allZero, sameList}
 use Rattle.octets.specs.Walk.{walk}
 use Rattle.octets.proofs.Cases.{by-test, apart, both}
 use Rattle.octets.proofs.Facts.{Octets}
-use Rattle.prefix.specs.Prefix.{bits, contains, prefixOf}
+use Rattle.prefix.specs.Prefix.{bits, contains, prefixOf, coversAddress, prefixOrder}
 use Rattle.rule.specs.declared.Reading.the-variants.{Rule}
-use Rattle.rule.specs.Component.{pairAt, pairsFrom, prefixEnd, bodyEnd, componentAt}
-use Rattle.rule.specs.Operator.{endsList, sizeOf, isPrefix, isBitmask, sizeAllowed}
-use Rattle.rule.specs.Plain.{bodyOf, operandAfter, after, plainOperator, plainOperand, plainAddress, clearedOctet, plainFrom, plain}
+use Rattle.rule.specs.Component.{pairAt, pairsFrom, prefixEnd, bodyEnd, componentAt, leadOf, offsetAt}
+use Rattle.rule.specs.Operator.{endsList, sizeOf}
+use Rattle.rule.specs.Plain.{bodyOf, operandAfter, after, plainOperator, plainOperand, plainAddress, clearedOctet, plainFrom, plain, expectedAtStart, patternAfter, withoutReserved}
 use Rattle.rule.specs.Reading.{fieldSize, fieldLength, firstRule, oneRule, valueOf}
-use Rattle.rule.specs.Value.{componentsFrom, components, checkValue}
+use Rattle.rule.specs.Value.{componentsFrom, components, checkValue, spelled}
 use Rattle.rule.specs.Family.{ipv4}
 use Rattle.order.specs.Key.{bodyKey, keyOf, keysOf, RuleKey, keyOrder}
 use Rattle.order.proofs.KeyLaws.{key-order}
 use Rattle.route.specs.Destination.{destinationFor, destinationAmong, destinationOf}
 use Rattle.route.specs.Feasible.{covers, moreSpecific, longer, matched, bestMatch, undisputed, judged, feasible}
-use Rattle.route.specs.Route.{routeAt, routesOf, plainPrefix, rises, rising, soundRoutes}
+use Rattle.route.specs.Route.{routeAt, routesOf, plainPrefix, rises, rising, soundRoutes, numberInWords, routesFrom}
 use Rattle.action.specs.declared.Reading.the-variants.{Read}
-use Rattle.action.specs.Actions.{kindOf, smallestRate, withRate, withKind, withCommunity, withCommunities, communitiesAt, actionsOf, flagsOf}
+use Rattle.action.specs.Actions.{communitiesAt, actionsOf, flagsOf, ofType, smallest, first, ruleActions}
 use Rattle.action.specs.Given.{smallerOf, firstOf, allowed}
 use Rattle.action.specs.Merging.{merged}
 use Rattle.action.specs.Possible.{couldBe}
-use Rattle.action.specs.Rate.{scaled, wholePart, wholeOf, rateOfParts, rateOf, fitsSignificand, rateGiven}
 use Rattle.packet.specs.Header.{isUnusable, fragmentData}
-use Rattle.packet.specs.Match.{dataFor, holdsFor, bodyHolds, fieldMatches, fieldFor, coversAddress, eitherPort, componentMatches, matches}
-use Rattle.packet.specs.Operator.{numericHolds}
+use Rattle.packet.specs.Match.{holdsFor, bodyHolds, fieldMatches, componentMatches, matches, fieldsFor, bodyCovers}
+use Rattle.packet.specs.Operator.{numericHolds, bitmaskHolds}
 use Rattle.packet.specs.Packet.{fieldsOf, packetOf}
 use Rattle.packet.specs.PairList.{groupsFrom, groups, listHolds}
 use Rattle.packet.specs.Transport.{transportOctets, transportFields}
 use Rattle.entry.specs.Entry.{plainValue, possible, Entry, entryKey}
 use Rattle.entry.specs.Record.{writtenFields, readFields, fieldsOf as entryFieldsOf, recordOf, actionsIn, entryOf, goodRecord}
 use Rattle.table.specs.Change.{holds, removed, hasRoom, inserted, withdrawn}
-use Rattle.table.specs.Lookup.{collected, mergedOnto, verdictOf, verdictFor}
-use Rattle.table.specs.Sound.{joined, tableOf, soundTable}
+use Rattle.table.specs.Lookup.{collected, mergedOnto, verdictOf, verdictFor, firstPlace}
+use Rattle.table.specs.Sound.{joined, tableOf, soundTable, soundness}
 use Rattle.table.specs.Walk.{recordAt, recordsFrom, records, entries}
 use Rattle.flowspec.specs.declared.Change.the-variants.{Done, Refused}
 use Rattle.flowspec.specs.declared.Looked.{Looked}
 use Rattle.flowspec.specs.declared.Request.the-variants.{Announce}
 use Rattle.flowspec.specs.Announce.{changeOf, asked, announcing, withdrawing}
-use Rattle.flowspec.specs.Feasibility.{readWithRoutes, isFeasible}
-use Rattle.flowspec.specs.Look.{seen, lookingUp}
+use Rattle.flowspec.specs.Feasibility.{readWithRoutes, isFeasible, judgement}
+use Rattle.flowspec.specs.Look.{seen, lookingUp, firstMatch, matchPlace}
 use Rattle.flowspec.specs.Told.{lookupTold, done}
 use Rattle.flowspec.specs.Promise.{LooksUp}
 use Rattle.flowspec.proofs.TableLaws.{announce-kept, withdraw-kept}
+use Rattle.rule.specs.Shape.{shapeOf}
+use Rattle.rate.specs.Rate.{scaled, wholePart, wholeOf, rateOfParts, rateOf, fitsSignificand, rateGiven}
+use Rattle.order.specs.Precedence.{bodyOrder, componentOrder, componentsOrder, plainOrder, precedence}
 use Rattle.history.specs.History.{announced, withdrew, deedOf, emptyTable, endOf, lastCounted, inForceAfter, Agree, FromEmpty, HoldsExactly, EndAlike}
 use Rattle.history.specs.Worked.{policy, mail, mailValue, mailSpelled, ping, pingValue, dropping, droppingSpelled, drops, marks, mailEntry, mailTable, pingTable, bothTable, owned, foreign, spelled, pinged, worked, other, mailTo}
 use Rattle.history.proofs.HistoryLaws.{history-holds}
@@ -85,9 +87,9 @@ record Computed : Type 0 where
   pub askedSpelled : asked policy spelled ≡ Announce 2 12 drops true
   pub askedPinged : asked policy pinged ≡ Announce 1 8 marks true
   pub readPing : oneRule ipv4 ping ≡ Rule 1 8
-  pub plainMail : plain mailValue ≡ mailValue
-  pub plainSpelled : plain (valueOf mailSpelled 2 12) ≡ mailValue
-  pub plainPing : plain pingValue ≡ pingValue
+  pub plainMail : plain ipv4 mailValue ≡ mailValue
+  pub plainSpelled : plain ipv4 (valueOf mailSpelled 2 12) ≡ mailValue
+  pub plainPing : plain ipv4 pingValue ≡ pingValue
   pub read : actionsOf dropping ≡ Read drops
   pub readSpelled : actionsOf droppingSpelled ≡ Read drops
   pub differ : isEq (keyOrder (keysOf ipv4 mailValue) (keysOf ipv4 pingValue)) ≡ false
@@ -101,16 +103,18 @@ record Computed : Type 0 where
 
 computed : Computed
 unfolding
-    numberAt octetsOf every oneHolds allZero sameList walk bits contains prefixOf pairAt pairsFrom prefixEnd bodyEnd componentAt endsList sizeOf
-    isPrefix isBitmask sizeAllowed bodyOf operandAfter after plainOperator plainOperand plainAddress clearedOctet plainFrom plain fieldSize
-    fieldLength firstRule oneRule componentsFrom components checkValue bodyKey keyOf keysOf destinationFor destinationAmong destinationOf covers
-    moreSpecific longer matched bestMatch undisputed judged feasible routeAt routesOf plainPrefix rises rising soundRoutes kindOf smallestRate
-    withRate withKind withCommunity withCommunities communitiesAt actionsOf flagsOf smallerOf firstOf allowed merged couldBe scaled wholePart wholeOf
-    rateOfParts rateOf fitsSignificand rateGiven isUnusable fragmentData dataFor holdsFor bodyHolds fieldMatches fieldFor coversAddress eitherPort
-    componentMatches matches numericHolds fieldsOf packetOf groupsFrom groups listHolds transportOctets transportFields plainValue possible
-    writtenFields readFields entryFieldsOf recordOf actionsIn entryOf goodRecord holds removed hasRoom inserted withdrawn collected mergedOnto
-    verdictOf verdictFor joined tableOf soundTable recordAt recordsFrom records entries changeOf asked announcing withdrawing readWithRoutes
-    isFeasible seen lookingUp
+    numberAt octetsOf every oneHolds allZero sameList walk bits coversAddress contains prefixOrder prefixOf pairAt pairsFrom leadOf
+    offsetAt prefixEnd bodyEnd componentAt endsList sizeOf expectedAtStart bodyOf patternAfter operandAfter after withoutReserved
+    plainOperator plainOperand plainAddress clearedOctet plainFrom plain fieldSize fieldLength firstRule oneRule spelled componentsFrom
+    components checkValue bodyKey keyOf keysOf destinationFor destinationAmong destinationOf covers moreSpecific longer matched bestMatch
+    undisputed judged feasible numberInWords routeAt routesFrom routesOf plainPrefix rises rising soundRoutes ofType smallest first
+    ruleActions communitiesAt actionsOf flagsOf firstOf smallerOf allowed merged couldBe isUnusable fragmentData holdsFor bodyHolds
+    fieldMatches fieldsFor bodyCovers componentMatches matches numericHolds bitmaskHolds fieldsOf packetOf groupsFrom groups listHolds
+    transportOctets transportFields plainValue possible writtenFields readFields entryFieldsOf recordOf actionsIn entryOf goodRecord holds
+    removed inserted hasRoom withdrawn collected mergedOnto verdictOf verdictFor firstPlace joined tableOf soundTable soundness recordAt
+    recordsFrom records entries changeOf asked announcing withdrawing readWithRoutes isFeasible judgement seen lookingUp firstMatch
+    matchPlace shapeOf scaled wholePart wholeOf rateOfParts rateOf fitsSignificand rateGiven bodyOrder componentOrder componentsOrder
+    plainOrder precedence
 computed =
     record {
       announces = refl;

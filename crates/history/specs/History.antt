@@ -48,7 +48,7 @@ asksToAnnounce a (Announce start size actions feasible) = announce (announcedEnt
 -- What a withdrawal asks of a table once its rule is read: nothing, where that is refused; else to withdraw the rule.
 abbrev pub asksToWithdraw : List ℕ → Reading → Op RuleKey Entry
 asksToWithdraw rule (NotRead number place) = refuse number
-asksToWithdraw rule (Rule start size) = withdraw (keysOf ipv4 (plain (valueOf rule start size)))
+asksToWithdraw rule (Rule start size) = withdraw (keysOf ipv4 (plain ipv4 (valueOf rule start size)))
 
 -- A call as it was made: what it was given, its answer, and the table's octets after it.
 pub record Made : Type 0 where
