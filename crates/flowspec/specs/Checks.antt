@@ -99,11 +99,12 @@ compareChecks first second =
 abbrev pub compareValues : List ℕ → List ℕ → List ℕ
 compareValues first second = byOrder (precedence ipv4 (valueIn first) (valueIn second)) 1 3 2 ∷ []
 
--- Whether communities are sound, and the actions that they ask for, none where they are not.
+-- Whether communities are sound.
 abbrev pub isSound : ActionsReading → Bool
 isSound (Read actions) = true
 isSound Unsound = false
 
+-- The actions that communities ask for, none where they are unsound.
 abbrev pub actionsIn : ActionsReading → Actions
 actionsIn (Read actions) = actions
 actionsIn Unsound = noActions
@@ -160,9 +161,10 @@ lookupValues table packet =
     let rules = collected (hit ipv4 (fieldsOf packet)) (entries table) in
     length rules ∷ valuesOf (mergedOnto noActions rules)
 
--- Where the first match's record stands, as its start and length, 0 and 0 where there is none.
+-- A place in a table by its start and length.
 abbrev pub placeValues : Place → List ℕ
 placeValues place = place .start ∷ (place .end - place .start) ∷ []
 
+-- Where the first match's record stands, 0 and 0 where there is none.
 abbrev pub firstMatchValues : List ℕ → List ℕ → List ℕ
 firstMatchValues table packet = placeValues (firstPlace (hit ipv4 (fieldsOf packet)) 0 (entries table))

@@ -25,10 +25,11 @@ use Rattle.flowspec.specs.Feasibility.{isFeasible}
 use Rattle.flowspec.specs.Told.{Told}
 use Rattle.flowspec.specs.Checks.{Check, oneToSeven, valueIn, checkRule, endsThere, isSound, entryIn, readChecks, writeChecks, compareChecks, judgeChecks, actionsChecks, announceChecks, withdrawChecks, lookupChecks}
 
--- A test holds; it does not.
+-- A test holds.
 abbrev pub Yes : Bool → Type 0
 Yes test = test ≡ true
 
+-- A test does not hold.
 abbrev pub No : Bool → Type 0
 No test = test ≡ false
 
@@ -78,10 +79,11 @@ pub record ActionsNumbers (communities : List ℕ) (answer : Told) : Type 0 wher
   pub thirteen : (answer .number ≡ 13) ↔ No (isSound (actionsOf communities))
   pub zero : (answer .number ≡ 0) ↔ AllHold (actionsChecks communities)
 
--- What an announcement has passed where the table, the routes and then its rule are in order.
+-- Table and routes are sound, and then.
 abbrev pub SoundBoth : Policy → List ℕ → Type 0 → Type 0
 SoundBoth policy table then = Yes (soundTable ipv4 table) × (Yes (soundRoutes 32 (policy .routes)) × then)
 
+-- One rule is read, and then.
 abbrev pub OneRule : List ℕ → Type 0 → Type 0
 OneRule rule then = Accepts (checkRule rule) × (Yes (endsThere rule) × then)
 
