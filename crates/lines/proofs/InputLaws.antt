@@ -1,7 +1,7 @@
 -- A whole input, and the same in blocks: however the input is cut, gathering and serving print what its lines print, and leave what they
 -- leave. Assumes nothing.
 use mathlib.Core.Path.{_≡_, refl, ap, sym, subst, _∙_}
-use mathlib.Core.Bool.{Bool, true, false, cond}
+use mathlib.Core.Bool.{true, false, cond}
 use mathlib.Core.List.{List, [], _∷_, _++_, append-assoc, append-nil}
 use Prim.Native.Nat.{ℕ, zero, suc, _+_, _-_, _<_, _≤_, min}
 use native.Mathlib.Omega.{arith}
@@ -24,17 +24,18 @@ use Rattle.lines.specs.Answer.{mostText}
 use Rattle.lines.specs.Serve.{Outcome}
 use Rattle.lines.specs.Gather.{gathered}
 use Rattle.lines.specs.Promise.{Serves, Gathers}
-use Rattle.lines.specs.Input.{linesOf, State, stateOf, firstState, lineText, afterLine, linesText, afterLines, outputOf, leftBy, Standing, standing, afterOctet, octetText, afterBlock, blockText, endText, afterEnd, joined, blocksText, standingAfter, Holds, LedBy}
+use Rattle.lines.specs.Input.{linesOf, State, stateOf, firstState, lineText, afterLine, linesText, afterLines, outputOf, leftBy}
+use Rattle.lines.specs.Blocks.{Standing, standing, afterOctet, octetText, afterBlock, blockText, endText, afterEnd, joined, blocksText, standingAfter, Holds, LedBy}
 use Rattle.lines.proofs.CutLaws.{cut-alike}
 use Rattle.lines.proofs.ServeLaws.{front-is}
 
 -- a block in two parts
-pub block-append : (s : Standing) (a b : List ℕ) → afterBlock s (a ++ b) ≡ afterBlock (afterBlock s a) b
+block-append : (s : Standing) (a b : List ℕ) → afterBlock s (a ++ b) ≡ afterBlock (afterBlock s a) b
 unfolding afterBlock
 block-append s [] b = refl
 block-append s (x ∷ a) b = block-append (afterOctet s x) a b
 
-pub text-append : (s : Standing) (a b : List ℕ) → blockText s (a ++ b) ≡ blockText s a ++ blockText (afterBlock s a) b
+text-append : (s : Standing) (a b : List ℕ) → blockText s (a ++ b) ≡ blockText s a ++ blockText (afterBlock s a) b
 unfolding afterBlock blockText
 text-append s [] b = refl
 text-append s (x ∷ a) b = rw (text-append (afterOctet s x) a b) (sym (append-assoc (octetText s x) (blockText (afterOctet s x) a) (blockText (afterBlock (afterOctet s x) a) b)))

@@ -5,4 +5,5 @@ pub mod Answer
 pub mod Serve
 pub mod Gather
 pub mod Input
+pub mod Blocks
 pub mod Promise

@@ -10,7 +10,7 @@ use lib.Dec.{T}
 use borrow.Author.Tests.{not-true}
 use lib.ListN.{length, take, drop, length-take, length-drop}
 use lib.Seq.{length-take-le}
-use Rattle.lines.specs.Input.{LedBy}
+use Rattle.lines.specs.Blocks.{LedBy}
 use Rattle.lines.proofs.GatherLaws.{part-of}
 use Rattle.lines.proofs.InputLaws.{block-first, block-on, block-answered, block-done}
 use Rattle.line_program.proofs.answer_block.Statement.{statement}

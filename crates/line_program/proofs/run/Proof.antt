@@ -10,7 +10,7 @@ use lib.Dec.{T}
 use lib.Signed.{_≤ℤ_}
 use borrow.Author.Tests.{not-false, le-leb}
 use Rattle.io.specs.Counts.{clamped}
-use Rattle.lines.specs.Input.{Led}
+use Rattle.lines.specs.Blocks.{Led}
 use Rattle.lines.proofs.InputLaws.{led-first}
 use Rattle.line_program.proofs.run.Statement.{statement}
 use Rattle.line_program.proofs.run.Tie as tie
