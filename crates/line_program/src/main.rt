@@ -147,7 +147,7 @@ fn run(block: &mut [u8], line: &mut [u8], routes: &mut [u32], table: &mut [u8], 
 fn main() {
     let mut block = [0u8; BLOCK];
     let mut line = [0u8; LINE];
-    let mut routes = [0u32; route::MOST_WORDS];
+    let mut routes = [0u32; lines::MOST_WORDS];
     let mut table = [0u8; table::MOST_OCTETS];
     let mut out = [0u8; lines::MOST_TEXT];
     run(&mut block, &mut line, &mut routes, &mut table, &mut out);

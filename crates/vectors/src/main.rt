@@ -167,9 +167,10 @@ fn check_and_match(octets: &[u8], middle: usize, end: usize)
 
 // 1 where an accepted value matches a packet, 0 where it does not, and 12 where the packet is unusable.
 fn verdict_of(value: &[u8], packet: &[u8]) -> u64 {
-    match packet::packet_of(packet) {
+    let family = rule::ipv4();
+    match packet::packet_of(family, packet) {
         Sight::Unusable => 12,
-        Sight::Usable(seen) => packet::matches_rule(rule::ipv4(), value, seen) as u64,
+        Sight::Usable(seen) => packet::matches_rule(family, value, seen) as u64,
     }
 }
 

@@ -3,7 +3,7 @@ use Prim.Native.Nat.{ℕ, _<_}
 use mathlib.Core.Path.{_≡_, refl, sym, subst}
 use native.Mathlib.Omega.{arith}
 use lib.ListN.{length-replicate, replicate}
-use Rattle.route.specs.Route.{mostWords}
+use Rattle.lines.specs.Serve.{mostWords}
 use Rattle.table.specs.Sound.{mostOctets}
 use Rattle.lines.specs.Input.{stateOf, firstState}
 use Rattle.line_program.proofs.main.Statement.{statement}
