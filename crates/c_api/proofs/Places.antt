@@ -82,7 +82,7 @@ Reads (Rule start size) = Unit {0}
 with-says : (words rule : List ℕ) → Reads (readWithRoutes words rule)
 unfolding readWithRoutes
 with-says words rule =
-    by-test (soundRoutes 32 words) (λ t. rw t (go (oneRule ipv4 rule) (one-says ipv4 rule))) (λ t. rw t (placeless 9 (omega arith) (omega arith)))
+    by-test (soundRoutes ipv4 words) (λ t. rw t (go (oneRule ipv4 rule) (one-says ipv4 rule))) (λ t. rw t (placeless 9 (omega arith) (omega arith)))
   where
     go : (r : Reading) → SaysRule ipv4 rule r → Reads r
     go (NotRead number place) h = h

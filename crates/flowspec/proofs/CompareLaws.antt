@@ -11,6 +11,7 @@ use Rattle.rule.specs.declared.Family.{Family}
 use Rattle.rule.specs.declared.Reading.{Reading}
 use Rattle.rule.specs.declared.Reading.the-variants.{Rule, Refused as NotRead}
 use Rattle.rule.specs.Family.{ipv4}
+use Rattle.rule.specs.Value.{mostValue}
 use Rattle.rule.specs.Reading.{oneRule}
 use Rattle.rule.proofs.ReadingLaws.{ReadRule, one-read}
 use Rattle.rule.proofs.ValueLaws.{accepted-small}
@@ -50,15 +51,15 @@ module _ (a b : List ℕ) (family : Family) (four : family ≡ ipv4) (left right
       second-read = one-read ipv4 b begin extent (second-is ∙ also)
 
       pub compare-both : (which : Order) (answer : Comparison)
-          → which ≡ ordered (precedence ipv4 (take (start + size - start) (drop start a)) (take (begin + extent - begin) (drop begin b)))
+          → which ≡ ordered (precedence family (take (start + size - start) (drop start a)) (take (begin + extent - begin) (drop begin b)))
           → answer ≡ comparisonOf which → ComparesTwo a b answer (a ∷ b ∷ [])
       unfolding compareRules
       compare-both which answer e f =
-          let g = rw (add-sub-cancel-left start size, add-sub-cancel-left begin extent) at e in
+          let g = rw (four, add-sub-cancel-left start size, add-sub-cancel-left begin extent) at e in
           kept a b answer (f ∙ ap comparisonOf g ∙ rw (first-is, read, second-is, also))
 
--- a value that was read has at most 4,096 octets
-pub value-small : (s : List ℕ) (start size : ℕ) → ReadRule ipv4 s start size → length (take (start + size - start) (drop start s)) ≤ 4096
+-- a value that was read has at most 4,095 octets
+pub value-small : (s : List ℕ) (start size : ℕ) → ReadRule ipv4 s start size → length (take (start + size - start) (drop start s)) ≤ mostValue
 value-small s start size r =
     let h = accepted-small ipv4 (take size (drop start s)) (r .accepted) in
     rw (add-sub-cancel-left start size) (omega arith)

@@ -12,6 +12,7 @@ use Rattle.rule.specs.declared.Reading.{Reading}
 use Rattle.rule.specs.declared.Reading.the-variants.{Rule, Refused as NotRead}
 use Rattle.rule.specs.Family.{ipv4}
 use Rattle.rule.specs.Reading.{valueOf, oneRule}
+use Rattle.rule.proofs.FamilyLaws.{ipv4-fits}
 use Rattle.rule.proofs.ReadingLaws.{one-read}
 use Rattle.order.specs.Precedence.{precedence}
 use Rattle.order.proofs.KeyLaws.{equal-ties, tie-equal, precedence-flip, precedence-trans}
@@ -81,7 +82,7 @@ turned a b o p x c =
     record {
       first = c .second;
       second = c .first;
-      is = precedence-flip ipv4 4 refl _ _ (value-octets a o (c .first)) (value-octets b p (c .second)) ∙ ap swap (c .is);
+      is = precedence-flip ipv4 ipv4-fits _ _ (value-octets a o (c .first)) (value-octets b p (c .second)) ∙ ap swap (c .is);
     }
 
 turn : (a b : List ℕ) → Octets a → Octets b → (answer other : Comparison) (kept held : List (List ℕ)) → ComparesTwo a b answer kept
@@ -99,14 +100,14 @@ module _ (a b : List ℕ) (o : Octets a) (p : Octets b) where
           record {
             first = c .first;
             second = c .second;
-            equal = tie-equal ipv4 4 refl _ _ (value-octets a o (c .first)) (value-octets b p (c .second)) (one-read ipv4 a _ _ (c .first .read) .accepted) (one-read ipv4 b _ _ (c .second .read) .accepted) (c .is);
+            equal = tie-equal ipv4 ipv4-fits _ _ (value-octets a o (c .first)) (value-octets b p (c .second)) (one-read ipv4 a _ _ (c .first .read) .accepted) (one-read ipv4 b _ _ (c .second .read) .accepted) (c .is);
           },
       λ s.
           compares .is
           ∙ compared a b Ordering·eq (record {
             first = s .first;
             second = s .second;
-            is = equal-ties ipv4 4 refl _ _ (value-octets a o (s .first)) (value-octets b p (s .second)) (s .equal);
+            is = equal-ties ipv4 ipv4-fits _ _ (value-octets a o (s .first)) (value-octets b p (s .second)) (s .equal);
           }),
     )
 
@@ -131,5 +132,5 @@ first-of-three a b c o p q x y z k l m before after outer e f =
     ∙ compared a c Ordering·lt (record {
       first = u .first;
       second = v .second;
-      is = precedence-trans ipv4 4 refl _ _ _ (value-octets a o (u .first)) (value-octets b p (v .first)) (value-octets c q (v .second)) (rw (one-value b (v .first) (u .second)) (u .is)) (v .is);
+      is = precedence-trans ipv4 ipv4-fits _ _ _ (value-octets a o (u .first)) (value-octets b p (v .first)) (value-octets c q (v .second)) (rw (one-value b (v .first) (u .second)) (u .is)) (v .is);
     })

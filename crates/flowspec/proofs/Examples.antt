@@ -4,35 +4,36 @@ use mathlib.Core.List.{[], _∷_, map}
 use Rattle.octets.specs.Test.{every, oneHolds, sameList}
 use Rattle.octets.specs.Number.{numberAt}
 use Rattle.octets.specs.Walk.{walk}
-use Rattle.prefix.specs.Prefix.{bits, contains, prefixOrder, prefixOf}
-use Rattle.rule.specs.Operator.{endsList, sizeOf, isPrefix, isBitmask, sizeAllowed}
-use Rattle.rule.specs.Component.{pairAt, pairsFrom, prefixEnd, bodyEnd, componentAt}
+use Rattle.prefix.specs.Prefix.{bits, coversAddress, contains, prefixOrder, prefixOf}
+use Rattle.rule.specs.Operator.{endsList, sizeOf}
+use Rattle.rule.specs.Shape.{shapeOf}
+use Rattle.rule.specs.Component.{pairAt, pairsFrom, leadOf, offsetAt, prefixEnd, bodyEnd, componentAt}
 use Rattle.rule.specs.Value.{componentsFrom, components, checkValue}
-use Rattle.rule.specs.Plain.{bodyOf, operandAfter, after, plainOperator, plainOperand, plainAddress, clearedOctet, plainFrom, plain}
+use Rattle.rule.specs.Plain.{expectedAtStart, bodyOf, patternAfter, operandAfter, after, withoutReserved, plainOperator, plainOperand, plainAddress, clearedOctet, plainFrom, plain}
 use Rattle.rule.specs.declared.Reading.the-variants.{Rule}
 use Rattle.rule.specs.Family.{ipv4}
 use Rattle.rule.specs.Reading.{fieldSize, fieldLength, firstRule, oneRule}
 use Rattle.rule.specs.Writing.{lengthField}
-use Rattle.order.specs.Precedence.{bodyOrder, componentOrder, componentsOrder, precedence}
+use Rattle.order.specs.Precedence.{bodyOrder, componentOrder, componentsOrder, plainOrder, precedence}
 use Rattle.rate.specs.Rate.{scaled, wholePart, wholeOf, rateOfParts, rateOf}
 use Rattle.packet.specs.Header.{isUnusable, fragmentData}
 use Rattle.packet.specs.Transport.{transportOctets, transportFields}
 use Rattle.packet.specs.Packet.{fieldsOf, packetOf}
 use Rattle.packet.specs.Operator.{numericHolds}
 use Rattle.packet.specs.PairList.{groupsFrom, groups, listHolds}
-use Rattle.packet.specs.Match.{dataFor, holdsFor, bodyHolds, fieldMatches, fieldsFor, componentMatches, matches}
+use Rattle.packet.specs.Match.{holdsFor, bodyHolds, fieldMatches, fieldsFor, bodyCovers, componentMatches, matches}
 use Rattle.flowspec.specs.Examples.{Example, answerTo, examples}
 
 pub marked : map (λ (e : Example). answerTo (e .asks)) examples ≡ map (λ (e : Example). e .expects) examples
 unfolding
-    answerTo numberAt walk bits sameList contains prefixOrder prefixOf endsList sizeOf isPrefix isBitmask sizeAllowed pairAt pairsFrom prefixEnd bodyEnd componentAt
-    componentsFrom components checkValue bodyOf operandAfter after plainOperator plainOperand plainAddress clearedOctet plainFrom plain fieldSize fieldLength lengthField
-    bodyOrder componentOrder componentsOrder precedence scaled wholePart wholeOf rateOfParts rateOf isUnusable fragmentData transportOctets transportFields fieldsOf packetOf
-    numericHolds every oneHolds groupsFrom groups listHolds dataFor holdsFor bodyHolds fieldMatches fieldsFor componentMatches matches
+    answerTo numberAt walk bits sameList coversAddress contains prefixOrder prefixOf endsList sizeOf shapeOf leadOf offsetAt pairAt pairsFrom prefixEnd bodyEnd componentAt
+    componentsFrom components checkValue expectedAtStart bodyOf patternAfter operandAfter after withoutReserved plainOperator plainOperand plainAddress clearedOctet plainFrom plain fieldSize fieldLength lengthField
+    bodyOrder componentOrder componentsOrder plainOrder precedence scaled wholePart wholeOf rateOfParts rateOf isUnusable fragmentData transportOctets transportFields fieldsOf packetOf
+    numericHolds every oneHolds groupsFrom groups listHolds holdsFor bodyHolds fieldMatches fieldsFor bodyCovers componentMatches matches
 marked = refl
 
 -- **A rule that is accepted**: the announcement of 01's program, a rule of eleven octets behind a length field of one.
 pub accepted : oneRule ipv4 (0x0b ∷ 0x01 ∷ 0x18 ∷ 0xc0 ∷ 0x00 ∷ 0x02 ∷ 0x03 ∷ 0x81 ∷ 0x06 ∷ 0x04 ∷ 0x81 ∷ 0x19 ∷ []) ≡ Rule 1 11
 unfolding
-    oneRule firstRule fieldSize fieldLength checkValue componentsFrom componentAt bodyEnd prefixEnd pairsFrom pairAt endsList sizeOf isPrefix isBitmask sizeAllowed walk
+    oneRule firstRule fieldSize fieldLength checkValue componentsFrom componentAt bodyEnd prefixEnd pairsFrom pairAt endsList sizeOf shapeOf leadOf offsetAt walk
 accepted = refl

@@ -14,7 +14,7 @@ use Rattle.rule.specs.Reading.{valueOf, oneRule}
 use Rattle.rule.proofs.ReadingLaws.{ReadRule, one-read}
 use Rattle.route.specs.declared.Destination.{Destination}
 use Rattle.route.specs.Route.{routesOf, soundRoutes}
-use Rattle.route.specs.Destination.{destinationOf}
+use Rattle.route.specs.Destination.{destinationIn, destinationOf}
 use Rattle.route.specs.Feasible.{feasible}
 use Rattle.flowspec.specs.declared.Feasibility.{Feasibility}
 use Rattle.flowspec.specs.declared.Feasibility.the-variants.{Refused}
@@ -26,28 +26,30 @@ use Rattle.flowspec.proofs.ToldLaws.{judge-tells}
 
 -- reading a rule once the routes are found sound
 module _ (words rule : List ℕ) where
-  pub with-unsound : (sound : Bool) → sound ≡ soundRoutes 32 words → not sound ≡ true → NotRead 9 0 ≡ readWithRoutes words rule
+  pub with-unsound : (sound : Bool) (family : Family) → family ≡ ipv4 → sound ≡ soundRoutes family words → not sound ≡ true → NotRead 9 0 ≡ readWithRoutes words rule
   unfolding readWithRoutes
-  with-unsound sound is h = rw (← is, not-true sound h)
+  with-unsound sound family four is h = let unsound = rw four at (sym is ∙ not-true sound h) in rw unsound
 
-  pub with-sound : (sound : Bool) (family : Family) (reading : Reading) → sound ≡ soundRoutes 32 words → not sound ≡ false → family ≡ ipv4
+  pub with-sound : (sound : Bool) (family : Family) (reading : Reading) → family ≡ ipv4 → sound ≡ soundRoutes family words → not sound ≡ false
       → reading ≡ oneRule family rule → reading ≡ readWithRoutes words rule
   unfolding readWithRoutes
-  with-sound sound family reading is h four read = read ∙ rw (← is, not-false sound h, four)
+  with-sound sound family reading four is h read = let sounds = rw four at (sym is ∙ not-false sound h) in read ∙ rw (sounds, four)
 
   -- a rule that was so read is one that was read
   pub with-routes : (start size : ℕ) → readWithRoutes words rule ≡ Rule start size → oneRule ipv4 rule ≡ Rule start size
   unfolding readWithRoutes
-  with-routes start size e = by-test (soundRoutes 32 words) (λ h. rw h at e) (λ h. let z : NotRead 9 0 ≡ Rule start size = rw h at e in apart (cc))
+  with-routes start size e = by-test (soundRoutes ipv4 words) (λ h. rw h at e) (λ h. let z : NotRead 9 0 ≡ Rule start size = rw h at e in apart (cc))
 
   pub rule-there : (reading : Reading) (start size : ℕ) → reading ≡ readWithRoutes words rule → reading ≡ Rule start size → ReadRule ipv4 rule start size
   rule-there reading start size is e = one-read ipv4 rule start size (with-routes start size (sym is ∙ e))
 
 -- judging a value
-pub value-judged : (policy : Policy) (value : List ℕ) (originator : ℕ) (destination : Destination) (feasibly : Bool) → destination ≡ destinationOf ipv4 value
-    → feasibly ≡ feasible 32 (policy .allowsNoDestination) destination originator (routesOf (policy .routes)) → feasibly ≡ isFeasible policy value originator
+pub value-judged : (policy : Policy) (value : List ℕ) (originator : ℕ) (family : Family) (destination : Destination) (feasibly : Bool) → family ≡ ipv4
+    → destinationIn destination ≡ destinationOf family value
+    → feasibly ≡ feasible (family .width) (policy .allowsNoDestination) (destinationIn destination) originator (routesOf family (policy .routes))
+    → feasibly ≡ isFeasible policy value originator
 unfolding isFeasible
-value-judged policy value originator destination feasibly is says = says ∙ rw is
+value-judged policy value originator family destination feasibly four is says = says ∙ rw (is, four)
 
 module _ (policy : Policy) (rule : List ℕ) (originator : ℕ) (reading : Reading) (read : reading ≡ readWithRoutes (policy .routes) rule) where
   -- a promise from the equation for the answer

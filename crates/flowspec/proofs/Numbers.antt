@@ -8,7 +8,7 @@ use Prim.Native.Nat.{ℕ, _<_, _≤_}
 use native.Mathlib.Omega.{arith}
 use lib.Dec.{ltb, eqb}
 use lib.ListN.{length}
-use borrow.Author.Tests.{ne-eqb, not-false}
+use borrow.Author.Tests.{le-ltb, ne-eqb, not-false}
 use Rattle.octets.proofs.Cases.{by-test, apart}
 use Rattle.rule.specs.declared.Checked.{Checked}
 use Rattle.rule.specs.declared.Checked.the-variants.{Accepted, Refused}
@@ -40,7 +40,7 @@ value-numbered : (v : List ℕ) → Numbered (checkValue ipv4 v)
 unfolding checkValue
 value-numbered v =
     by-test (ltb 4095 (length v)) (λ t. rw t (omega arith, omega arith))
-    (λ t. by-test (eqb (length v) 0) (λ u. rw (t, u) (omega arith, omega arith)) (λ u. rw (t, u) walked))
+    (λ t. by-test (eqb (length v) 0) (λ u. rw (t, u) (omega arith, omega arith)) (λ u. rw (t, u, le-ltb (length v) 0 (omega arith)) walked))
   where
     walked : Numbered (accepts ipv4 v 0 0)
     walked =
@@ -210,7 +210,7 @@ lookup-numbers-of table packet values =
     let unusable = number-at values 12 (λ e. omega arith) cs 1 (refl, (refl, tt)) in
     record {
       ten = number-at values 10 (λ e. omega arith) cs 0 (refl, (refl, tt));
-      twelve = ((λ e. (unusable .0 e .0, not-false (isUnusable packet) (unusable .0 e .1))), (λ b. unusable .1 (b .0, rw (b .1))));
+      twelve = ((λ e. (unusable .0 e .0, not-false (isUnusable ipv4 packet) (unusable .0 e .1))), (λ b. unusable .1 (b .0, rw (b .1))));
       zero = all-hold values cs ((λ h. omega arith), ((λ h. omega arith), tt));
     }
 

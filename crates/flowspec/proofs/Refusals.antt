@@ -22,6 +22,7 @@ use Rattle.rule.specs.Value.{checkValue}
 use Rattle.rule.specs.Reading.{fieldSize, fieldLength, valueOf, oneRule}
 use Rattle.rule.proofs.ClearedLaws.{octets-plain, plain-again}
 use Rattle.rule.proofs.SpellingLaws.{check-plain}
+use Rattle.rule.proofs.FamilyLaws.{ipv4-fits}
 use Rattle.rule.proofs.ReadingLaws.{one-read, one-refused}
 use Rattle.order.specs.Key.{RuleKey, keysOf, keyOrder}
 use Rattle.order.proofs.KeyLaws.{key-order, keys-only}
@@ -84,7 +85,7 @@ unfolding withdrawing
 withdraw-keeps rule t = by-test (soundTable ipv4 t) (λ s. rw s (go (oneRule ipv4 rule))) (λ s. rw s (λ number place h. refl))
   where
     go : (r : Reading) → Keeps t (withdrawnBy t rule r)
-    go (Rule start size) = withdrew t (keysOf ipv4 (plain (valueOf rule start size)))
+    go (Rule start size) = withdrew t (keysOf ipv4 (plain ipv4 (valueOf rule start size)))
     go (NotRead number place) = λ m p h. refl
 
 -- **No refusal but 8 changes an octet**, of the calls by their promises.
@@ -116,36 +117,36 @@ pub record Without (t value exit : List ℕ) : Type 0 where
 -- what taking a value's rule out of a table leaves
 module _ (t : List ℕ) (octets : Octets t) (sound : soundTable ipv4 t ≡ true) (v : List ℕ) (o : Octets v) (ok : checkValue ipv4 v ≡ Accepted) where
   abbrev key : RuleKey
-  key = keysOf ipv4 (plain v)
+  key = keysOf ipv4 (plain ipv4 v)
 
-  taken-out : (NotHeld t (plain v) × (removed ipv4 t key ≡ t)) ⊎ Without t (plain v) (removed ipv4 t key)
+  taken-out : (NotHeld t (plain ipv4 v) × (removed ipv4 t key ≡ t)) ⊎ Without t (plain ipv4 v) (removed ipv4 t key)
   unfolding holds removed
   taken-out = go (lookup keyOrder (entryKey ipv4) key (entries t)) refl
     where
       here : Encodes ipv4 t (entries t)
-      here = encoded t octets sound
+      here = encoded ipv4 t octets sound
 
-      absent : lookup keyOrder (entryKey ipv4) key (entries t) ≡ none → NotHeld t (plain v)
+      absent : lookup keyOrder (entryKey ipv4) key (entries t) ≡ none → NotHeld t (plain ipv4 v)
       absent e x m q =
           let f = in-found keyOrder (entryKey ipv4) key-order x (entries t) (here .rising) m in
           let z : some x ≡ none = sym f ∙ rw q e in
           apart (cc)
 
       go : (l : Option Entry) → lookup keyOrder (entryKey ipv4) key (entries t) ≡ l
-          → (NotHeld t (plain v) × (removed ipv4 t key ≡ t)) ⊎ Without t (plain v) (removed ipv4 t key)
-      go none e = inl (absent e, removed-none t octets sound key (rw e))
+          → (NotHeld t (plain ipv4 v) × (removed ipv4 t key ≡ t)) ⊎ Without t (plain ipv4 v) (removed ipv4 t key)
+      go none e = inl (absent e, removed-none ipv4 t octets sound key (rw e))
       go (some y) e =
           let found = found-in keyOrder (entryKey ipv4) key-order key y (entries t) e in
           let old = is-possible ipv4 y (every-in (possible ipv4) (entries t) (here .each) y (found .0)) .value in
           let split = held-split keyOrder (entryKey ipv4) key (entries t) y e in
           let all : entries t ≡ front keyOrder (entryKey ipv4) key (entries t) ++ y ∷ skip keyOrder (entryKey ipv4) key (rear keyOrder (entryKey ipv4) key (entries t))
           = sym (rw (← split) (front-rear keyOrder (entryKey ipv4) key (entries t))) in
-          let same = keys-only ipv4 4 refl (y .value) (plain v) (value-octets t (entries t) here key y e octets) (octets-plain v o) (old .accepted) (check-plain ipv4 v o ∙ ok) (found .1) in
+          let same = keys-only ipv4 ipv4-fits (y .value) (plain ipv4 v) (value-octets ipv4 t (entries t) here key y e octets) (octets-plain ipv4 v o) (old .accepted) (check-plain ipv4 v o ∙ ok) (found .1) in
           inr (record {
             before = front keyOrder (entryKey ipv4) key (entries t);
             held = y;
             behind = skip keyOrder (entryKey ipv4) key (rear keyOrder (entryKey ipv4) key (entries t));
-            equal = sym (old .spelled) ∙ same ∙ plain-again v o;
+            equal = sym (old .spelled) ∙ same ∙ plain-again ipv4 v o;
             had = all;
             was = here .is ∙ ap (tableOf (length t)) all;
             is = ap (tableOf (length t)) (remove-split keyOrder (entryKey ipv4) key (entries t));
@@ -167,13 +168,13 @@ one-rule-is rule accepts ends = go (oneRule ipv4 rule) refl
 module _ (policy : Policy) (a : Announcement) (t : List ℕ) where
   -- what 8 leaves is the table without the rule
   eight-leaves : SoundBoth policy t (OneRule (a .rule) (Yes (isSound (actionsOf (a .communities))) × No (isFeasible policy (valueIn (a .rule)) (a .originator))))
-      → announcing policy a t .table ≡ removed ipv4 t (keysOf ipv4 (plain (valueIn (a .rule))))
+      → announcing policy a t .table ≡ removed ipv4 t (keysOf ipv4 (plain ipv4 (valueIn (a .rule))))
   unfolding announcing asked readWithRoutes
   eight-leaves (sound, (routes, (accepts, (ends, (acts, not))))) =
       rw (sound, routes, one-rule-is (a .rule) accepts ends) (go (actionsOf (a .communities)) acts)
     where
       go : (c : ActionsReading) → isSound c ≡ true
-          → announcedBy a t (askedBy policy a (Rule (fieldSize (a .rule)) (fieldLength (a .rule))) c) .table ≡ removed ipv4 t (keysOf ipv4 (plain (valueIn (a .rule))))
+          → announcedBy a t (askedBy policy a (Rule (fieldSize (a .rule)) (fieldLength (a .rule))) c) .table ≡ removed ipv4 t (keysOf ipv4 (plain ipv4 (valueIn (a .rule))))
       go (Read actions) e = rw not
       go Unsound e = apart (cc)
 
@@ -181,7 +182,7 @@ module _ (policy : Policy) (a : Announcement) (t : List ℕ) where
   -- it was, and a held one leaves it exactly without that record.
   pub eight-removes : Octets t → Octets (a .rule) → (answer : Change) (exit : List ℕ) (kept : List (List ℕ)) → Announces policy a t answer exit kept
       → changeTold answer .number ≡ 8
-      → (NotHeld t (plain (valueIn (a .rule))) × (exit ≡ t)) ⊎ Without t (plain (valueIn (a .rule))) exit
+      → (NotHeld t (plain ipv4 (valueIn (a .rule))) × (exit ≡ t)) ⊎ Without t (plain ipv4 (valueIn (a .rule))) exit
   eight-removes octets o answer exit kept p e =
       let passed = announce-numbers p .eight .0 e in
       let rule = one-rule-is (a .rule) (passed .1 .1 .0) (passed .1 .1 .1 .0) in

@@ -11,6 +11,7 @@ use Rattle.rule.specs.declared.Reading.the-variants.{Rule}
 use Rattle.rule.specs.Family.{ipv4}
 use Rattle.rule.specs.Plain.{plain}
 use Rattle.rule.specs.Reading.{valueOf, oneRule}
+use Rattle.rule.proofs.FamilyLaws.{ipv4-fits}
 use Rattle.rule.proofs.ReadingLaws.{one-read}
 use Rattle.rule.proofs.ClearedLaws.{octets-plain}
 use Rattle.order.specs.Key.{keysOf}
@@ -35,20 +36,20 @@ abbrev Not11 : Change → Type 0
 Not11 answer = (place : ℕ) → answer ≡ Refused 11 place → ⊥
 
 module _ (policy : Policy) (a : Announcement) (t : List ℕ) (o : Octets t) (octets : Octets (a .rule))
-    (start size : ℕ) (read : oneRule ipv4 (a .rule) ≡ Rule start size) (held : holds ipv4 t (keysOf ipv4 (plain (valueOf (a .rule) start size))) ≡ true) where
+    (start size : ℕ) (read : oneRule ipv4 (a .rule) ≡ Rule start size) (held : holds ipv4 t (keysOf ipv4 (plain ipv4 (valueOf (a .rule) start size))) ≡ true) where
   pub held-not-11 : Not11 (announcing policy a t .answer)
   unfolding announcing asked readWithRoutes changeOf
   held-not-11 =
       by-test (soundTable ipv4 t)
-      (λ sound. rw sound (by-test (soundRoutes 32 (policy .routes)) (λ r. rw (readWithRoutes, r, read) (go sound (actionsOf (a .communities)))) (λ r. rw (readWithRoutes, r) (λ place e. apart (cc)))))
+      (λ sound. rw sound (by-test (soundRoutes ipv4 (policy .routes)) (λ r. rw (readWithRoutes, r, read) (go sound (actionsOf (a .communities)))) (λ r. rw (readWithRoutes, r) (λ place e. apart (cc)))))
       (λ sound. rw sound (λ place e. apart (cc)))
     where
       go : soundTable ipv4 t ≡ true → (acts : ActionsReading) → Not11 (announcedBy a t (askedBy policy a (Rule start size) acts) .answer)
       go sound Unsound = λ place e. apart (cc)
       go sound (Read actions) =
           let v = octets-value (a .rule) start size octets in
-          let done = held-is-done t o sound (announcedEntry a start size actions)
-          (octets-plain (valueOf (a .rule) start size) v) (plain-held (valueOf (a .rule) start size) v (one-read ipv4 (a .rule) start size read .accepted)) held in
+          let done = held-is-done ipv4 t o sound (announcedEntry a start size actions) ipv4-fits
+          (octets-plain ipv4 (valueOf (a .rule) start size) v) (plain-held ipv4 (valueOf (a .rule) start size) v (one-read ipv4 (a .rule) start size read .accepted)) held in
           by-test (isFeasible policy (valueOf (a .rule) start size) (a .originator))
           (λ f. rw (f, done) (λ place e. apart (cc)))
           (λ f. rw f (λ place e. apart (cc)))

@@ -1,18 +1,18 @@
 -- Announcing, withdrawing and looking up: the promises, one law for each way in which the code comes to an answer. Assumes nothing.
 use mathlib.Core.Path.{_≡_, refl, sym, ap, _∙_}
-use mathlib.Core.Bool.{Bool, true, false}
+use mathlib.Core.Bool.{Bool, true}
 use mathlib.Core.List.{List, [], _∷_}
 use Prim.Native.Nat.{ℕ, _+_, _-_, _≤_}
 use native.Mathlib.Omega.{arith}
 use native.Mathlib.Nat.{add-sub-cancel-left}
 use lib.ListN.{length, take, drop}
 use Rattle.octets.proofs.Cases.{by-test, apart}
-use Rattle.sorted.specs.History.{costs}
 use Rattle.rule.specs.declared.Family.{Family}
 use Rattle.rule.specs.declared.Checked.the-variants.{Accepted}
 use Rattle.rule.specs.declared.Reading.{Reading}
 use Rattle.rule.specs.declared.Reading.the-variants.{Rule, Refused as NotRead}
-use Rattle.rule.specs.Family.{ipv4}
+use Rattle.rule.specs.Family.{ipv4, Fits}
+use Rattle.rule.proofs.FamilyLaws.{ipv4-fits}
 use Rattle.rule.specs.Value.{checkValue}
 use Rattle.rule.specs.Plain.{plain}
 use Rattle.rule.specs.Reading.{valueOf, oneRule}
@@ -29,9 +29,11 @@ use Rattle.table.specs.declared.Verdict.{Verdict}
 use Rattle.table.specs.declared.Verdict.the-variants.{Unmatched, Matched}
 use Rattle.table.specs.declared.Place.{Place}
 use Rattle.table.specs.Walk.{entries}
-use Rattle.table.specs.Sound.{cost, soundTable, soundness}
+use Rattle.table.specs.Sound.{soundTable, soundness}
 use Rattle.table.specs.Lookup.{hit, verdictFor, firstPlace}
-use Rattle.table.specs.Change.{announced, withdrawn}
+use Rattle.table.specs.declared.Answer.{Answer}
+use Rattle.table.specs.Change.{announced, withdrawn, Ready, Leaves}
+use Rattle.table.proofs.LeaveLaws.{was-sound, was-ready, was-unsound}
 use Rattle.flowspec.specs.declared.Request.{Request}
 use Rattle.flowspec.specs.declared.Request.the-variants.{Announce, Refused as NotAsked}
 use Rattle.flowspec.specs.declared.Change.{Change}
@@ -39,7 +41,7 @@ use Rattle.flowspec.specs.declared.Change.the-variants.{Refused as NotCh
 use Rattle.flowspec.specs.declared.Looked.{Looked}
 use Rattle.flowspec.specs.declared.Looked.the-variants.{Judged, Refused as NotLookedUp}
 use Rattle.flowspec.specs.declared.MatchPlace.{MatchPlace}
-use Rattle.flowspec.specs.Announce.{announcedEntry, entryFor, Outcome, changeOf, outcome, refusal, asked, announcing, withdrawing}
+use Rattle.flowspec.specs.Announce.{announcedEntry, Outcome, changeOf, outcome, refusal, asked, announcing, withdrawing}
 use Rattle.flowspec.specs.declared.Seen.{Seen}
 use Rattle.flowspec.specs.declared.Seen.the-variants.{Shows, Refused as NotSeen}
 use Rattle.flowspec.specs.Input.{Announcement, Policy}
@@ -49,19 +51,13 @@ use Rattle.flowspec.specs.Promise.{Announces, Withdraws, LooksUp, Locate
 use Rattle.flowspec.proofs.ToldLaws.{announce-tells, withdraw-tells, lookup-tells, locate-tells}
 use Rattle.flowspec.proofs.AskLaws.{asked-rule}
 
--- what the answer on soundness says of a table
-module _ (t : List ℕ) (s : Soundness) (is : s ≡ soundness ipv4 t) where
-  pub was-sound : (used : ℕ) → s ≡ Sound used → (soundTable ipv4 t ≡ true) × (used ≡ costs cost (entries t))
-  unfolding soundness
-  was-sound used e =
-      by-test (soundTable ipv4 t)
-      (λ h. let z : Sound used ≡ Sound (costs cost (entries t)) = sym e ∙ is ∙ rw h in (h, cc))
-      (λ h. let z : Sound used ≡ Unsound = sym e ∙ is ∙ rw h in apart (cc))
+-- the code's family is IPv4
+module _ (family : Family) (four : family ≡ ipv4) where
+  pub four-fits : Fits family
+  four-fits = rw four ipv4-fits
 
-  pub was-unsound : s ≡ Unsound → soundTable ipv4 t ≡ false
-  unfolding soundness
-  was-unsound e =
-      by-test (soundTable ipv4 t) (λ h. let z : Unsound ≡ Sound (costs cost (entries t)) = sym e ∙ is ∙ rw h in apart (cc)) (λ h. h)
+  four-sound : (t : List ℕ) (s : Soundness) → s ≡ soundness family t → s ≡ soundness ipv4 t
+  four-sound t s is = rw four at is
 
 -- ---- announcing ----
 
@@ -73,34 +69,32 @@ module _ (policy : Policy) (a : Announcement) (t : List ℕ) where
       let q : answer ≡ announcing policy a t .answer = rw e h in
       record { is = q; tells = ap changeTold q ∙ announce-tells policy a t; leaves = rw e x; keeps = refl }
 
-  module _ (s : Soundness) (is : s ≡ soundness ipv4 t) where
+  module _ (family : Family) (four : family ≡ ipv4) (s : Soundness) (is : s ≡ soundness family t) where
     pub announce-unsound : s ≡ Unsound → Announces policy a t (NotChanged 10 0) t (policy .routes ∷ a .rule ∷ a .communities ∷ [])
     unfolding announcing
-    announce-unsound e = announce-kept (refusal 10 0 t) _ _ (rw (was-unsound t s is e)) refl refl
+    announce-unsound e = announce-kept (refusal 10 0 t) _ _ (rw (was-unsound ipv4 t s (four-sound family four t s is) e)) refl refl
 
     module _ (used : ℕ) (e : s ≡ Sound used) (request : Request) (asks : request ≡ asked policy a) where
       pub announce-refused : (number place : ℕ) → request ≡ NotAsked number place → Announces policy a t (NotChanged number place) t (policy .routes ∷ a .rule ∷ a .communities ∷ [])
       unfolding announcing
-      announce-refused number place f = announce-kept (refusal number place t) _ _ (rw (was-sound t s is used e .0, ← asks, f)) refl refl
+      announce-refused number place f = announce-kept (refusal number place t) _ _ (rw (was-sound ipv4 t s (four-sound family four t s is) used e .0, ← asks, f)) refl refl
 
       module _ (start size : ℕ) (actions : Actions) (feasible : Bool) (f : request ≡ Announce start size actions feasible) where
         pub announce-rule : ReadRule ipv4 (a .rule) start size
         announce-rule = asked-rule policy a start size actions feasible (sym asks ∙ f)
 
-        pub announce-requires : (soundTable ipv4 t ≡ true) × ((checkValue ipv4 (take (start + size - start) (drop start (a .rule))) ≡ Accepted) × (used ≡ costs cost (entries t)))
+        pub announce-requires : Ready family t used × (checkValue family (take (start + size - start) (drop start (a .rule))) ≡ Accepted)
         announce-requires =
-            let h = was-sound t s is used e in
-            (h .0, (rw (add-sub-cancel-left start size) (announce-rule .accepted), h .1))
+            (was-ready family t s is (four-fits family four) used e, rw (four, add-sub-cancel-left start size) (announce-rule .accepted))
 
-        pub announce-done : (number : ℕ) (answer : Change) (exit : List ℕ)
-            → (number ≡ announced ipv4 t (entryFor (a .originator) actions (take (start + size - start) (drop start (a .rule)))) feasible .number)
-            × (exit ≡ announced ipv4 t (entryFor (a .originator) actions (take (start + size - start) (drop start (a .rule)))) feasible .table)
-            → answer ≡ changeOf number → Announces policy a t answer exit (policy .routes ∷ a .rule ∷ a .communities ∷ [])
+        pub announce-done : (told : Answer) (answer : Change) (exit : List ℕ)
+            → Leaves (announced family t (record { originator = a .originator; actions = actions; value = plain family (take (start + size - start) (drop start (a .rule))) }) feasible) told exit
+            → answer ≡ changeOf (told .number) → Announces policy a t answer exit (policy .routes ∷ a .rule ∷ a .communities ∷ [])
         unfolding announcing
-        announce-done number answer exit h says =
-            let k = rw (add-sub-cancel-left start size) at h in
+        announce-done told answer exit h says =
+            let k = rw (four, add-sub-cancel-left start size) at h in
             announce-kept (outcome (announced ipv4 t (announcedEntry a start size actions) feasible)) answer exit
-            (rw (was-sound t s is used e .0, ← asks, f)) (says ∙ ap changeOf (k .0)) (k .1)
+            (rw (was-sound ipv4 t s (four-sound family four t s is) used e .0, ← asks, f)) (says ∙ ap changeOf (k .number)) (k .table)
 
 -- ---- withdrawing ----
 
@@ -110,35 +104,35 @@ module _ (rule t : List ℕ) where
       let q : answer ≡ withdrawing rule t .answer = rw e a in
       record { is = q; tells = ap changeTold q ∙ withdraw-tells rule t; leaves = rw e x; keeps = refl }
 
-  module _ (s : Soundness) (is : s ≡ soundness ipv4 t) where
+  module _ (family : Family) (four : family ≡ ipv4) (s : Soundness) (is : s ≡ soundness family t) where
     pub withdraw-unsound : s ≡ Unsound → Withdraws rule t (NotChanged 10 0) t (rule ∷ [])
     unfolding withdrawing
-    withdraw-unsound e = withdraw-kept (refusal 10 0 t) _ _ (rw (was-unsound t s is e)) refl refl
+    withdraw-unsound e = withdraw-kept (refusal 10 0 t) _ _ (rw (was-unsound ipv4 t s (four-sound family four t s is) e)) refl refl
 
-    module _ (used : ℕ) (e : s ≡ Sound used) (family : Family) (four : family ≡ ipv4) (reading : Reading) (read-is : reading ≡ oneRule family rule) where
+    module _ (used : ℕ) (e : s ≡ Sound used) (reading : Reading) (read-is : reading ≡ oneRule family rule) where
       found : oneRule ipv4 rule ≡ reading
       found = rw (← four) (sym read-is)
 
       pub withdraw-refused : (number place : ℕ) → reading ≡ NotRead number place → Withdraws rule t (NotChanged number place) t (rule ∷ [])
       unfolding withdrawing
-      withdraw-refused number place f = withdraw-kept (refusal number place t) _ _ (rw (was-sound t s is used e .0, found, f)) refl refl
+      withdraw-refused number place f = withdraw-kept (refusal number place t) _ _ (rw (was-sound ipv4 t s (four-sound family four t s is) used e .0, found, f)) refl refl
 
       module _ (start size : ℕ) (f : reading ≡ Rule start size) where
         pub withdraw-rule : ReadRule ipv4 rule start size
         withdraw-rule = one-read ipv4 rule start size (found ∙ f)
 
-        pub withdraw-requires : (soundTable ipv4 t ≡ true) × ((checkValue ipv4 (take (start + size - start) (drop start rule)) ≡ Accepted) × (used ≡ costs cost (entries t)))
+        pub withdraw-requires : Ready family t used × (checkValue family (take (start + size - start) (drop start rule)) ≡ Accepted)
         withdraw-requires =
-            let h = was-sound t s is used e in
-            (h .0, (rw (add-sub-cancel-left start size) (withdraw-rule .accepted), h .1))
+            (was-ready family t s is (four-fits family four) used e, rw (four, add-sub-cancel-left start size) (withdraw-rule .accepted))
 
-        pub withdraw-done : (number : ℕ) (answer : Change) (exit : List ℕ)
-            → (number ≡ withdrawn ipv4 t (keysOf ipv4 (plain (take (start + size - start) (drop start rule)))) .number)
-            × (exit ≡ withdrawn ipv4 t (keysOf ipv4 (plain (take (start + size - start) (drop start rule)))) .table) → answer ≡ changeOf number → Withdraws rule t answer exit (rule ∷ [])
+        pub withdraw-done : (told : Answer) (answer : Change) (exit : List ℕ)
+            → Leaves (withdrawn family t (keysOf family (plain family (take (start + size - start) (drop start rule))))) told exit
+            → answer ≡ changeOf (told .number) → Withdraws rule t answer exit (rule ∷ [])
         unfolding withdrawing
-        withdraw-done number answer exit h a =
-            let k = rw (add-sub-cancel-left start size) at h in
-            withdraw-kept (outcome (withdrawn ipv4 t (keysOf ipv4 (plain (valueOf rule start size))))) answer exit (rw (was-sound t s is used e .0, found, f)) (a ∙ ap changeOf (k .0)) (k .1)
+        withdraw-done told answer exit h a =
+            let k = rw (four, add-sub-cancel-left start size) at h in
+            withdraw-kept (outcome (withdrawn ipv4 t (keysOf ipv4 (plain ipv4 (valueOf rule start size))))) answer exit
+            (rw (was-sound ipv4 t s (four-sound family four t s is) used e .0, found, f)) (a ∙ ap changeOf (k .number)) (k .table)
 
 -- ---- looking up ----
 
@@ -150,19 +144,22 @@ module _ (t octets : List ℕ) where
   located answer e ordered inside = record { is = e; tells = ap matchPlaceTold e ∙ locate-tells t octets; ordered = ordered; inside = inside; keeps = refl }
 
   -- what is seen
-  module _ (s : Soundness) (is : s ≡ soundness ipv4 t) where
+  module _ (family : Family) (four : family ≡ ipv4) (s : Soundness) (is : s ≡ soundness family t) where
     pub see-unsound : s ≡ Unsound → NotSeen 10 ≡ seen t octets
     unfolding seen
-    see-unsound e = rw (was-unsound t s is e)
+    see-unsound e = rw (was-unsound ipv4 t s (four-sound family four t s is) e)
 
-    module _ (used : ℕ) (e : s ≡ Sound used) (sight : Sight) (shows : sight ≡ packetOf octets) where
+    module _ (used : ℕ) (e : s ≡ Sound used) (sight : Sight) (shows : sight ≡ packetOf family octets) where
+      seen-so : packetOf ipv4 octets ≡ sight
+      seen-so = rw (← four) (sym shows)
+
       pub see-unusable : sight ≡ Unusable → NotSeen 12 ≡ seen t octets
       unfolding seen
-      see-unusable f = rw (was-sound t s is used e .0, ← shows, f)
+      see-unusable f = rw (was-sound ipv4 t s (four-sound family four t s is) used e .0, seen-so, f)
 
       pub see-usable : (packet : Packet) → sight ≡ Usable packet → Shows packet ≡ seen t octets
       unfolding seen
-      see-usable packet f = rw (was-sound t s is used e .0, ← shows, f)
+      see-usable packet f = rw (was-sound ipv4 t s (four-sound family four t s is) used e .0, seen-so, f)
 
   -- a packet is seen where the table is sound
   seen-sound : (packet : Packet) → seen t octets ≡ Shows packet → soundTable ipv4 t ≡ true
@@ -183,19 +180,19 @@ module _ (t octets : List ℕ) where
       pub look-sound : soundTable ipv4 t ≡ true
       look-sound = seen-sound packet (sym is ∙ e)
 
-      pub look-judged : (verdict : Verdict) → verdict ≡ verdictFor ipv4 packet (entries t) → LooksUp t octets (Judged verdict) (t ∷ octets ∷ [])
+      pub look-judged : (family : Family) → family ≡ ipv4 → (verdict : Verdict) → verdict ≡ verdictFor family packet (entries t) → LooksUp t octets (Judged verdict) (t ∷ octets ∷ [])
       unfolding lookingUp
-      look-judged verdict v = look-kept _ (rw (← is, e, v))
+      look-judged family four verdict v = look-kept _ (rw (← is, e, v, four))
 
       -- a lookup that judges a packet is not refused
       judged-done : (verdict : Verdict) → 0 ≡ verdictTold verdict .number
       judged-done Unmatched = refl
       judged-done (Matched actions count) = refl
 
-      pub locate-found : (place : Place) → (place ≡ firstPlace (hit ipv4 packet) 0 (entries t)) × ((place .start ≤ place .end) × (place .end ≤ length t))
+      pub locate-found : (family : Family) → family ≡ ipv4 → (place : Place) → (place ≡ firstPlace (hit family packet) 0 (entries t)) × ((place .start ≤ place .end) × (place .end ≤ length t))
           → LocatesFirst t octets (record { number = 0; start = place .start; end = place .end }) (t ∷ octets ∷ [])
       unfolding matchPlace lookingUp firstMatch
-      locate-found place v = located _ (rw (← is, e, ← v .0, ← judged-done (verdictFor ipv4 packet (entries t)))) (v .1 .0) (v .1 .1)
+      locate-found family four place told = let v = rw four at told in located _ (rw (← is, e, ← v .0, ← judged-done (verdictFor ipv4 packet (entries t)))) (v .1 .0) (v .1 .1)
 
 -- where a first match was located is where it stands
 pub located-at : {t octets : List ℕ} {answer : MatchPlace} {kept : List (List ℕ)} → LocatesFirst t octets answer kept

@@ -5,7 +5,7 @@ use Prim.Native.Nat.{ℕ, _-_, _≤_, Ordering, Ordering·lt, Ordering·eq, Orde
 use native.Mathlib.Omega.{arith}
 use lib.Dec.{leb, ltb, eqb}
 use lib.ListN.{length}
-use borrow.Author.Tests.{lt-ltb, le-ltb, le-leb, lt-leb, ltb-true, ltb-false, eqb-true, eqb-false, ne-eqb}
+use borrow.Author.Tests.{le-leb, lt-leb, ltb-true, ltb-false, eqb-true, eqb-false, ne-eqb}
 use Rattle.octets.specs.Order.{ordered}
 use Rattle.octets.proofs.Cases.{by-test}
 use Rattle.sorted.specs.Table.{byOrder}
@@ -56,17 +56,8 @@ module _ (rule : List ℕ) (cs : List Check) (values : List ℕ) where
       ≡ afterReading (oneRule ipv4 rule) (length values) (told cs values)
   unfolding oneRule firstRule
   read-first =
-      by-test (ltb (length rule) (fieldSize rule))
-      (λ t. let h = ltb-true (length rule) (fieldSize rule) t in rw (t, lt-ltb (length rule) (ruleEnd rule) (omega arith)))
-      (λ t. by-test (ltb (length rule - fieldSize rule) (fieldLength rule))
-      (λ u.
-      let h = ltb-true (length rule - fieldSize rule) (fieldLength rule) u in
-      let k = ltb-false (length rule) (fieldSize rule) t in
-      rw (t, u, lt-ltb (length rule) (ruleEnd rule) (omega arith)))
-      (λ u.
-      let h = ltb-false (length rule - fieldSize rule) (fieldLength rule) u in
-      let k = ltb-false (length rule) (fieldSize rule) t in
-      rw (t, u, le-ltb (length rule) (ruleEnd rule) (omega arith)) (go (omega arith) (checkValue ipv4 (valueIn rule)))))
+      by-test (ltb (length rule) (ruleEnd rule)) (λ t. rw t)
+      (λ t. let h = ltb-false (length rule) (ruleEnd rule) t in rw t (go (omega arith) (checkValue ipv4 (valueIn rule))))
     where
       go : ruleEnd rule ≤ length rule → (c : Checked) → told (oneToSeven c ∷ check (endsThere rule) 15 ∷ cs) values
           ≡ afterReading (alone (length rule) (readAs (fieldSize rule) (fieldLength rule) c)) (length values) (told cs values)
@@ -93,12 +84,12 @@ pub write-tells : (value buffer : List ℕ) → writingTold (writing ipv4 value 
 unfolding writing
 write-tells value buffer = go (checkValue ipv4 value)
   where
-    go : (c : Checked) → writingTold (intoRoom value (length buffer) c)
-        ≡ told (oneToSeven c ∷ check (leb (length (ruleFor value)) (length buffer)) 16 ∷ []) (writeValues value)
+    go : (c : Checked) → writingTold (intoRoom ipv4 value (length buffer) c)
+        ≡ told (oneToSeven c ∷ check (leb (length (ruleFor ipv4 value)) (length buffer)) 16 ∷ []) (writeValues value)
     go Accepted =
-        by-test (ltb (length buffer) (length (ruleFor value)))
-        (λ t. rw (t, lt-leb (length (ruleFor value)) (length buffer) (ltb-true (length buffer) (length (ruleFor value)) t)))
-        (λ t. rw (t, le-leb (length (ruleFor value)) (length buffer) (ltb-false (length buffer) (length (ruleFor value)) t)))
+        by-test (ltb (length buffer) (length (ruleFor ipv4 value)))
+        (λ t. rw (t, lt-leb (length (ruleFor ipv4 value)) (length buffer) (ltb-true (length buffer) (length (ruleFor ipv4 value)) t)))
+        (λ t. rw (t, le-leb (length (ruleFor ipv4 value)) (length buffer) (ltb-false (length buffer) (length (ruleFor ipv4 value)) t)))
     go (RefusedValue number place) = refl
 
 -- ---- comparing ----
@@ -139,7 +130,7 @@ pub judge-tells : (policy : Policy) (rule : List ℕ) (originator : ℕ)
     → feasibilityTold (judgement policy rule originator) ≡ told (judgeChecks policy rule originator) []
 unfolding judgement readWithRoutes
 judge-tells policy rule originator =
-    by-test (soundRoutes 32 (policy .routes))
+    by-test (soundRoutes ipv4 (policy .routes))
     (λ s. rw s (go (oneRule ipv4 rule) refl ∙ sym (read-first rule (check (isFeasible policy (valueIn rule) originator) 8 ∷ []) [])))
     (λ s. rw s)
   where
@@ -165,7 +156,7 @@ module _ (policy : Policy) (a : Announcement) (t : List ℕ) where
   unfolding announcing asked readWithRoutes changeOf
   announce-tells =
       by-test (soundTable ipv4 t)
-      (λ s. by-test (soundRoutes 32 (policy .routes))
+      (λ s. by-test (soundRoutes ipv4 (policy .routes))
       (λ r. rw (s, r) (go (oneRule ipv4 (a .rule)) refl (actionsOf (a .communities)) ∙ sym (read-first (a .rule) (behindRule (actionsOf (a .communities))) [])))
       (λ r. rw (s, r)))
       (λ s. rw s)
@@ -188,15 +179,15 @@ unfolding withdrawing withdrawn changeOf
 withdraw-tells rule t =
     by-test (soundTable ipv4 t)
     (λ s. rw s (go (oneRule ipv4 rule) refl
-    ∙ sym (read-first rule (check (holds ipv4 t (keysOf ipv4 (plain (valueIn rule)))) 14 ∷ []) [])))
+    ∙ sym (read-first rule (check (holds ipv4 t (keysOf ipv4 (plain ipv4 (valueIn rule)))) 14 ∷ []) [])))
     (λ s. rw s)
   where
     go : (r : Reading) → oneRule ipv4 rule ≡ r → changeTold (withdrawnBy t rule r .answer)
-        ≡ afterReading r 0 (told (check (holds ipv4 t (keysOf ipv4 (plain (valueIn rule)))) 14 ∷ []) [])
+        ≡ afterReading r 0 (told (check (holds ipv4 t (keysOf ipv4 (plain ipv4 (valueIn rule)))) 14 ∷ []) [])
     go (NotRead number place) e = refl
     go (Rule start size) e =
         let v = read-value rule start size e in
-        rw (v .0, v .1) (by-test (holds ipv4 t (keysOf ipv4 (plain (valueIn rule)))) (λ h. rw h) (λ h. rw h))
+        rw (v .0, v .1) (by-test (holds ipv4 t (keysOf ipv4 (plain ipv4 (valueIn rule)))) (λ h. rw h) (λ h. rw h))
 
 -- ---- looking up ----
 
@@ -204,7 +195,7 @@ pub lookup-tells : (t packet : List ℕ) → lookupTold (lookingUp t packet) ≡
 unfolding lookingUp seen packetOf verdictFor verdictOf mergedOnto flagsOf
 lookup-tells t packet =
     by-test (soundTable ipv4 t)
-    (λ s. by-test (isUnusable packet) (λ u. rw (s, u)) (λ u. rw (s, u) (go (collected (hit ipv4 (fieldsOf packet)) (entries t)))))
+    (λ s. by-test (isUnusable ipv4 packet) (λ u. rw (s, u)) (λ u. rw (s, u) (go (collected (hit ipv4 (fieldsOf ipv4 packet)) (entries t)))))
     (λ s. rw s)
   where
     go : (rules : List Entry) → lookupTold (Judged (verdictOf (mergedOnto noActions rules) (length rules)))
@@ -216,7 +207,7 @@ pub locate-tells : (t packet : List ℕ) → matchPlaceTold (matchPlace t packet
 unfolding matchPlace lookingUp firstMatch seen packetOf
 locate-tells t packet =
     by-test (soundTable ipv4 t)
-    (λ s. by-test (isUnusable packet) (λ u. rw (s, u)) (λ u. rw (s, u) (go (verdictFor ipv4 (fieldsOf packet) (entries t)))))
+    (λ s. by-test (isUnusable ipv4 packet) (λ u. rw (s, u)) (λ u. rw (s, u) (go (verdictFor ipv4 (fieldsOf ipv4 packet) (entries t)))))
     (λ s. rw s)
   where
     go : (v : Verdict) → _≡_ {A = Told} (record { number = verdictTold v .number; place = 0; values = firstMatchValues t packet }) (done (firstMatchValues t packet))

@@ -54,7 +54,7 @@ refusal number place t = record { answer = NotChanged number place; table = t }
 
 -- The entry for a value: its originator and actions, and the value's plain spelling.
 abbrev pub entryFor : ℕ → Actions → List ℕ → Entry
-entryFor originator actions value = record { originator = originator; actions = actions; value = plain value }
+entryFor originator actions value = record { originator = originator; actions = actions; value = plain ipv4 value }
 
 -- The entry that an announcement asks for, once its rule and its actions are read.
 abbrev pub announcedEntry : Announcement → ℕ → ℕ → Actions → Entry
@@ -72,7 +72,7 @@ announcing policy a t = cond (soundTable ipv4 t) (announcedBy a t (asked policy 
 -- What a withdrawal leaves in a sound table.
 abbrev pub withdrawnBy : List ℕ → List ℕ → Reading → Outcome
 withdrawnBy t rule (NotRead number place) = refusal number place t
-withdrawnBy t rule (Rule start size) = outcome (withdrawn ipv4 t (keysOf ipv4 (plain (valueOf rule start size))))
+withdrawnBy t rule (Rule start size) = outcome (withdrawn ipv4 t (keysOf ipv4 (plain ipv4 (valueOf rule start size))))
 
 -- 01: "withdraw 10, 1 to 7, 15, 14".
 unfoldable pub withdrawing : List ℕ → List ℕ → Outcome

@@ -80,11 +80,11 @@ readValues rule = fieldSize rule ∷ fieldLength rule ∷ []
 
 -- 01: "writer (takes a value) 1 to 7, 16".
 abbrev pub writeChecks : List ℕ → List ℕ → List Check
-writeChecks value buffer = oneToSeven (checkValue ipv4 value) ∷ check (leb (length (ruleFor value)) (length buffer)) 16 ∷ []
+writeChecks value buffer = oneToSeven (checkValue ipv4 value) ∷ check (leb (length (ruleFor ipv4 value)) (length buffer)) 16 ∷ []
 
 -- 01: "answers how many octets it wrote".
 abbrev pub writeValues : List ℕ → List ℕ
-writeValues value = length (ruleFor value) ∷ []
+writeValues value = length (ruleFor ipv4 value) ∷ []
 
 -- 01: "comparing the same, first rule before second".
 abbrev pub compareChecks : List ℕ → List ℕ → List Check
@@ -120,7 +120,7 @@ actionsValues communities = valuesOf (actionsIn (actionsOf communities))
 -- 01: "feasibility alone 9, 1 to 7, 15, 8".
 abbrev pub judgeChecks : Policy → List ℕ → ℕ → List Check
 judgeChecks policy rule originator =
-    check (soundRoutes 32 (policy .routes)) 9
+    check (soundRoutes ipv4 (policy .routes)) 9
     ∷ oneToSeven (checkRule rule)
     ∷ check (endsThere rule) 15
     ∷ check (isFeasible policy (valueIn rule) originator) 8
@@ -134,7 +134,7 @@ entryIn a = entryFor (a .originator) (actionsIn (actionsOf (a .communities))) (v
 abbrev pub announceChecks : Policy → Announcement → List ℕ → List Check
 announceChecks policy a table =
     check (soundTable ipv4 table) 10
-    ∷ check (soundRoutes 32 (policy .routes)) 9
+    ∷ check (soundRoutes ipv4 (policy .routes)) 9
     ∷ oneToSeven (checkRule (a .rule))
     ∷ check (endsThere (a .rule)) 15
     ∷ check (isSound (actionsOf (a .communities))) 13
@@ -148,17 +148,17 @@ withdrawChecks rule table =
     check (soundTable ipv4 table) 10
     ∷ oneToSeven (checkRule rule)
     ∷ check (endsThere rule) 15
-    ∷ check (holds ipv4 table (keysOf ipv4 (plain (valueIn rule)))) 14
+    ∷ check (holds ipv4 table (keysOf ipv4 (plain ipv4 (valueIn rule)))) 14
     ∷ []
 
 -- 01: "lookup 10, 12".
 abbrev pub lookupChecks : List ℕ → List ℕ → List Check
-lookupChecks table packet = check (soundTable ipv4 table) 10 ∷ check (not (isUnusable packet)) 12 ∷ []
+lookupChecks table packet = check (soundTable ipv4 table) 10 ∷ check (not (isUnusable ipv4 packet)) 12 ∷ []
 
 -- 01: "matched with the merged actions and the count collected": the count, then the values of the actions; each is 0 where no rule matches.
 abbrev pub lookupValues : List ℕ → List ℕ → List ℕ
 lookupValues table packet =
-    let rules = collected (hit ipv4 (fieldsOf packet)) (entries table) in
+    let rules = collected (hit ipv4 (fieldsOf ipv4 packet)) (entries table) in
     length rules ∷ valuesOf (mergedOnto noActions rules)
 
 -- A place in a table by its start and length.
@@ -167,4 +167,4 @@ placeValues place = place .start ∷ (place .end - place .start) ∷ []
 
 -- Where the first match's record stands, 0 and 0 where there is none.
 abbrev pub firstMatchValues : List ℕ → List ℕ → List ℕ
-firstMatchValues table packet = placeValues (firstPlace (hit ipv4 (fieldsOf packet)) 0 (entries table))
+firstMatchValues table packet = placeValues (firstPlace (hit ipv4 (fieldsOf ipv4 packet)) 0 (entries table))

@@ -40,4 +40,4 @@ pub record IsRule (octets : List ℕ) : Type 0 where
 pub record SameRule (a b : List ℕ) : Type 0 where
   pub first : IsRule a
   pub second : IsRule b
-  pub equal : plain (valueOf a (first .start) (first .size)) ≡ plain (valueOf b (second .start) (second .size))
+  pub equal : plain ipv4 (valueOf a (first .start) (first .size)) ≡ plain ipv4 (valueOf b (second .start) (second .size))

@@ -57,7 +57,7 @@ answerTo (lengthRead s) = fieldSize s ∷ fieldLength s ∷ []
 answerTo (value v) = checkedAs (checkValue ipv4 v)
 answerTo (order v w) = comparisonTold (comparisonOf (ordered (precedence ipv4 v w))) .values
 answerTo (rate single) = ratedAs (rateOf single)
-answerTo (match v packet) = matchedAs v (packetOf packet)
+answerTo (match v packet) = matchedAs v (packetOf ipv4 packet)
 
 -- A UDP packet of 28 octets from 192.0.2.1 to 192.0.2.2, with these ports, each below 256.
 abbrev pub udp : ℕ → ℕ → List ℕ

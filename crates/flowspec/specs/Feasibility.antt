@@ -15,12 +15,12 @@ use Rattle.flowspec.specs.Input.{Policy}
 
 -- 01: "9, 1 to 7, 15": unsound routes are refused before the rule is read.
 unfoldable pub readWithRoutes : List ℕ → List ℕ → Reading
-readWithRoutes routes rule = cond (soundRoutes 32 routes) (oneRule ipv4 rule) (NotRead 9 0)
+readWithRoutes routes rule = cond (soundRoutes ipv4 routes) (oneRule ipv4 rule) (NotRead 9 0)
 
 -- An accepted value is feasible where its destination is, for this originator and by this policy.
 unfoldable pub isFeasible : Policy → List ℕ → ℕ → Bool
 isFeasible policy value originator =
-    feasible 32 (policy .allowsNoDestination) (destinationOf ipv4 value) originator (routesOf (policy .routes))
+    feasible (ipv4 .width) (policy .allowsNoDestination) (destinationOf ipv4 value) originator (routesOf ipv4 (policy .routes))
 
 -- Infeasible is refusal 8.
 abbrev pub feasibilityOf : Bool → Feasibility

@@ -25,7 +25,7 @@ shown (Usable packet) = Shows packet
 
 -- 01: "lookup 10, 12": what the packet shows, or the number of the refusal.
 unfoldable pub seen : List ℕ → List ℕ → Seen
-seen t octets = cond (soundTable ipv4 t) (shown (packetOf octets)) (NotSeen 10)
+seen t octets = cond (soundTable ipv4 t) (shown (packetOf ipv4 octets)) (NotSeen 10)
 
 -- What a table says of a packet.
 abbrev pub lookedUp : List ℕ → Seen → Looked

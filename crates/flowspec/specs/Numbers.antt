@@ -54,7 +54,7 @@ pub record ReadNumbers (rule : List ℕ) (answer : Told) : Type 0 where
 -- Writing one rule.
 pub record WriteNumbers (value buffer : List ℕ) (answer : Told) : Type 0 where
   pub one-to-seven : OneToSeven answer (λ number place. checkValue ipv4 value ≡ Refused number place)
-  pub sixteen : (answer .number ≡ 16) ↔ (Accepts (checkValue ipv4 value) × No (leb (length (ruleFor value)) (length buffer)))
+  pub sixteen : (answer .number ≡ 16) ↔ (Accepts (checkValue ipv4 value) × No (leb (length (ruleFor ipv4 value)) (length buffer)))
   pub zero : (answer .number ≡ 0) ↔ AllHold (writeChecks value buffer)
 
 -- Comparing two rules.
@@ -67,11 +67,11 @@ pub record CompareNumbers (first second : List ℕ) (answer : Told) : Type 0 whe
 
 -- Judging one rule.
 pub record JudgeNumbers (policy : Policy) (rule : List ℕ) (originator : ℕ) (answer : Told) : Type 0 where
-  pub nine : (answer .number ≡ 9) ↔ No (soundRoutes 32 (policy .routes))
-  pub one-to-seven : OneToSeven answer (λ number place. Yes (soundRoutes 32 (policy .routes)) × (checkRule rule ≡ Refused number place))
-  pub fifteen : (answer .number ≡ 15) ↔ (Yes (soundRoutes 32 (policy .routes)) × (Accepts (checkRule rule) × No (endsThere rule)))
+  pub nine : (answer .number ≡ 9) ↔ No (soundRoutes ipv4 (policy .routes))
+  pub one-to-seven : OneToSeven answer (λ number place. Yes (soundRoutes ipv4 (policy .routes)) × (checkRule rule ≡ Refused number place))
+  pub fifteen : (answer .number ≡ 15) ↔ (Yes (soundRoutes ipv4 (policy .routes)) × (Accepts (checkRule rule) × No (endsThere rule)))
   pub eight : (answer .number ≡ 8)
-      ↔ (Yes (soundRoutes 32 (policy .routes)) × (Accepts (checkRule rule) × (Yes (endsThere rule) × No (isFeasible policy (valueIn rule) originator))))
+      ↔ (Yes (soundRoutes ipv4 (policy .routes)) × (Accepts (checkRule rule) × (Yes (endsThere rule) × No (isFeasible policy (valueIn rule) originator))))
   pub zero : (answer .number ≡ 0) ↔ AllHold (judgeChecks policy rule originator)
 
 -- Reading actions.
@@ -81,7 +81,7 @@ pub record ActionsNumbers (communities : List ℕ) (answer : Told) : Type 0 wher
 
 -- Table and routes are sound, and then.
 abbrev pub SoundBoth : Policy → List ℕ → Type 0 → Type 0
-SoundBoth policy table then = Yes (soundTable ipv4 table) × (Yes (soundRoutes 32 (policy .routes)) × then)
+SoundBoth policy table then = Yes (soundTable ipv4 table) × (Yes (soundRoutes ipv4 (policy .routes)) × then)
 
 -- One rule is read, and then.
 abbrev pub OneRule : List ℕ → Type 0 → Type 0
@@ -90,7 +90,7 @@ OneRule rule then = Accepts (checkRule rule) × (Yes (endsThere rule) × then)
 -- Announcing.
 pub record AnnounceNumbers (policy : Policy) (a : Announcement) (table : List ℕ) (answer : Told) : Type 0 where
   pub ten : (answer .number ≡ 10) ↔ No (soundTable ipv4 table)
-  pub nine : (answer .number ≡ 9) ↔ (Yes (soundTable ipv4 table) × No (soundRoutes 32 (policy .routes)))
+  pub nine : (answer .number ≡ 9) ↔ (Yes (soundTable ipv4 table) × No (soundRoutes ipv4 (policy .routes)))
   pub one-to-seven : OneToSeven answer (λ number place. SoundBoth policy table (checkRule (a .rule) ≡ Refused number place))
   pub fifteen : (answer .number ≡ 15) ↔ SoundBoth policy table (Accepts (checkRule (a .rule)) × No (endsThere (a .rule)))
   pub thirteen : (answer .number ≡ 13) ↔ SoundBoth policy table (OneRule (a .rule) (No (isSound (actionsOf (a .communities)))))
@@ -107,11 +107,11 @@ pub record WithdrawNumbers (rule table : List ℕ) (answer : Told) : Type 0 wher
   pub one-to-seven : OneToSeven answer (λ number place. Yes (soundTable ipv4 table) × (checkRule rule ≡ Refused number place))
   pub fifteen : (answer .number ≡ 15) ↔ (Yes (soundTable ipv4 table) × (Accepts (checkRule rule) × No (endsThere rule)))
   pub fourteen : (answer .number ≡ 14)
-      ↔ (Yes (soundTable ipv4 table) × OneRule rule (No (holds ipv4 table (keysOf ipv4 (plain (valueIn rule))))))
+      ↔ (Yes (soundTable ipv4 table) × OneRule rule (No (holds ipv4 table (keysOf ipv4 (plain ipv4 (valueIn rule))))))
   pub zero : (answer .number ≡ 0) ↔ AllHold (withdrawChecks rule table)
 
 -- Looking up, and finding the first match.
 pub record LookupNumbers (table packet : List ℕ) (answer : Told) : Type 0 where
   pub ten : (answer .number ≡ 10) ↔ No (soundTable ipv4 table)
-  pub twelve : (answer .number ≡ 12) ↔ (Yes (soundTable ipv4 table) × Yes (isUnusable packet))
+  pub twelve : (answer .number ≡ 12) ↔ (Yes (soundTable ipv4 table) × Yes (isUnusable ipv4 packet))
   pub zero : (answer .number ≡ 0) ↔ AllHold (lookupChecks table packet)

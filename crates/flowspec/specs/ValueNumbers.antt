@@ -11,13 +11,16 @@ use lib.ListN.{length, getD}
 use Rattle.rule.specs.declared.Next.the-variants.{Another}
 use Rattle.rule.specs.declared.NextPair.the-variants.{More}
 use Rattle.rule.specs.Family.{ipv4}
-use Rattle.rule.specs.Operator.{sizeOf, isPrefix, sizeAllowed}
+use Rattle.rule.specs.declared.Shape.{Shape}
+use Rattle.rule.specs.Shape.{shapeOf}
+use Rattle.rule.specs.Operator.{sizeOf}
 use Rattle.rule.specs.Component.{pairAt, componentAt}
+use Rattle.rule.specs.Value.{mostValue}
 use Rattle.flowspec.specs.Checks.{ruleEnd, valueIn}
 
 -- In a value of 1 to 4,095 octets a component begins, or the value ends, at a place; the component before it is of the type `previous`, 0 at the start.
 pub data Begins (v : List ℕ) : ℕ → ℕ → Type 0 where
-  first : 1 ≤ length v → length v ≤ 4095 → Begins v 0 0
+  first : 1 ≤ length v → length v ≤ mostValue → Begins v 0 0
   next : {at previous kind behind : ℕ} → Begins v at previous → componentAt ipv4 v at previous ≡ Another kind behind → Begins v behind kind
 
 -- The type octet at a place is 0 or above 12.
@@ -36,26 +39,30 @@ pub record Opens (v : List ℕ) (at : ℕ) : Type 0 where
 abbrev pub typeAt : List ℕ → ℕ → ℕ
 typeAt v at = getD v at 0
 
+-- What the body of that type is.
+abbrev pub shapeAt : List ℕ → ℕ → Shape
+shapeAt v at = shapeOf ipv4 (typeAt v at)
+
 -- In the list of the component at `at` an operator is to stand at a place: the first behind the type octet, each other behind the pair before it.
 pub data Operator (v : List ℕ) (at : ℕ) : ℕ → Type 0 where
   first : Operator v at (at + 1)
-  next : {place behind : ℕ} → Operator v at place → pairAt (typeAt v at) v place ≡ More behind → Operator v at behind
+  next : {place behind : ℕ} → Operator v at place → pairAt (shapeAt v at .largest) v place ≡ More behind → Operator v at behind
 
 -- A prefix is cut short: no length octet, or fewer octets behind it than it says.
 abbrev pub PrefixCut : List ℕ → ℕ → Type 0
 PrefixCut v at = (length v ≤ at) ⊎ ((at < length v) × ((getD v at 0 ≤ 32) × (length v - (at + 1) < (getD v at 0 + 7) / 8)))
 
--- A pair of a type is cut short: no operator, or fewer octets behind it than it says, of a size that the type allows.
+-- A pair, of values of at most `largest` octets, is cut short: no operator, or fewer octets behind it than it says, of a size that the type allows.
 abbrev pub PairCut : ℕ → List ℕ → ℕ → Type 0
-PairCut kind v at =
+PairCut largest v at =
     (length v ≤ at)
-    ⊎ ((at < length v) × ((sizeAllowed kind (sizeOf (getD v at 0)) ≡ true) × (length v - (at + 1) < sizeOf (getD v at 0))))
+    ⊎ ((at < length v) × ((sizeOf (getD v at 0) ≤ largest) × (length v - (at + 1) < sizeOf (getD v at 0))))
 
 -- A value is refused with a number at a place. 01: "3 to 7 carry a place in the value: the type octet (3, 4), the length octet (5), the operator (7),
 -- the value's end (6)"; "at one octet 3 precedes 4, and 7 precedes 6".
 pub data ValueRefused (v : List ℕ) : ℕ → ℕ → Type 0 where
   -- "value over 4,095"
-  one : 4095 < length v → ValueRefused v 1 0
+  one : mostValue < length v → ValueRefused v 1 0
   -- "value of length 0"
   two : length v ≡ 0 → ValueRefused v 2 0
   -- "component type 0 or above 12"
@@ -64,14 +71,14 @@ pub data ValueRefused (v : List ℕ) : ℕ → ℕ → Type 0 where
   four : {place previous : ℕ} → Begins v place previous → place < length v → unknownType v place ≡ false → getD v place 0 ≤ previous
       → ValueRefused v 4 place
   -- "prefix length above 32"
-  five : {at : ℕ} → Opens v at → isPrefix (typeAt v at) ≡ true → at + 1 < length v → 32 < getD v (at + 1) 0 → ValueRefused v 5 (at + 1)
+  five : {at : ℕ} → Opens v at → shapeAt v at .prefix ≡ true → at + 1 < length v → 32 < getD v (at + 1) 0 → ValueRefused v 5 (at + 1)
   -- "value ends inside a component", a prefix or a list
-  six-prefix : {at : ℕ} → Opens v at → isPrefix (typeAt v at) ≡ true → PrefixCut v (at + 1) → ValueRefused v 6 (length v)
-  six-list : {at place : ℕ} → Opens v at → isPrefix (typeAt v at) ≡ false → Operator v at place → PairCut (typeAt v at) v place
+  six-prefix : {at : ℕ} → Opens v at → shapeAt v at .prefix ≡ true → PrefixCut v (at + 1) → ValueRefused v 6 (length v)
+  six-list : {at place : ℕ} → Opens v at → shapeAt v at .prefix ≡ false → Operator v at place → PairCut (shapeAt v at .largest) v place
       → ValueRefused v 6 (length v)
   -- "size not allowed for the type"
-  seven : {at place : ℕ} → Opens v at → isPrefix (typeAt v at) ≡ false → Operator v at place → place < length v
-      → sizeAllowed (typeAt v at) (sizeOf (getD v place 0)) ≡ false → ValueRefused v 7 place
+  seven : {at place : ℕ} → Opens v at → shapeAt v at .prefix ≡ false → Operator v at place → place < length v
+      → shapeAt v at .largest < sizeOf (getD v place 0) → ValueRefused v 7 place
 
 -- A rule is refused so: 1 where its "length field or value runs past the bytes", and else as its value is.
 abbrev pub RuleRefused : List ℕ → ℕ → ℕ → Type 0

@@ -9,6 +9,7 @@ ghost use Rattle.flowspec.specs.Promise.{ReadsOne, WritesOne, ComparesTw
 ghost use Rattle.flowspec.specs.Announce.{changeOf, asked};
 ghost use Rattle.flowspec.specs.Look.{seen};
 use action::Actions;
+use entry::Head;
 use octets::Order;
 use packet::Packet;
 use packet::Sight;
@@ -113,7 +114,11 @@ pub fn compare_rules(first: &[u8], second: &[u8]) -> Comparison
             } => {
                 let end = start + size;
                 let stop = begin + length;
-                comparison_of(order::compare_values(&first[start..end], &second[begin..stop]))
+                comparison_of(order::compare_values(
+                    family,
+                    &first[start..end],
+                    &second[begin..stop],
+                ))
             }
         },
     }
@@ -123,21 +128,29 @@ pub fn compare_rules(first: &[u8], second: &[u8]) -> Comparison
 fn read_with_routes(routes: &[u32], rule: &[u8]) -> Reading
     ensures { λ r. ⌜ r ≡ readWithRoutes (now (routes .entry)) (now (rule .entry)) ⌝ }
 {
-    if !route::sound_routes(routes) {
+    let family = rule::ipv4();
+    if !route::sound_routes(family, routes) {
         return Reading::Refused {
             number: 9,
             place: 0,
         };
     }
-    rule::one_rule(rule::ipv4(), rule)
+    rule::one_rule(family, rule)
 }
 
 // Whether an accepted value is feasible for an originator by the lent routes.
 fn is_feasible(allows_no_destination: bool, routes: &[u32], value: &[u8], originator: u32) -> bool
     ensures { λ r. ⌜ r ≡ isFeasible (policyOf (now (routes .entry)) «allows_no_destination») (now (value .entry)) originator ⌝ }
 {
-    let destination = route::destination_of(value);
-    route::is_feasible(allows_no_destination, destination, originator, routes)
+    let family = rule::ipv4();
+    let destination = route::destination_of(family, value);
+    route::is_feasible(
+        family,
+        allows_no_destination,
+        destination,
+        originator,
+        routes,
+    )
 }
 
 // What is answered of a rule that was judged: infeasible is refusal 8.
@@ -240,7 +253,8 @@ pub fn announce(
 ) -> Change
     ensures { λ r. ⌜ Announces (policyOf (now (routes .entry)) «allows_no_destination») (announcementOf (now (rule .entry)) originator (now (communities .entry))) (now (table .entry)) r (now (table .exit)) (now (routes .exit) ∷ now (rule .exit) ∷ now (communities .exit) ∷ []) ⌝ }
 {
-    match table::sound_table(table) {
+    let family = rule::ipv4();
+    match table::sound_table(family, table) {
         Soundness::Unsound => Change::Refused {
             number: 10,
             place: 0,
@@ -260,14 +274,19 @@ pub fn announce(
                 feasible,
             } => {
                 let end = start + size;
-                change_of(table::announce_value(
-                    table,
-                    used,
+                let head = Head {
                     originator,
                     actions,
+                };
+                let answer = table::announce_value(
+                    family,
+                    table,
+                    used,
+                    head,
                     feasible,
                     &rule[start..end],
-                ))
+                );
+                change_of(answer.number)
             }
         },
     }
@@ -277,16 +296,18 @@ pub fn announce(
 pub fn withdraw(table: &mut [u8], rule: &[u8]) -> Change
     ensures { λ r. ⌜ Withdraws (now (rule .entry)) (now (table .entry)) r (now (table .exit)) (now (rule .exit) ∷ []) ⌝ }
 {
-    match table::sound_table(table) {
+    let family = rule::ipv4();
+    match table::sound_table(family, table) {
         Soundness::Unsound => Change::Refused {
             number: 10,
             place: 0,
         },
-        Soundness::Sound(used) => match rule::one_rule(rule::ipv4(), rule) {
+        Soundness::Sound(used) => match rule::one_rule(family, rule) {
             Reading::Refused { number, place } => Change::Refused { number, place },
             Reading::Rule { start, size } => {
                 let end = start + size;
-                change_of(table::withdraw_value(table, used, &rule[start..end]))
+                let answer = table::withdraw_value(family, table, used, &rule[start..end]);
+                change_of(answer.number)
             }
         },
     }
@@ -296,9 +317,10 @@ pub fn withdraw(table: &mut [u8], rule: &[u8]) -> Change
 fn see(table: &[u8], packet: &[u8]) -> Seen
     ensures { λ r. ⌜ r ≡ seen (now (table .entry)) (now (packet .entry)) ⌝ }
 {
-    match table::sound_table(table) {
+    let family = rule::ipv4();
+    match table::sound_table(family, table) {
         Soundness::Unsound => Seen::Refused(10),
-        Soundness::Sound(_) => match packet::packet_of(packet) {
+        Soundness::Sound(_) => match packet::packet_of(family, packet) {
             Sight::Unusable => Seen::Refused(12),
             Sight::Usable(sight) => Seen::Shows(sight),
         },
@@ -311,7 +333,7 @@ pub fn lookup(table: &[u8], packet: &[u8]) -> Looked
 {
     match see(table, packet) {
         Seen::Refused(number) => Looked::Refused { number, place: 0 },
-        Seen::Shows(sight) => Looked::Judged(table::look_up(table, sight)),
+        Seen::Shows(sight) => Looked::Judged(table::look_up(rule::ipv4(), table, sight)),
     }
 }
 
@@ -326,7 +348,7 @@ pub fn first_match_place(table: &[u8], packet: &[u8]) -> MatchPlace
             end: 0,
         },
         Seen::Shows(sight) => {
-            let place = table::first_place(table, sight);
+            let place = table::first_place(rule::ipv4(), table, sight);
             MatchPlace {
                 number: 0,
                 start: place.start,

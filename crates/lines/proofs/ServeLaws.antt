@@ -12,7 +12,6 @@ use borrow.Author.Tests.{le-leb, lt-leb, leb-true, not-true, not-false}
 use Rattle.octets.proofs.Cases.{by-test, apart, both}
 use Rattle.rule.specs.Value.{between}
 use Rattle.octets.specs.Store.{stored}
-use Rattle.route.specs.Route.{mostWords}
 use Rattle.flowspec.specs.declared.Change.{Change}
 use Rattle.flowspec.specs.Input.{announcementOf, policyOf}
 use Rattle.flowspec.specs.Announce.{announcing, withdrawing, Outcome as Changed}
@@ -27,7 +26,7 @@ use Rattle.lines.specs.declared.Form.{Form}
 use Rattle.lines.specs.declared.Form.the-variants.{Route, Announce, Withdraw, Listing, Unknown}
 use Rattle.lines.specs.Line.{Line, other, lineOf, mostSigns}
 use Rattle.lines.specs.Form.{formSays, FormIn, Says}
-use Rattle.lines.specs.Serve.{Outcome, routeFits, printing, changing, adding, servedAs, served, Changes, Adds, servedTold}
+use Rattle.lines.specs.Serve.{Outcome, mostWords, routeFits, printing, changing, adding, servedAs, served, Changes, Adds, servedTold}
 use Rattle.lines.specs.Promise.{Serves}
 use Rattle.lines.proofs.CutLaws.{too-long}
 

@@ -1,12 +1,13 @@
 -- What serving a line prints and leaves. The routes stand in a buffer of words, four a route, of which the first `used` are in use.
-use Prim.Native.Nat.{ℕ, _+_, _≤_}
+use Prim.Native.Nat.{ℕ, _+_, _*_, _≤_}
 use mathlib.Core.Path.{_≡_}
 use mathlib.Core.Bool.{Bool, false, cond, _&&_}
 use mathlib.Core.List.{List, [], _∷_}
 use lib.Dec.{leb}
 use lib.ListN.{length, take}
 use Rattle.octets.specs.Store.{stored}
-use Rattle.route.specs.Route.{mostWords}
+use Rattle.rule.specs.Family.{ipv4}
+use Rattle.route.specs.Route.{mostRoutes}
 use Rattle.flowspec.specs.Input.{announcementOf, policyOf}
 use Rattle.flowspec.specs.Announce.{announcing, withdrawing, Outcome as Changed}
 use Rattle.flowspec.specs.Told.{changeTold}
@@ -21,6 +22,10 @@ pub record Outcome : Type 0 where
   pub used : ℕ
   pub routes : List ℕ
   pub table : List ℕ
+
+-- 01: "at most 4,096 routes", in words.
+abbrev pub mostWords : ℕ
+mostWords = mostRoutes * ipv4 .words
 
 -- There is room for a route behind the words in use: it is not past the 4,096, nor past the buffer's end.
 abbrev pub routeFits : ℕ → List ℕ → Bool

@@ -35,6 +35,9 @@ pub const MOST_TEXT: usize = 142993;
 // The words of a route: address, length, originator and neighbour AS.
 const ROUTE_WORDS: usize = 4;
 
+// The most words of routes.
+pub const MOST_WORDS: usize = route::MOST_ROUTES * ROUTE_WORDS;
+
 // What serving a line answers: how long the printed text is, and how many words of the routes' buffer are in use.
 pub struct Served {
     pub printed: usize,
@@ -386,7 +389,7 @@ fn put_list(out: &mut [u8], table: &[u8]) -> usize
 fn route_fits(used: usize, routes: &[u32]) -> bool
     ensures { λ r. ⌜ r ≡ routeFits used (now (routes .entry)) ⌝ }
 {
-    if route::MOST_WORDS - ROUTE_WORDS < used {
+    if MOST_WORDS - ROUTE_WORDS < used {
         return false;
     }
     used + ROUTE_WORDS <= routes.len()

@@ -237,6 +237,15 @@ module _ (family : Family) where
               rw e (ap (costs cost) (sym same), encoded .is ∙ ap (tableOf (length t)) (sym same))
           go (some x) e = rw e (refl, refl)
 
+    -- a rule that is not held leaves the table as it was
+    pub removed-none : (k : RuleKey) → holds family t k ≡ false → removed family t k ≡ t
+    unfolding holds removed
+    removed-none k h = go (lookup keyOrder (entryKey family) k (entries t)) refl
+      where
+        go : (x : Option Entry) → lookup keyOrder (entryKey family) k (entries t) ≡ x → tableOf (length t) (remove keyOrder (entryKey family) k (entries t)) ≡ t
+        go none e = sym (encoded .is ∙ ap (tableOf (length t)) (sym (remove-absent keyOrder (entryKey family) k (entries t) e)))
+        go (some x) e = let z : true ≡ false = rw e at h in apart (cc)
+
     -- ---- announcing ----
 
     pub sum-fits : (used : ℕ) (v : List ℕ) → used ≡ costs cost (entries t) → plainValue family v ≡ true → used + (headCost + length v) < 2 ^ 64

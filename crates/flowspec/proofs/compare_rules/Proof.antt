@@ -3,6 +3,7 @@ use native.Mathlib.Omega.{arith}
 use Rattle.rule.specs.Family.{ipv4}
 use Rattle.rule.proofs.ReadingLaws.{ReadRule}
 use Rattle.flowspec.proofs.CompareLaws.{first-read, second-read, value-small, compare-first-refused, compare-second-refused, compare-both}
+use Rattle.flowspec.proofs.TableLaws.{four-fits}
 use borrow.Author.Needs.{needs}
 use Rattle.flowspec.proofs.compare_rules.Statement.{statement}
 use Rattle.flowspec.proofs.compare_rules.Tie as tie
@@ -61,7 +62,7 @@ part-compare-values-end-2 : tie.Need-part-compare-values-end-2
 part-compare-values-end-2 c = omega (arith, right-read (c .before))
 
 compare-values-requires : tie.Need-compare-values-requires
-compare-values-requires c κs = (value-small _ _ _ (left-read (c .before .before)), value-small _ _ _ (right-read (c .before .before)))
+compare-values-requires c κs = (four-fits _ (c .before .before .before .before .before .before .before .before .before .before .ipv4 .ensures), (value-small _ _ _ (left-read (c .before .before)), value-small _ _ _ (right-read (c .before .before))))
 
 comparison-of-requires : tie.Need-comparison-of-requires
 comparison-of-requires c κs = search needs

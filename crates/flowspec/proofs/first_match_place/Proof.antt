@@ -1,6 +1,6 @@
 -- One law for each return.
 use borrow.Author.Needs.{needs}
-use Rattle.flowspec.proofs.TableLaws.{look-sound, locate-refused, locate-found}
+use Rattle.flowspec.proofs.TableLaws.{four-fits, locate-refused, locate-found}
 use Rattle.flowspec.proofs.first_match_place.Statement.{statement}
 use Rattle.flowspec.proofs.first_match_place.Tie as tie
 
@@ -13,8 +13,11 @@ enum-known-number c = search needs
 enum-known-sight : tie.Need-enum-known-sight
 enum-known-sight c = search needs
 
+ipv4-requires : tie.Need-ipv4-requires
+ipv4-requires c κs = search needs
+
 first-place-requires : tie.Need-first-place-requires
-first-place-requires c κs = search (look-sound, needs)
+first-place-requires c κs = search (four-fits, needs)
 
 returns : tie.Need-returns
 returns c = search (locate-refused, needs)
@@ -29,6 +32,7 @@ first-match-place-spec =
     see-requires
     enum-known-number
     enum-known-sight
+    ipv4-requires
     first-place-requires
     returns
     returns-2)

@@ -1,11 +1,14 @@
 -- One law for each return.
 use borrow.Author.Needs.{needs}
-use Rattle.flowspec.proofs.TableLaws.{see-unsound, see-unusable, see-usable}
+use Rattle.flowspec.proofs.TableLaws.{four-fits, see-unsound, see-unusable, see-usable}
 use Rattle.flowspec.proofs.see.Statement.{statement}
 use Rattle.flowspec.proofs.see.Tie as tie
 
+ipv4-requires : tie.Need-ipv4-requires
+ipv4-requires c κs = search needs
+
 sound-table-requires : tie.Need-sound-table-requires
-sound-table-requires c κs = search needs
+sound-table-requires c κs = four-fits _ (c .ipv4 .ensures)
 
 enum-told : tie.Need-enum-told
 enum-told c = search needs
@@ -35,6 +38,7 @@ pub see-spec : {M : Type 1} → statement M
 see-spec =
     tie.close
     (tie.spec
+    ipv4-requires
     sound-table-requires
     enum-told
     enum-told-2

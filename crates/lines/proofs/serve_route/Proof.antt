@@ -2,7 +2,7 @@
 use Prim.Native.Nat.{_+_, _≤_}
 use native.Mathlib.Omega.{arith}
 use lib.ListN.{length, length-set}
-use Rattle.route.specs.Route.{mostWords}
+use Rattle.lines.specs.Serve.{mostWords}
 use Rattle.lines.proofs.ServeLaws.{route-room, route-added, route-not-added}
 use borrow.Author.Needs.{needs}
 use Rattle.lines.proofs.serve_route.Statement.{statement}
