@@ -10,6 +10,7 @@ use lib.Dec.{isEq}
 use Rattle.octets.proofs.Cases.{by-test, apart, both}
 use Rattle.octets.proofs.Facts.{Octets}
 use Rattle.sorted.specs.History.{counts, inForce, leavesInForce, isAbout, isCounted, lastFrom}
+use Rattle.rule.proofs.FamilyLaws.{ipv4-fits}
 use Rattle.rule.specs.declared.Reading.{Reading}
 use Rattle.rule.specs.declared.Reading.the-variants.{Rule, Refused as NotRead}
 use Rattle.rule.specs.Family.{ipv4}
@@ -81,7 +82,7 @@ module _ (policy : Policy) where
         let w = octets-value (b .rule) from extent p in
         let first = key-order .only k (keysOf ipv4 (plain ipv4 value)) (tie _ x) ∙ keys-plain ipv4 value v in
         let second = key-order .only k (keysOf ipv4 (plain ipv4 other)) (tie _ y) ∙ keys-plain ipv4 other w in
-        let values = keys-only ipv4 4 refl value other v w (one-read ipv4 (a .rule) start size (one .read) .accepted)
+        let values = keys-only ipv4 ipv4-fits value other v w (one-read ipv4 (a .rule) start size (one .read) .accepted)
         (one-read ipv4 (b .rule) from extent (two .read) .accepted) (sym first ∙ second) in
         let reads : Read actions ≡ Read acts = sym (one .acts) ∙ read ∙ two .acts in
         let same : actions ≡ acts = cc in

@@ -125,7 +125,7 @@ asked-could policy a o small =
         let octets = octets-value (a .rule) start size o in
         make-possible ipv4 (announcedEntry a start size actions) small
         (read-possible (a .communities) actions (from .acts))
-        (plain-held (valueOf (a .rule) start size) octets (one-read ipv4 (a .rule) start size (from .read) .accepted))
+        (plain-held ipv4 (valueOf (a .rule) start size) octets (one-read ipv4 (a .rule) start size (from .read) .accepted))
 
 -- one call
 module _ (policy : Policy) (t : List ℕ) (es : List Entry) (c : Encodes ipv4 t es) where

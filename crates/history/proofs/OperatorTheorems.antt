@@ -14,6 +14,7 @@ use Rattle.sorted.specs.History.{costs, isHeld}
 use Rattle.sorted.proofs.HistoryLaws.{not-held}
 use Rattle.sorted.proofs.MemberLaws.{every-insert}
 use Rattle.sorted.proofs.TableLaws.{insert-sorted, insert-again, remove-insert, remove-absent, lookup-insert, insert-swap}
+use Rattle.rule.proofs.FamilyLaws.{ipv4-fits}
 use Rattle.rule.specs.declared.Reading.the-variants.{Rule}
 use Rattle.rule.specs.Family.{ipv4}
 use Rattle.rule.specs.Plain.{plain}
@@ -187,7 +188,7 @@ same-rule rule other start size begin extent o p found also same =
     let first = octets-value rule start size o in
     let second = octets-value other begin extent p in
     let keys : keysOf ipv4 v ≡ keysOf ipv4 w = sym (keys-plain ipv4 v first) ∙ same ∙ keys-plain ipv4 w second in
-    let tie : precedence ipv4 v w ≡ Ordering·eq = one-order ipv4 4 refl v w first second ∙ rw keys (key-order .same (keysOf ipv4 w)) in
+    let tie : precedence ipv4 v w ≡ Ordering·eq = one-order ipv4 ipv4-fits v w first second ∙ rw keys (key-order .same (keysOf ipv4 w)) in
     rw (found, also, tie)
 
 module _ (policy : Policy) (a b : Announcement) (o : Octets (a .rule)) (small : a .originator < 2 ^ 32) (p : Octets (b .rule))

@@ -21,7 +21,7 @@ use Rattle.rule.specs.Component.{pairAt, pairsFrom, prefixEnd, bodyEnd, compone
 use Rattle.rule.specs.Operator.{endsList, sizeOf}
 use Rattle.rule.specs.Plain.{bodyOf, operandAfter, after, plainOperator, plainOperand, plainAddress, clearedOctet, plainFrom, plain, expectedAtStart, patternAfter, withoutReserved}
 use Rattle.rule.specs.Reading.{fieldSize, fieldLength, firstRule, oneRule, valueOf}
-use Rattle.rule.specs.Value.{componentsFrom, components, checkValue, spelled}
+use Rattle.rule.specs.Value.{componentsFrom, components, checkValue}
 use Rattle.rule.specs.Family.{ipv4}
 use Rattle.order.specs.Key.{bodyKey, keyOf, keysOf, RuleKey, keyOrder}
 use Rattle.order.proofs.KeyLaws.{key-order}
@@ -105,7 +105,7 @@ computed : Computed
 unfolding
     numberAt octetsOf every oneHolds allZero sameList walk bits coversAddress contains prefixOrder prefixOf pairAt pairsFrom leadOf
     offsetAt prefixEnd bodyEnd componentAt endsList sizeOf expectedAtStart bodyOf patternAfter operandAfter after withoutReserved
-    plainOperator plainOperand plainAddress clearedOctet plainFrom plain fieldSize fieldLength firstRule oneRule spelled componentsFrom
+    plainOperator plainOperand plainAddress clearedOctet plainFrom plain fieldSize fieldLength firstRule oneRule componentsFrom
     components checkValue bodyKey keyOf keysOf destinationFor destinationAmong destinationOf covers moreSpecific longer matched bestMatch
     undisputed judged feasible numberInWords routeAt routesFrom routesOf plainPrefix rises rising soundRoutes ofType smallest first
     ruleActions communitiesAt actionsOf flagsOf firstOf smallerOf allowed merged couldBe isUnusable fragmentData holdsFor bodyHolds

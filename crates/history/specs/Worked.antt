@@ -7,7 +7,8 @@ use mathlib.Core.List.{List, [], _∷_, _++_}
 use lib.ListN.{replicate}
 use Rattle.action.specs.declared.Actions.{Actions}
 use Rattle.action.specs.Given.{given}
-use Rattle.action.specs.Actions.{noActions, withByteRate, withMarking}
+use Rattle.action.specs.Actions.{noActions}
+use Rattle.action.specs.Reading.{withByteRate, withMarking}
 use Rattle.entry.specs.Entry.{Entry}
 use Rattle.flowspec.specs.declared.Change.{Change}
 use Rattle.flowspec.specs.declared.Change.the-variants.{Done, Refused}
