@@ -161,7 +161,7 @@ not-withdrawn rule t number place e =
     go : (r : Reading) → SaysRule ipv4 rule r → Changes (withdrawnBy t rule r .answer)
     go (NotRead number place) h = h
     go (Rule start size) h =
-        let k = keysOf ipv4 (plain (valueOf rule start size)) in
+        let k = keysOf ipv4 (plain ipv4 (valueOf rule start size)) in
         changes (withdrawn ipv4 t k .number) (told k)
 
 -- ---- looking up ----
@@ -173,7 +173,7 @@ Looks (Judged verdict) = Unit {0}
 pub not-looked-up : (t octets : List ℕ) (number place : ℕ) → lookingUp t octets ≡ NotLookedUp number place → Refusal number place
 unfolding lookingUp seen
 not-looked-up t octets number place e =
-    subst Looks e (by-test (soundTable ipv4 t) (λ s. rw s (go (packetOf octets))) (λ s. rw s (placeless 10 (omega arith) (omega arith))))
+    subst Looks e (by-test (soundTable ipv4 t) (λ s. rw s (go (packetOf ipv4 octets))) (λ s. rw s (placeless 10 (omega arith) (omega arith))))
   where
     go : (s : Sight) → Looks (lookedUp t (shown s))
     go Unusable = placeless 12 (omega arith) (omega arith)

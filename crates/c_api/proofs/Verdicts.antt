@@ -35,7 +35,7 @@ NoT (Refused number place) = Unit {0}
 
 pub lookup-no-T : (t octets : List ℕ) → NoT (lookingUp t octets)
 unfolding lookingUp seen verdictFor verdictOf
-lookup-no-T t octets = by-test (soundTable ipv4 t) (λ s. rw s (go (packetOf octets))) (λ s. rw s tt)
+lookup-no-T t octets = by-test (soundTable ipv4 t) (λ s. rw s (go (packetOf ipv4 octets))) (λ s. rw s tt)
   where
     go : (s : Sight) → NoT (lookedUp t (shown s))
     go Unusable = tt
