@@ -13,7 +13,9 @@ use lib.ListN.{length, length-append}
 use borrow.Author.Tests.{leb-true}
 use Rattle.octets.proofs.Cases.{by-test, apart}
 use Rattle.octets.specs.Walk.{Walk, before}
+use Rattle.rule.specs.declared.Family.{Family}
 use Rattle.rule.specs.Value.{between}
+use Rattle.table.proofs.LeaveLaws.{was-sound, was-unsound}
 use Rattle.table.specs.declared.NextRecord.{NextRecord}
 use Rattle.table.specs.declared.NextRecord.the-variants.{Nothing, Record, Unsound}
 use Rattle.table.proofs.NextRecord.{the-type}
@@ -22,7 +24,6 @@ use Rattle.table.specs.declared.Soundness.{Soundness}
 use Rattle.table.specs.declared.Soundness.the-variants.{Sound, Unsound as NotSound}
 use Rattle.table.specs.Walk.{recordAt, recordsFrom, records}
 use Rattle.table.specs.Sound.{mostOctets, soundTable, soundness}
-use Rattle.flowspec.proofs.TableLaws.{was-sound, was-unsound}
 use Rattle.table.proofs.WalkLaws.{was-found, records-more, records-end, records-unsound, records-ind}
 use Rattle.table.proofs.EntryLaws.{length-there}
 use Rattle.text.specs.Spelling.{quoted}
@@ -148,22 +149,25 @@ list-fits t h =
     rw (length-append (countText n) (rulesText (recordsFrom t 0 .items))) (omega (arith, length-count n, length-decimal 4 n (omega arith) few))
 
 -- the table's text: a count and the records, or the answer for an unsound table
-module _ (t : List ℕ) (sound : Soundness) (is : sound ≡ soundness ipv4 t) where
+module _ (t : List ℕ) (family : Family) (four : family ≡ ipv4) (sound : Soundness) (told : sound ≡ soundness family t) where
+  is : sound ≡ soundness ipv4 t
+  is = rw four at told
+
   pub list-unsound : sound ≡ NotSound → listText t ≡ answerText 10 0
   unfolding listText
-  list-unsound e = rw (was-unsound t sound is e)
+  list-unsound e = rw (was-unsound ipv4 t sound is e)
 
   pub list-sound : (used : ℕ) → sound ≡ Sound used → (count : ℕ) → count ≡ length (records t) → (out middle : List ℕ) (start : ℕ) → Printed out 0 (countText count) middle start
       → (exit : List ℕ) (next : ℕ) → Printed middle start (rulesText (records t)) exit next → Printed out 0 (listText t) exit next
   unfolding listText
-  list-sound used e count c out middle start p exit next q = rw (was-sound t sound is used e .0, ← c) (printed-then _ _ _ _ _ _ _ _ p q)
+  list-sound used e count c out middle start p exit next q = rw (was-sound ipv4 t sound is used e .0, ← c) (printed-then _ _ _ _ _ _ _ _ p q)
 
   pub list-short : (used : ℕ) → sound ≡ Sound used → length t ≤ mostOctets
   unfolding soundTable
   list-short used e =
-      let z = was-sound t sound is used e .0 in
+      let z = was-sound ipv4 t sound is used e .0 in
       by-test (leb (length t) mostOctets) (λ h. leb-true (length t) mostOctets h) (λ h. let f : false ≡ true = rw h at z in apart (cc))
 
   pub list-within : (used : ℕ) → sound ≡ Sound used → length (listText t) ≤ mostText
   unfolding listText
-  list-within used e = rw (was-sound t sound is used e .0) (list-fits t (list-short used e))
+  list-within used e = rw (was-sound ipv4 t sound is used e .0) (list-fits t (list-short used e))

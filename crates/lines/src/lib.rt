@@ -373,7 +373,7 @@ fn put_records(table: &[u8], out: &mut [u8], at: usize) -> usize
 fn put_list(out: &mut [u8], table: &[u8]) -> usize
     ensures { λ r. ⌜ Answered (now (out .entry)) (listText (now (table .entry))) (now (out .exit)) r ⌝ }
 {
-    match table::sound_table(table) {
+    match table::sound_table(rule::ipv4(), table) {
         Soundness::Unsound => put_answer(out, 10, 0),
         Soundness::Sound(_) => {
             let count = count_records(table);

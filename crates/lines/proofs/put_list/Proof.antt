@@ -1,13 +1,17 @@
 -- An unsound table is answer 10; a sound one is its count with its records behind.
 use native.Mathlib.Omega.{arith}
+use Rattle.flowspec.proofs.TableLaws.{four-fits}
 use Rattle.lines.proofs.PrintLaws.{count-short, printed-short}
 use Rattle.lines.proofs.ListLaws.{list-unsound, list-sound, list-short, list-within}
 use borrow.Author.Needs.{needs}
 use Rattle.lines.proofs.put_list.Statement.{statement}
 use Rattle.lines.proofs.put_list.Tie as tie
 
+ipv4-requires : tie.Need-ipv4-requires
+ipv4-requires c κs = search needs
+
 sound-table-requires : tie.Need-sound-table-requires
-sound-table-requires c κs = search needs
+sound-table-requires c κs = four-fits _ (c .ipv4 .ensures)
 
 enum-told : tie.Need-enum-told
 enum-told c = search needs
@@ -26,25 +30,26 @@ put-count-requires c κs = search needs
 
 put-records-requires : tie.Need-put-records-requires
 put-records-requires c κs =
-    (list-short _ _ (c .before .before .before .before .before .before .before .before .sound-table .ensures) _ (c .before .before .before .before .before .before .enum-told2 .given .1), omega (arith, count-short (c .before .before .before .before .before .count-records .result) (omega arith)))
+    (list-short _ _ (c .before .before .before .before .before .before .before .before .before .ipv4 .ensures) _ (c .before .before .before .before .before .before .before .before .sound-table .ensures) _ (c .before .before .before .before .before .before .enum-told2 .given .1), omega (arith, count-short (c .before .before .before .before .before .count-records .result) (omega arith)))
 
 same-length : tie.Need-same-length
 same-length c = search needs
 
 returns : tie.Need-returns
-returns c = rw (list-unsound _ _ (c .before .before .before .before .before .before .sound-table .ensures) (c .before .before .before .before .enum-told .given .1)) (c .before .before .put-answer .ensures)
+returns c = rw (list-unsound _ _ (c .before .before .before .before .before .before .before .ipv4 .ensures) _ (c .before .before .before .before .before .before .sound-table .ensures) (c .before .before .before .before .enum-told .given .1)) (c .before .before .put-answer .ensures)
 
 same-length-2 : tie.Need-same-length-2
 same-length-2 c = search needs
 
 returns-2 : tie.Need-returns-2
 returns-2 c =
-    printed-short _ _ _ _ (list-sound _ _ (c .before .before .before .before .before .before .before .before .before .before .before .sound-table .ensures) _ (c .before .before .before .before .before .before .before .before .before .enum-told2 .given .1) _ (c .before .before .before .before .before .before .before .before .count-records .ensures .0) _ _ _ (c .before .before .before .before .before .before .put-count .ensures) _ _ (c .before .before .put-records .ensures)) (list-within _ _ (c .before .before .before .before .before .before .before .before .before .before .before .sound-table .ensures) _ (c .before .before .before .before .before .before .before .before .before .enum-told2 .given .1))
+    printed-short _ _ _ _ (list-sound _ _ (c .before .before .before .before .before .before .before .before .before .before .before .before .ipv4 .ensures) _ (c .before .before .before .before .before .before .before .before .before .before .before .sound-table .ensures) _ (c .before .before .before .before .before .before .before .before .before .enum-told2 .given .1) _ (c .before .before .before .before .before .before .before .before .count-records .ensures .0) _ _ _ (c .before .before .before .before .before .before .put-count .ensures) _ _ (c .before .before .put-records .ensures)) (list-within _ _ (c .before .before .before .before .before .before .before .before .before .before .before .before .ipv4 .ensures) _ (c .before .before .before .before .before .before .before .before .before .before .before .sound-table .ensures) _ (c .before .before .before .before .before .before .before .before .before .enum-told2 .given .1))
 
 pub put-list-spec : {M : Type 1} → statement M
 put-list-spec =
     tie.close
     (tie.spec
+    ipv4-requires
     sound-table-requires
     enum-told
     put-answer-requires
