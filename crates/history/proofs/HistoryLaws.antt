@@ -2,7 +2,7 @@
 -- holds exactly the entries that each rule's last counted call left in force, once, in precedence order; so that two histories which
 -- leave the same in force end in equal octets. A call that is answered 11 changes nothing and does not count, so that nothing is asked
 -- of those.
-use mathlib.Core.Path.{_≡_, refl, sym, ap, ap₂, subst, _∙_}
+use mathlib.Core.Path.{_≡_, refl, sym, ap₂, subst, _∙_}
 use mathlib.Core.Bool.{Bool, true, false}
 use mathlib.Core.List.{List, [], _∷_}
 use Prim.Native.Nat.{ℕ, _^_, _<_, _≤_}
@@ -14,12 +14,12 @@ use borrow.Author.Tests.{leb-true}
 use Rattle.octets.specs.Test.{every}
 use Rattle.octets.proofs.Cases.{by-test}
 use Rattle.octets.proofs.Facts.{Octets}
-use Rattle.sorted.specs.Table.{lookup, insert, remove, Sorted}
+use Rattle.sorted.specs.Table.{lookup, insert}
 use Rattle.sorted.specs.History.{announce, withdraw, costs, isHeld, apply, run, Ran}
 use Rattle.sorted.specs.History as S
-use Rattle.sorted.proofs.MemberLaws.{every-insert, every-remove}
-use Rattle.sorted.proofs.TableLaws.{insert-sorted, remove-sorted}
-use Rattle.sorted.proofs.HistoryLaws.{costs-remove, run-holds, run-agree}
+use Rattle.sorted.proofs.MemberLaws.{every-insert}
+use Rattle.sorted.proofs.TableLaws.{insert-sorted}
+use Rattle.sorted.proofs.HistoryLaws.{run-holds, run-agree}
 use Rattle.rule.specs.declared.Reading.{Reading}
 use Rattle.rule.specs.declared.Reading.the-variants.{Rule, Refused as NotRead}
 use Rattle.rule.specs.Family.{ipv4}
@@ -33,8 +33,9 @@ use Rattle.entry.specs.Entry.{Entry, entryKey, possible}
 use Rattle.entry.proofs.ValueLaws.{make-possible}
 use Rattle.table.specs.Walk.{entries}
 use Rattle.table.specs.Sound.{cost, tableOf, joined, Encodes, mostOctets}
-use Rattle.table.specs.Change.{holds, removed, hasRoom, inserted, announced, withdrawn}
+use Rattle.table.specs.Change.{holds, hasRoom, inserted, announced, withdrawn}
 use Rattle.table.proofs.SpliceLaws.{length-table}
+use Rattle.table.proofs.LeaveLaws.{encoding, removed-encodes, removed-long}
 use Rattle.table.proofs.SoundLaws.{encodes-sound, encodes-entries}
 use Rattle.table.proofs.CallLaws.{plain-held}
 use Rattle.flowspec.specs.declared.Change.{Change}
@@ -53,34 +54,6 @@ record Same (n : ℕ) (o : Outcome) (a : S.Outcome Entry) : Type 0 where
   pub long : length (o .table) ≡ n
 
 module _ (t : List ℕ) (es : List Entry) (c : Encodes ipv4 t es) where
-  pub encoding : (xs : List Entry) → costs cost xs ≤ length t → every (possible ipv4) xs ≡ true → Sorted keyOrder (entryKey ipv4) xs
-      → Encodes ipv4 (tableOf (length t) xs) xs
-  encoding xs room each rising =
-      let long = length-table (length t) xs room in
-      let short = c .short in
-      record {
-        short = omega arith;
-        room = omega arith;
-        each = each;
-        rising = rising;
-        is = ap (λ n. tableOf n xs) (sym long);
-      }
-
-  without : (k : RuleKey) → Encodes ipv4 (removed ipv4 t k) (remove keyOrder (entryKey ipv4) k es)
-  unfolding removed
-  without k =
-      let less = costs-remove keyOrder (entryKey ipv4) cost k es in
-      let room = c .room in
-      rw (encodes-entries ipv4 t es c)
-      (encoding (remove keyOrder (entryKey ipv4) k es) (omega arith) (every-remove keyOrder (entryKey ipv4) (possible ipv4) k es (c .each)) (remove-sorted keyOrder (entryKey ipv4) key-order k es (c .rising)))
-
-  long-removed : (k : RuleKey) → length (removed ipv4 t k) ≡ length t
-  unfolding removed
-  long-removed k =
-      let less = costs-remove keyOrder (entryKey ipv4) cost k es in
-      let room = c .room in
-      rw (encodes-entries ipv4 t es c) (length-table (length t) (remove keyOrder (entryKey ipv4) k es) (omega arith))
-
   -- the change of a table that an announcement or a withdrawal asks
   same-announced : (e : Entry) (feasible : Bool) → possible ipv4 e ≡ true
       → Same (length t) (outcome (announced ipv4 t e feasible)) (apply keyOrder (entryKey ipv4) cost (length t) (announce e feasible) es)
@@ -92,18 +65,18 @@ module _ (t : List ℕ) (es : List Entry) (c : Encodes ipv4 t es) where
       let room = leb-true (costs cost (insert keyOrder (entryKey ipv4) e es)) (length t) h in
       rw h (record {
         answers = refl;
-        encodes = encoding (insert keyOrder (entryKey ipv4) e es) room (every-insert keyOrder (entryKey ipv4) (possible ipv4) e es ok (c .each)) (insert-sorted keyOrder (entryKey ipv4) key-order e es (c .rising));
+        encodes = encoding ipv4 t es c (insert keyOrder (entryKey ipv4) e es) room (every-insert keyOrder (entryKey ipv4) (possible ipv4) e es ok (c .each)) (insert-sorted keyOrder (entryKey ipv4) key-order e es (c .rising));
         long = length-table (length t) (insert keyOrder (entryKey ipv4) e es) room;
       }))
       (λ h. rw h (record { answers = refl; encodes = c; long = refl })))
-  same-announced e false ok = record { answers = refl; encodes = without (entryKey ipv4 e); long = long-removed (entryKey ipv4 e) }
+  same-announced e false ok = record { answers = refl; encodes = removed-encodes ipv4 t es c (entryKey ipv4 e); long = removed-long ipv4 t es c (entryKey ipv4 e) }
 
   same-withdrawn : (k : RuleKey)
       → Same (length t) (outcome (withdrawn ipv4 t k)) (apply keyOrder (entryKey ipv4) cost (length t) (withdraw k) es)
   unfolding changeOf withdrawn holds
   same-withdrawn k =
-      let out = without k in
-      let long = long-removed k in
+      let out = removed-encodes ipv4 t es c k in
+      let long = removed-long ipv4 t es c k in
       rw (encodes-entries ipv4 t es c)
       (by-test (isHeld (lookup keyOrder (entryKey ipv4) k es))
       (λ h. rw h (record { answers = refl; encodes = out; long = long }))

@@ -6,14 +6,12 @@ use mathlib.Core.Bool.{true, false}
 use mathlib.Core.List.{List}
 use Prim.Native.Nat.{ℕ, _^_, _<_, Ordering·eq}
 use lib.ListN.{length}
-use borrow.Author.Tests.{leb-true}
 use Rattle.octets.proofs.Cases.{by-test, apart}
 use Rattle.octets.proofs.Facts.{Octets}
 use Rattle.sorted.specs.Table.{lookup, insert}
-use Rattle.sorted.specs.History.{costs, isHeld}
+use Rattle.sorted.specs.History.{isHeld}
 use Rattle.sorted.proofs.HistoryLaws.{not-held}
-use Rattle.sorted.proofs.MemberLaws.{every-insert}
-use Rattle.sorted.proofs.TableLaws.{insert-sorted, insert-again, remove-insert, remove-absent, lookup-insert, insert-swap}
+use Rattle.sorted.proofs.TableLaws.{insert-again, remove-insert, remove-absent, lookup-insert, insert-swap}
 use Rattle.rule.proofs.FamilyLaws.{ipv4-fits}
 use Rattle.rule.specs.declared.Reading.the-variants.{Rule}
 use Rattle.rule.specs.Family.{ipv4}
@@ -25,9 +23,9 @@ use Rattle.order.proofs.KeyLaws.{key-order, keys-plain, one-order}
 use Rattle.action.specs.declared.Actions.{Actions}
 use Rattle.entry.specs.Entry.{Entry, entryKey, possible}
 use Rattle.table.specs.Walk.{entries}
-use Rattle.table.specs.Sound.{cost, tableOf, soundTable, Encodes}
+use Rattle.table.specs.Sound.{tableOf, soundTable, Encodes}
 use Rattle.table.specs.Change.{holds, removed, hasRoom, inserted, withdrawn}
-use Rattle.table.proofs.SpliceLaws.{length-table}
+use Rattle.table.proofs.LeaveLaws.{inserted-encodes, inserted-long}
 use Rattle.table.proofs.SoundLaws.{sound-encodes, encodes-sound, encodes-entries}
 use Rattle.flowspec.specs.declared.Change.{Change}
 use Rattle.flowspec.specs.declared.Change.the-variants.{Done, Refused}
@@ -39,18 +37,13 @@ use Rattle.flowspec.specs.Announce.{announcedEntry, Outcome, changeOf, asked, a
 use Rattle.flowspec.specs.Compare.{compareRules}
 use Rattle.flowspec.specs.Promise.{Announces, Withdraws}
 use Rattle.flowspec.proofs.AskLaws.{octets-value, asked-from}
-use Rattle.history.proofs.HistoryLaws.{encoding, asked-could}
+use Rattle.history.proofs.HistoryLaws.{asked-could}
 
 module _ (t : List ℕ) (c : Encodes ipv4 t (entries t)) where
   -- the table with an entry encodes its entries with that one, in a buffer of the same length
   with-entry : (e : Entry) → possible ipv4 e ≡ true → hasRoom ipv4 t e ≡ true
       → Encodes ipv4 (inserted ipv4 t e) (insert keyOrder (entryKey ipv4) e (entries t)) × (length (inserted ipv4 t e) ≡ length t)
-  unfolding hasRoom inserted
-  with-entry e ok room =
-      let fits = leb-true (costs cost (insert keyOrder (entryKey ipv4) e (entries t))) (length t) room in (
-        encoding t (entries t) c (insert keyOrder (entryKey ipv4) e (entries t)) fits (every-insert keyOrder (entryKey ipv4) (possible ipv4) e (entries t) ok (c .each)) (insert-sorted keyOrder (entryKey ipv4) key-order e (entries t) (c .rising)),
-        length-table (length t) (insert keyOrder (entryKey ipv4) e (entries t)) fits,
-      )
+  with-entry e ok room = (inserted-encodes ipv4 t (entries t) c e ok room, inserted-long ipv4 t (entries t) c e ok room)
 
   module _ (e : Entry) (ok : possible ipv4 e ≡ true) (room : hasRoom ipv4 t e ≡ true) where
     entries-with : entries (inserted ipv4 t e) ≡ insert keyOrder (entryKey ipv4) e (entries t)

@@ -1,6 +1,6 @@
 -- What a change leaves is a table again: the encoding of the changed entries, in a buffer of the same length. So it is sound, and several
 -- changes may follow one check. Assumes nothing.
-use mathlib.Core.Path.{_≡_, refl, sym, ap, _∙_}
+use mathlib.Core.Path.{_≡_, sym, ap, _∙_}
 use mathlib.Core.Bool.{Bool, true, false}
 use mathlib.Core.List.{List}
 use Prim.Native.Nat.{ℕ, _≤_}
