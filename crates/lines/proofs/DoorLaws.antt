@@ -1,6 +1,6 @@
 -- A served line changes the table as the door's calls do: an announce line as an announcement by the routes in use, a withdraw line as a
--- withdrawal, each printing its answer, and any other line not at all. So what is shown of histories at the door (crate history) is shown
--- of the program's table. Assumes nothing.
+-- withdrawal, each printing its answer, and any other line not at all. So what is shown of histories at the door (crate history), which
+-- have one list of routes throughout, is shown of the program's table where its route lines come first. Assumes nothing.
 use mathlib.Core.Path.{_≡_, refl, ap, _∙_}
 use mathlib.Core.Bool.{false}
 use mathlib.Core.List.{List, [], _∷_}

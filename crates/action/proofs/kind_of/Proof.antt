@@ -7,9 +7,6 @@ use Rattle.action.proofs.Communities.{last-kind}
 use Rattle.action.proofs.kind_of.Statement.{statement}
 use Rattle.action.proofs.kind_of.Tie as tie
 
-is-redirect-requires : tie.Need-is-redirect-requires
-is-redirect-requires c κs = search needs
-
 returns : tie.Need-returns
 unfolding kindOf
 returns c = ap kindOf (sym (c .match .keys1))
@@ -35,4 +32,4 @@ returns-6 c = last-kind _ false (search needs) (search needs) (search needs) (se
 pub kind-of-spec : {M : Type 1} → statement M
 kind-of-spec =
     tie.close
-    (tie.spec is-redirect-requires returns returns-2 returns-3 returns-4 returns-5 returns-6)
+    (tie.spec (λ c κs. search needs) returns returns-2 returns-3 returns-4 returns-5 returns-6)

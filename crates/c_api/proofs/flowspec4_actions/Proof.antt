@@ -6,21 +6,6 @@ use borrow.Author.Needs.{needs}
 use Rattle.c_api.proofs.flowspec4_actions.Statement.{statement}
 use Rattle.c_api.proofs.flowspec4_actions.Tie as tie
 
-read-actions-requires : tie.Need-read-actions-requires
-read-actions-requires c κs = search needs
-
-enum-told : tie.Need-enum-told
-enum-told c = search needs
-
-word-of-requires : tie.Need-word-of-requires
-word-of-requires c κs = search needs
-
-enum-known-actions : tie.Need-enum-known-actions
-enum-known-actions c = search needs
-
-values-of-requires : tie.Need-values-of-requires
-values-of-requires c κs = search needs
-
 returns : tie.Need-returns
 returns c = record { returns = answered actionsTold _ _ (c .before .before .before .read-actions .ensures .is) _ (c .before .enum-told .given .1) _ _ _ (actions-refused _ _ (c .word-of .ensures)); keeps = refl }
 
@@ -31,10 +16,10 @@ pub flowspec4-actions-spec : {M : Type 1} → statement M
 flowspec4-actions-spec =
     tie.close
     (tie.spec
-    read-actions-requires
-    enum-told
-    word-of-requires
-    enum-known-actions
-    values-of-requires
+    (λ c κs. search needs)
+    (λ c. search needs)
+    (λ c κs. search needs)
+    (λ c. search needs)
+    (λ c κs. search needs)
     returns
     returns-2)

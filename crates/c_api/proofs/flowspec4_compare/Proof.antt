@@ -11,23 +11,8 @@ use Rattle.c_api.proofs.flowspec4_compare.Tie as tie
 refusal : (c : tie.After-known-told) → Refusal (c .before .number .given .0 .0) (c .before .number .given .0 .1 .0)
 refusal c = not-compared _ _ _ _ (sym (c .before .before .before .compare-rules .ensures .is) ∙ c .before .number .given .1)
 
-compare-rules-requires : tie.Need-compare-rules-requires
-compare-rules-requires c κs = search needs
-
-enum-known-number : tie.Need-enum-known-number
-enum-known-number c = search needs
-
 word-of-requires : tie.Need-word-of-requires
 word-of-requires c κs = refusal c .near
-
-enum-told : tie.Need-enum-told
-enum-told c = search needs
-
-enum-told-2 : tie.Need-enum-told-2
-enum-told-2 c = search needs
-
-enum-told-3 : tie.Need-enum-told-3
-enum-told-3 c = search needs
 
 returns : tie.Need-returns
 returns c = record { returns = answered comparisonTold _ _ (c .before .before .before .before .compare-rules .ensures .is) _ (c .before .before .number .given .1) _ _ _ (refused _ _ _ _ (refusal (c .before)) _ (c .word-of .ensures)); keeps = refl }
@@ -45,12 +30,12 @@ pub flowspec4-compare-spec : {M : Type 1} → statement M
 flowspec4-compare-spec =
     tie.close
     (tie.spec
-    compare-rules-requires
-    enum-known-number
+    (λ c κs. search needs)
+    (λ c. search needs)
     word-of-requires
-    enum-told
-    enum-told-2
-    enum-told-3
+    (λ c. search needs)
+    (λ c. search needs)
+    (λ c. search needs)
     returns
     returns-2
     returns-3

@@ -11,20 +11,8 @@ use Rattle.c_api.proofs.flowspec4_feasible.Tie as tie
 refusal : (c : tie.After-known-told) → Refusal (c .before .number .given .0 .0) (c .before .number .given .0 .1 .0)
 refusal c = not-feasible _ _ _ _ _ (sym (c .before .before .before .judge-rule .ensures .is) ∙ c .before .number .given .1)
 
-is-on-requires : tie.Need-is-on-requires
-is-on-requires c κs = search needs
-
-judge-rule-requires : tie.Need-judge-rule-requires
-judge-rule-requires c κs = search needs
-
-enum-known-number : tie.Need-enum-known-number
-enum-known-number c = search needs
-
 word-of-requires : tie.Need-word-of-requires
 word-of-requires c κs = refusal c .near
-
-enum-told : tie.Need-enum-told
-enum-told c = search needs
 
 returns : tie.Need-returns
 returns c =
@@ -39,4 +27,4 @@ returns-2 c =
 pub flowspec4-feasible-spec : {M : Type 1} → statement M
 flowspec4-feasible-spec =
     tie.close
-    (tie.spec is-on-requires judge-rule-requires enum-known-number word-of-requires enum-told returns returns-2)
+    (tie.spec (λ c κs. search needs) (λ c κs. search needs) (λ c. search needs) word-of-requires (λ c. search needs) returns returns-2)

@@ -11,20 +11,8 @@ use Rattle.c_api.proofs.flowspec4_lookup.Tie as tie
 refusal : (c : tie.After-known-told) → Refusal (c .before .number .given .0 .0) (c .before .number .given .0 .1 .0)
 refusal c = not-looked-up _ _ _ _ (sym (c .before .before .before .lookup .ensures .is) ∙ c .before .number .given .1)
 
-lookup-requires : tie.Need-lookup-requires
-lookup-requires c κs = search needs
-
-enum-known-number : tie.Need-enum-known-number
-enum-known-number c = search needs
-
 word-of-requires : tie.Need-word-of-requires
 word-of-requires c κs = refusal c .near
-
-enum-known-verdict : tie.Need-enum-known-verdict
-enum-known-verdict c = search needs
-
-words-of-requires : tie.Need-words-of-requires
-words-of-requires c κs = search needs
 
 returns : tie.Need-returns
 returns c = record { returns = answered lookupTold _ _ (c .before .before .before .before .lookup .ensures .is) _ (c .before .before .number .given .1) _ _ _ (refused _ _ _ _ (refusal (c .before)) _ (c .word-of .ensures)); keeps = refl }
@@ -36,10 +24,10 @@ pub flowspec4-lookup-spec : {M : Type 1} → statement M
 flowspec4-lookup-spec =
     tie.close
     (tie.spec
-    lookup-requires
-    enum-known-number
+    (λ c κs. search needs)
+    (λ c. search needs)
     word-of-requires
-    enum-known-verdict
-    words-of-requires
+    (λ c. search needs)
+    (λ c κs. search needs)
     returns
     returns-2)

@@ -5,17 +5,8 @@ use borrow.Author.Needs.{needs}
 use Rattle.c_api.proofs.flowspec4_read.Statement.{statement}
 use Rattle.c_api.proofs.flowspec4_read.Tie as tie
 
-read-rule-requires : tie.Need-read-rule-requires
-read-rule-requires c κs = search needs
-
-enum-known-number : tie.Need-enum-known-number
-enum-known-number c = search needs
-
 word-of-requires : tie.Need-word-of-requires
 word-of-requires c κs = search (read-near, needs)
-
-enum-known-start : tie.Need-enum-known-start
-enum-known-start c = search needs
 
 returns : tie.Need-returns
 returns c = record { returns = search (read-refused, needs); keeps = refl }
@@ -27,9 +18,9 @@ pub flowspec4-read-spec : {M : Type 1} → statement M
 flowspec4-read-spec =
     tie.close
     (tie.spec
-    read-rule-requires
-    enum-known-number
+    (λ c κs. search needs)
+    (λ c. search needs)
     word-of-requires
-    enum-known-start
+    (λ c. search needs)
     returns
     returns-2)

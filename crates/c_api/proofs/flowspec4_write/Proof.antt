@@ -12,26 +12,11 @@ use Rattle.c_api.proofs.flowspec4_write.Tie as tie
 refusal : (c : tie.After-known-told) → Refusal (c .before .number .given .0 .0) (c .before .number .given .0 .1 .0)
 refusal c = not-written ipv4 _ _ _ _ (sym (c .before .before .before .before .before .write-rule .ensures .is) ∙ c .before .number .given .1)
 
-write-rule-requires : tie.Need-write-rule-requires
-write-rule-requires c κs = search needs
-
-enum-known-number : tie.Need-enum-known-number
-enum-known-number c = search needs
-
 word-of-requires : tie.Need-word-of-requires
 word-of-requires c κs = refusal c .near
 
-enum-known-octets : tie.Need-enum-known-octets
-enum-known-octets c = search needs
-
-same-length : tie.Need-same-length
-same-length c = search needs
-
 returns : tie.Need-returns
 returns c = record { returns = answered writingTold _ _ (c .before .before .before .before .before .before .write-rule .ensures .is) _ (c .before .before .number .given .1) _ _ _ (refused _ _ _ _ (refusal (c .before)) _ (c .word-of .ensures)); leaves = c .before .before .before .before .before .before .write-rule .ensures .leaves; keeps = refl }
-
-same-length-2 : tie.Need-same-length-2
-same-length-2 c = search needs
 
 returns-2 : tie.Need-returns-2
 returns-2 c = record { returns = answered writingTold _ _ (c .before .before .before .before .before .before .write-rule .ensures .is) _ (c .before .before .octets .given .1) _ _ _ (done _ _); leaves = c .before .before .before .before .before .before .write-rule .ensures .leaves; keeps = refl }
@@ -40,11 +25,11 @@ pub flowspec4-write-spec : {M : Type 1} → statement M
 flowspec4-write-spec =
     tie.close
     (tie.spec
-    write-rule-requires
-    enum-known-number
+    (λ c κs. search needs)
+    (λ c. search needs)
     word-of-requires
-    enum-known-octets
-    same-length
+    (λ c. search needs)
+    (λ c. search needs)
     returns
-    same-length-2
+    (λ c. search needs)
     returns-2)

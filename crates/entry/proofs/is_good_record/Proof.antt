@@ -5,32 +5,11 @@ use borrow.Author.Needs.{needs}
 use Rattle.entry.proofs.is_good_record.Statement.{statement}
 use Rattle.entry.proofs.is_good_record.Tie as tie
 
-shared-slice-read-if1 : tie.Need-shared-slice-read-if1
-shared-slice-read-if1 c = search needs
-
 returns : tie.Need-returns
 returns c = search (good-no-flags, needs)
 
-record-actions-requires : tie.Need-record-actions-requires
-record-actions-requires c κs = search needs
-
-could-be-requires : tie.Need-could-be-requires
-could-be-requires c κs = search needs
-
 returns-2 : tie.Need-returns-2
 returns-2 c = search (good-no-actions, needs)
-
-sub-is-plain-value : tie.Need-sub-is-plain-value
-sub-is-plain-value c = search needs
-
-part-is-plain-value-start : tie.Need-part-is-plain-value-start
-part-is-plain-value-start c = search needs
-
-part-is-plain-value-end : tie.Need-part-is-plain-value-end
-part-is-plain-value-end c = search needs
-
-is-plain-value-requires : tie.Need-is-plain-value-requires
-is-plain-value-requires c κs = search needs
 
 returns-3 : tie.Need-returns-3
 returns-3 c =
@@ -48,13 +27,13 @@ pub is-good-record-spec : {M : Type 1} → statement M
 is-good-record-spec =
     tie.close
     (tie.spec
-    shared-slice-read-if1
+    (λ c. search needs)
     returns
-    record-actions-requires
-    could-be-requires
+    (λ c κs. search needs)
+    (λ c κs. search needs)
     returns-2
-    sub-is-plain-value
-    part-is-plain-value-start
-    part-is-plain-value-end
-    is-plain-value-requires
+    (λ c. search needs)
+    (λ c. search needs)
+    (λ c. search needs)
+    (λ c κs. search needs)
     returns-3)

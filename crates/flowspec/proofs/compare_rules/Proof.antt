@@ -16,56 +16,20 @@ right-read : (c : tie.After-known-told4) → ReadRule ipv4 (c .before .before .b
 right-read c =
     second-read _ _ _ (c .before .before .before .before .before .before .before .before .ipv4 .ensures) _ _ (c .before .before .before .before .before .before .before .one-rule .ensures) (c .before .before .before .before .before .before .one-rule2 .ensures) _ _ (c .before .before .before .before .left2 .given .1) _ _ (c .before .right2 .given .1)
 
-ipv4-requires : tie.Need-ipv4-requires
-ipv4-requires c κs = search needs
-
-one-rule-requires : tie.Need-one-rule-requires
-one-rule-requires c κs = search needs
-
-one-rule-requires-2 : tie.Need-one-rule-requires-2
-one-rule-requires-2 c κs = search needs
-
-enum-known-left : tie.Need-enum-known-left
-enum-known-left c = search needs
-
-enum-known-left-2 : tie.Need-enum-known-left-2
-enum-known-left-2 c = search needs
-
-enum-known-right : tie.Need-enum-known-right
-enum-known-right c = search needs
-
-enum-known-right-2 : tie.Need-enum-known-right-2
-enum-known-right-2 c = search needs
-
 add-end : tie.Need-add-end
 add-end c = omega (arith, left-read c)
 
 add-stop : tie.Need-add-stop
 add-stop c = omega (arith, right-read c)
 
-sub-compare-values : tie.Need-sub-compare-values
-sub-compare-values c = search needs
-
-part-compare-values-start : tie.Need-part-compare-values-start
-part-compare-values-start c = search needs
-
 part-compare-values-end : tie.Need-part-compare-values-end
 part-compare-values-end c = omega (arith, left-read c)
-
-sub-compare-values-2 : tie.Need-sub-compare-values-2
-sub-compare-values-2 c = search needs
-
-part-compare-values-start-2 : tie.Need-part-compare-values-start-2
-part-compare-values-start-2 c = search needs
 
 part-compare-values-end-2 : tie.Need-part-compare-values-end-2
 part-compare-values-end-2 c = omega (arith, right-read (c .before))
 
 compare-values-requires : tie.Need-compare-values-requires
 compare-values-requires c κs = (four-fits _ (c .before .before .before .before .before .before .before .before .before .before .ipv4 .ensures), (value-small _ _ _ (left-read (c .before .before)), value-small _ _ _ (right-read (c .before .before))))
-
-comparison-of-requires : tie.Need-comparison-of-requires
-comparison-of-requires c κs = search needs
 
 returns : tie.Need-returns
 returns c = search (compare-first-refused, needs)
@@ -80,23 +44,23 @@ pub compare-rules-spec : {M : Type 1} → statement M
 compare-rules-spec =
     tie.close
     (tie.spec
-    ipv4-requires
-    one-rule-requires
-    one-rule-requires-2
-    enum-known-left
-    enum-known-left-2
-    enum-known-right
-    enum-known-right-2
+    (λ c κs. search needs)
+    (λ c κs. search needs)
+    (λ c κs. search needs)
+    (λ c. search needs)
+    (λ c. search needs)
+    (λ c. search needs)
+    (λ c. search needs)
     add-end
     add-stop
-    sub-compare-values
-    part-compare-values-start
+    (λ c. search needs)
+    (λ c. search needs)
     part-compare-values-end
-    sub-compare-values-2
-    part-compare-values-start-2
+    (λ c. search needs)
+    (λ c. search needs)
     part-compare-values-end-2
     compare-values-requires
-    comparison-of-requires
+    (λ c κs. search needs)
     returns
     returns-2
     returns-3)

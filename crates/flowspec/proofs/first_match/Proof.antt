@@ -5,18 +5,6 @@ use borrow.Author.Needs.{needs}
 use Rattle.flowspec.proofs.first_match.Statement.{statement}
 use Rattle.flowspec.proofs.first_match.Tie as tie
 
-first-match-place-requires : tie.Need-first-match-place-requires
-first-match-place-requires c κs = search needs
-
-sub-result : tie.Need-sub-result
-sub-result c = search needs
-
-part-result-start : tie.Need-part-result-start
-part-result-start c = search needs
-
-part-result-end : tie.Need-part-result-end
-part-result-end c = search needs
-
 returns : tie.Need-returns
 returns c =
     let at = located-at (c .before .first-match-place .ensures) in
@@ -25,4 +13,4 @@ returns c =
 pub first-match-spec : {M : Type 1} → statement M
 first-match-spec =
     tie.close
-    (tie.spec first-match-place-requires sub-result part-result-start part-result-end returns)
+    (tie.spec (λ c κs. search needs) (λ c. search needs) (λ c. search needs) (λ c. search needs) returns)

@@ -4,18 +4,6 @@ use Rattle.flowspec.proofs.TableLaws.{four-fits, locate-refused, locate
 use Rattle.flowspec.proofs.first_match_place.Statement.{statement}
 use Rattle.flowspec.proofs.first_match_place.Tie as tie
 
-see-requires : tie.Need-see-requires
-see-requires c κs = search needs
-
-enum-known-number : tie.Need-enum-known-number
-enum-known-number c = search needs
-
-enum-known-sight : tie.Need-enum-known-sight
-enum-known-sight c = search needs
-
-ipv4-requires : tie.Need-ipv4-requires
-ipv4-requires c κs = search needs
-
 first-place-requires : tie.Need-first-place-requires
 first-place-requires c κs = search (four-fits, needs)
 
@@ -29,10 +17,10 @@ pub first-match-place-spec : {M : Type 1} → statement M
 first-match-place-spec =
     tie.close
     (tie.spec
-    see-requires
-    enum-known-number
-    enum-known-sight
-    ipv4-requires
+    (λ c κs. search needs)
+    (λ c. search needs)
+    (λ c. search needs)
+    (λ c κs. search needs)
     first-place-requires
     returns
     returns-2)

@@ -4,18 +4,6 @@ use Rattle.flowspec.proofs.TableLaws.{four-fits, look-refused, look-jud
 use Rattle.flowspec.proofs.lookup.Statement.{statement}
 use Rattle.flowspec.proofs.lookup.Tie as tie
 
-see-requires : tie.Need-see-requires
-see-requires c κs = search needs
-
-enum-known-number : tie.Need-enum-known-number
-enum-known-number c = search needs
-
-enum-known-sight : tie.Need-enum-known-sight
-enum-known-sight c = search needs
-
-ipv4-requires : tie.Need-ipv4-requires
-ipv4-requires c κs = search needs
-
 look-up-requires : tie.Need-look-up-requires
 look-up-requires c κs = search (four-fits, needs)
 
@@ -28,4 +16,4 @@ returns-2 c = search (look-judged, needs)
 pub lookup-spec : {M : Type 1} → statement M
 lookup-spec =
     tie.close
-    (tie.spec see-requires enum-known-number enum-known-sight ipv4-requires look-up-requires returns returns-2)
+    (tie.spec (λ c κs. search needs) (λ c. search needs) (λ c. search needs) (λ c κs. search needs) look-up-requires returns returns-2)

@@ -21,12 +21,6 @@ parts a b e = (ap (λ (s : State). s .routes) e, ap (λ (s : State). s .table) e
 below-zero : (got : ℤ) → ltZ (toZ w64 (ofZ w64 got)) (pos 0) ≡ true → got ≡ pos 0 → ⊥
 below-zero got l e = subst T (sym l ∙ ap (λ z. ltZ (toZ w64 (ofZ w64 z)) (pos 0)) e) tt
 
-slice-aggregate-write-all : tie.Need-slice-aggregate-write-all
-slice-aggregate-write-all c = search needs
-
-write-all-requires : tie.Need-write-all-requires
-write-all-requires c κs = search needs
-
 returns : tie.Need-returns
 returns c = λ zero input led. absurd (below-zero _ (c .before .before .if1 .taken) zero)
 
@@ -36,18 +30,6 @@ returns-2 c = λ zero input led. parts _ _ (end-empty input _ _ _ _ _ led (searc
 slice-aggregate-answer : tie.Need-slice-aggregate-answer
 slice-aggregate-answer c = sym (length-take-le _ _ (c .before .before .before .before .before .before .before .pre .2 .1 .within))
 
-answer-requires : tie.Need-answer-requires
-answer-requires c κs = search needs
-
-same-length : tie.Need-same-length
-same-length c = search needs
-
-same-length-2 : tie.Need-same-length-2
-same-length-2 c = search needs
-
-same-length-3 : tie.Need-same-length-3
-same-length-3 c = search needs
-
 returns-3 : tie.Need-returns-3
 returns-3 c = λ zero input led. parts _ _ (end-served input _ _ _ _ _ led (search needs) _ _ _ (c .before .before .before .before .before .before .answer .ensures .1))
 
@@ -55,13 +37,13 @@ pub answer-rest-spec : {M : Type 1} → statement M
 answer-rest-spec =
     tie.close
     (tie.spec
-    slice-aggregate-write-all
-    write-all-requires
+    (λ c. search needs)
+    (λ c κs. search needs)
     returns
     returns-2
     slice-aggregate-answer
-    answer-requires
-    same-length
-    same-length-2
-    same-length-3
+    (λ c κs. search needs)
+    (λ c. search needs)
+    (λ c. search needs)
+    (λ c. search needs)
     returns-3)

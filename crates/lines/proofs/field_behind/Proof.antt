@@ -7,24 +7,6 @@ use Rattle.lines.proofs.field_behind.Tie as tie
 returns : tie.Need-returns
 returns c = field-none _ _ _ (c .if1 .taken)
 
-add-start : tie.Need-add-start
-add-start c = search needs
-
-field-end-requires : tie.Need-field-end-requires
-field-end-requires c κs = search needs
-
-sub-is-of : tie.Need-sub-is-of
-sub-is-of c = search needs
-
-part-is-of-start : tie.Need-part-is-of-start
-part-is-of-start c = search needs
-
-part-is-of-end : tie.Need-part-is-of-end
-part-is-of-end c = search needs
-
-is-of-requires : tie.Need-is-of-requires
-is-of-requires c κs = search needs
-
 returns-2 : tie.Need-returns-2
 returns-2 c = field-some _ _ _ (c .before .before .before .before .if1 .left) _ (c .before .before .before .field-end .ensures) _ (c .before .is-of .ensures) (c .if2 .taken)
 
@@ -36,11 +18,11 @@ field-behind-spec =
     tie.close
     (tie.spec
     returns
-    add-start
-    field-end-requires
-    sub-is-of
-    part-is-of-start
-    part-is-of-end
-    is-of-requires
+    (λ c. search needs)
+    (λ c κs. search needs)
+    (λ c. search needs)
+    (λ c. search needs)
+    (λ c. search needs)
+    (λ c κs. search needs)
     returns-2
     returns-3)

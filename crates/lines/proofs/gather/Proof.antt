@@ -8,35 +8,11 @@ use Rattle.lines.proofs.GatherLaws.{gathers}
 use Rattle.lines.proofs.gather.Statement.{statement}
 use Rattle.lines.proofs.gather.Tie as tie
 
-place-of-requires : tie.Need-place-of-requires
-place-of-requires c κs = search needs
-
-least-requires : tie.Need-least-requires
-least-requires c κs = search needs
-
-sub-least : tie.Need-sub-least
-sub-least c = search needs
-
-least-requires-2 : tie.Need-least-requires-2
-least-requires-2 c κs = search needs
-
 slice-aggregate-store : tie.Need-slice-aggregate-store
 slice-aggregate-store c = sym (length-take-le _ _ (omega arith))
 
 store-requires : tie.Need-store-requires
 store-requires c κs = simp length-take (omega arith)
-
-add-least : tie.Need-add-least
-add-least c = search needs
-
-least-requires-3 : tie.Need-least-requires-3
-least-requires-3 c κs = search needs
-
-add-t8 : tie.Need-add-t8
-add-t8 c = search needs
-
-same-length : tie.Need-same-length
-same-length c = search needs
 
 returns : tie.Need-returns
 returns c =
@@ -46,14 +22,14 @@ pub gather-spec : {M : Type 1} → statement M
 gather-spec =
     tie.close
     (tie.spec
-    place-of-requires
-    least-requires
-    sub-least
-    least-requires-2
+    (λ c κs. search needs)
+    (λ c κs. search needs)
+    (λ c. search needs)
+    (λ c κs. search needs)
     slice-aggregate-store
     store-requires
-    add-least
-    least-requires-3
-    add-t8
-    same-length
+    (λ c. search needs)
+    (λ c κs. search needs)
+    (λ c. search needs)
+    (λ c. search needs)
     returns)

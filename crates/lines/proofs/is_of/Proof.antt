@@ -5,27 +5,6 @@ use borrow.Author.Needs.{needs}
 use Rattle.lines.proofs.is_of.Statement.{statement}
 use Rattle.lines.proofs.is_of.Tie as tie
 
-enum-told : tie.Need-enum-told
-enum-told c = search needs
-
-is-address-requires : tie.Need-is-address-requires
-is-address-requires c κs = search needs
-
-enum-told-2 : tie.Need-enum-told-2
-enum-told-2 c = search needs
-
-is-rule-requires : tie.Need-is-rule-requires
-is-rule-requires c κs = search needs
-
-enum-told-3 : tie.Need-enum-told-3
-enum-told-3 c = search needs
-
-are-octets-requires : tie.Need-are-octets-requires
-are-octets-requires c κs = search needs
-
-enum-told-4 : tie.Need-enum-told-4
-enum-told-4 c = search needs
-
 returns : tie.Need-returns
 returns c = kind-is _ _ _ (c .before .enum-told .given .1) (c .is-address .ensures)
 
@@ -42,13 +21,13 @@ pub is-of-spec : {M : Type 1} → statement M
 is-of-spec =
     tie.close
     (tie.spec
-    enum-told
-    is-address-requires
-    enum-told-2
-    is-rule-requires
-    enum-told-3
-    are-octets-requires
-    enum-told-4
+    (λ c. search needs)
+    (λ c κs. search needs)
+    (λ c. search needs)
+    (λ c κs. search needs)
+    (λ c. search needs)
+    (λ c κs. search needs)
+    (λ c. search needs)
     returns
     returns-2
     returns-3

@@ -10,15 +10,6 @@ use Rattle.lines.proofs.number_behind.Tie as tie
 there : (c : tie.After-known-told) → Fielded (isOf Any) (c .before .before .before .before .before .args .line .now) (c .before .before .before .before .before .args .end) (c .before .start .given .0 .0) (c .before .start .given .0 .1 .0)
 there c = was-there _ _ _ _ (c .before .before .before .field-behind .ensures) _ _ (c .before .start .given .1)
 
-field-behind-requires : tie.Need-field-behind-requires
-field-behind-requires c κs = search needs
-
-enum-known-start : tie.Need-enum-known-start
-enum-known-start c = search needs
-
-enum-told : tie.Need-enum-told
-enum-told c = search needs
-
 returns : tie.Need-returns
 returns c = none-at-all _ _ _ (c .before .before .field-behind .ensures) (c .enum-told .given .1)
 
@@ -31,15 +22,6 @@ part-read-number-start c = omega (arith, there c)
 part-read-number-end : tie.Need-part-read-number-end
 part-read-number-end c = omega (arith, there c)
 
-read-number-requires : tie.Need-read-number-requires
-read-number-requires c κs = search needs
-
-enum-known-number : tie.Need-enum-known-number
-enum-known-number c = search needs
-
-enum-told-2 : tie.Need-enum-told-2
-enum-told-2 c = search needs
-
 returns-2 : tie.Need-returns-2
 returns-2 c = not-numbered _ _ _ _ (there (c .before .before .before .before)) _ (c .before .before .read-number .ensures) (c .enum-told2 .given .1)
 
@@ -50,15 +32,15 @@ pub number-behind-spec : {M : Type 1} → statement M
 number-behind-spec =
     tie.close
     (tie.spec
-    field-behind-requires
-    enum-known-start
-    enum-told
+    (λ c κs. search needs)
+    (λ c. search needs)
+    (λ c. search needs)
     returns
     sub-read-number
     part-read-number-start
     part-read-number-end
-    read-number-requires
-    enum-known-number
-    enum-told-2
+    (λ c κs. search needs)
+    (λ c. search needs)
+    (λ c. search needs)
     returns-2
     returns-3)

@@ -7,27 +7,15 @@ use borrow.Author.Needs.{needs}
 use Rattle.lines.proofs.put_answer.Statement.{statement}
 use Rattle.lines.proofs.put_answer.Tie as tie
 
-slice-aggregate-put-octets : tie.Need-slice-aggregate-put-octets
-slice-aggregate-put-octets c = search needs
-
-put-octets-requires : tie.Need-put-octets-requires
-put-octets-requires c κs = search needs
-
 put-decimal-requires : tie.Need-put-decimal-requires
 put-decimal-requires c κs = omega (arith, decimal-short (c .before .before .before .before .before .before .before .args .number) (omega arith))
 
 put-place-requires : tie.Need-put-place-requires
 put-place-requires c κs = omega (arith, decimal-short (c .before .before .before .before .before .before .before .before .before .before .before .args .number) (omega arith))
 
-slice-aggregate-put-octets-2 : tie.Need-slice-aggregate-put-octets-2
-slice-aggregate-put-octets-2 c = search needs
-
 put-octets-requires-2 : tie.Need-put-octets-requires-2
 put-octets-requires-2 c κs =
     omega (arith, decimal-short (c .before .before .before .before .before .before .before .before .before .before .before .before .before .before .before .before .args .number) (omega arith), place-short (c .before .before .before .before .before .before .before .before .before .before .before .before .before .before .before .before .args .number) (c .before .before .before .before .before .before .before .before .before .before .before .before .before .before .before .before .args .place) (omega arith))
-
-same-length : tie.Need-same-length
-same-length c = search needs
 
 returns : tie.Need-returns
 unfolding answerText
@@ -40,11 +28,11 @@ pub put-answer-spec : {M : Type 1} → statement M
 put-answer-spec =
     tie.close
     (tie.spec
-    slice-aggregate-put-octets
-    put-octets-requires
+    (λ c. search needs)
+    (λ c κs. search needs)
     put-decimal-requires
     put-place-requires
-    slice-aggregate-put-octets-2
+    (λ c. search needs)
     put-octets-requires-2
-    same-length
+    (λ c. search needs)
     returns)

@@ -7,39 +7,15 @@ use borrow.Author.Needs.{needs}
 use Rattle.lines.proofs.put_list.Statement.{statement}
 use Rattle.lines.proofs.put_list.Tie as tie
 
-ipv4-requires : tie.Need-ipv4-requires
-ipv4-requires c κs = search needs
-
 sound-table-requires : tie.Need-sound-table-requires
 sound-table-requires c κs = four-fits _ (c .ipv4 .ensures)
-
-enum-told : tie.Need-enum-told
-enum-told c = search needs
-
-put-answer-requires : tie.Need-put-answer-requires
-put-answer-requires c κs = search needs
-
-enum-told-2 : tie.Need-enum-told-2
-enum-told-2 c = search needs
-
-count-records-requires : tie.Need-count-records-requires
-count-records-requires c κs = search needs
-
-put-count-requires : tie.Need-put-count-requires
-put-count-requires c κs = search needs
 
 put-records-requires : tie.Need-put-records-requires
 put-records-requires c κs =
     (list-short _ _ (c .before .before .before .before .before .before .before .before .before .ipv4 .ensures) _ (c .before .before .before .before .before .before .before .before .sound-table .ensures) _ (c .before .before .before .before .before .before .enum-told2 .given .1), omega (arith, count-short (c .before .before .before .before .before .count-records .result) (omega arith)))
 
-same-length : tie.Need-same-length
-same-length c = search needs
-
 returns : tie.Need-returns
 returns c = rw (list-unsound _ _ (c .before .before .before .before .before .before .before .ipv4 .ensures) _ (c .before .before .before .before .before .before .sound-table .ensures) (c .before .before .before .before .enum-told .given .1)) (c .before .before .put-answer .ensures)
-
-same-length-2 : tie.Need-same-length-2
-same-length-2 c = search needs
 
 returns-2 : tie.Need-returns-2
 returns-2 c =
@@ -49,15 +25,15 @@ pub put-list-spec : {M : Type 1} → statement M
 put-list-spec =
     tie.close
     (tie.spec
-    ipv4-requires
+    (λ c κs. search needs)
     sound-table-requires
-    enum-told
-    put-answer-requires
-    enum-told-2
-    count-records-requires
-    put-count-requires
+    (λ c. search needs)
+    (λ c κs. search needs)
+    (λ c. search needs)
+    (λ c κs. search needs)
+    (λ c κs. search needs)
     put-records-requires
-    same-length
+    (λ c. search needs)
     returns
-    same-length-2
+    (λ c. search needs)
     returns-2)

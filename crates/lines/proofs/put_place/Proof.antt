@@ -12,17 +12,8 @@ returns c = printed-none _ _ _ (place-low _ _ (c .if1 .taken))
 returns-2 : tie.Need-returns-2
 returns-2 c = printed-none _ _ _ (place-high _ _ (c .if2 .taken))
 
-slice-aggregate-put-octets : tie.Need-slice-aggregate-put-octets
-slice-aggregate-put-octets c = search needs
-
-put-octets-requires : tie.Need-put-octets-requires
-put-octets-requires c κs = search needs
-
 put-decimal-requires : tie.Need-put-decimal-requires
 put-decimal-requires c κs = omega (arith, decimal-short (c .before .before .before .before .before .before .before .before .before .args .place) (omega arith))
-
-same-length : tie.Need-same-length
-same-length c = search needs
 
 returns-3 : tie.Need-returns-3
 returns-3 c =
@@ -34,8 +25,8 @@ put-place-spec =
     (tie.spec
     returns
     returns-2
-    slice-aggregate-put-octets
-    put-octets-requires
+    (λ c. search needs)
+    (λ c κs. search needs)
     put-decimal-requires
-    same-length
+    (λ c. search needs)
     returns-3)

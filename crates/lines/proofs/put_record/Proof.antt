@@ -7,23 +7,11 @@ use borrow.Author.Needs.{needs}
 use Rattle.lines.proofs.put_record.Statement.{statement}
 use Rattle.lines.proofs.put_record.Tie as tie
 
-slice-aggregate-put-octets : tie.Need-slice-aggregate-put-octets
-slice-aggregate-put-octets c = search needs
-
-put-octets-requires : tie.Need-put-octets-requires
-put-octets-requires c κs = search needs
-
 put-hex-requires : tie.Need-put-hex-requires
 put-hex-requires c κs = omega (arith, length-hexOf (c .before .before .before .before .before .before .before .before .args .held .now))
 
-slice-aggregate-put-octets-2 : tie.Need-slice-aggregate-put-octets-2
-slice-aggregate-put-octets-2 c = search needs
-
 put-octets-requires-2 : tie.Need-put-octets-requires-2
 put-octets-requires-2 c κs = omega (arith, length-hexOf (c .before .before .before .before .before .before .before .before .before .before .before .before .before .args .held .now))
-
-same-length : tie.Need-same-length
-same-length c = search needs
 
 returns : tie.Need-returns
 unfolding ruleText
@@ -33,10 +21,10 @@ pub put-record-spec : {M : Type 1} → statement M
 put-record-spec =
     tie.close
     (tie.spec
-    slice-aggregate-put-octets
-    put-octets-requires
+    (λ c. search needs)
+    (λ c κs. search needs)
     put-hex-requires
-    slice-aggregate-put-octets-2
+    (λ c. search needs)
     put-octets-requires-2
-    same-length
+    (λ c. search needs)
     returns)

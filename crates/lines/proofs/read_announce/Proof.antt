@@ -18,38 +18,11 @@ numbered c = was-number _ _ _ (c .before .before .before .number-behind .ensures
 behind-it : (c : tie.After-known-told3) → Fielded areOctets (c .before .before .before .before .before .before .before .before .before .before .before .before .before .args .line .now) (c .before .before .before .before .before .originator .given .0 .1 .0) (c .before .communities .given .0 .0) (c .before .communities .given .0 .1 .0)
 behind-it c = was-there _ _ _ _ (c .before .before .before .field-behind2 .ensures) _ _ (c .before .communities .given .1)
 
-field-behind-requires : tie.Need-field-behind-requires
-field-behind-requires c κs = search needs
-
-enum-known-start : tie.Need-enum-known-start
-enum-known-start c = search needs
-
-enum-told : tie.Need-enum-told
-enum-told c = search needs
-
 returns : tie.Need-returns
 returns c = no-announce _ _ (field-fails _ _ _ _ (c .before .before .field-behind .ensures) _ (c .enum-told .given .1))
 
-number-behind-requires : tie.Need-number-behind-requires
-number-behind-requires c κs = search needs
-
-enum-known-originator : tie.Need-enum-known-originator
-enum-known-originator c = search needs
-
-enum-told-2 : tie.Need-enum-told-2
-enum-told-2 c = search needs
-
 returns-2 : tie.Need-returns-2
 returns-2 c = no-announce _ _ (passes _ _ _ _ _ _ (there (c .before .before .before)) ∙ number-fails _ _ _ (c .before .before .number-behind .ensures) _ (c .enum-told2 .given .1))
-
-field-behind-requires-2 : tie.Need-field-behind-requires-2
-field-behind-requires-2 c κs = search needs
-
-enum-known-communities : tie.Need-enum-known-communities
-enum-known-communities c = search needs
-
-enum-told-3 : tie.Need-enum-told-3
-enum-told-3 c = search needs
 
 returns-3 : tie.Need-returns-3
 returns-3 c = no-announce _ _ (passes _ _ _ _ _ _ (there (c .before .before .before .before .before .before .before)) ∙ passes _ _ _ _ _ _ (numbered (c .before .before .before) .there) ∙ field-fails _ _ _ _ (c .before .before .field-behind2 .ensures) _ (c .enum-told3 .given .1))
@@ -64,17 +37,17 @@ pub read-announce-spec : {M : Type 1} → statement M
 read-announce-spec =
     tie.close
     (tie.spec
-    field-behind-requires
-    enum-known-start
-    enum-told
+    (λ c κs. search needs)
+    (λ c. search needs)
+    (λ c. search needs)
     returns
-    number-behind-requires
-    enum-known-originator
-    enum-told-2
+    (λ c κs. search needs)
+    (λ c. search needs)
+    (λ c. search needs)
     returns-2
-    field-behind-requires-2
-    enum-known-communities
-    enum-told-3
+    (λ c κs. search needs)
+    (λ c. search needs)
+    (λ c. search needs)
     returns-3
     returns-4
     returns-5)

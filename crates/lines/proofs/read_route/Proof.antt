@@ -21,50 +21,14 @@ from c = was-number _ _ _ (c .before .before .before .number-behind2 .ensures) _
 by : (c : tie.After-known-told4) → Numbered (c .before .before .before .before .before .before .before .before .before .before .before .before .before .before .before .before .before .args .line .now) (c .before .before .before .before .before .originator .given .0 .1 .0) (c .before .neighbour .given .0 .0) (c .before .neighbour .given .0 .1 .0)
 by c = was-number _ _ _ (c .before .before .before .number-behind3 .ensures) _ _ (c .before .neighbour .given .1)
 
-field-behind-requires : tie.Need-field-behind-requires
-field-behind-requires c κs = search needs
-
-enum-known-start : tie.Need-enum-known-start
-enum-known-start c = search needs
-
-enum-told : tie.Need-enum-told
-enum-told c = search needs
-
 returns : tie.Need-returns
 returns c = no-route _ _ (field-fails _ _ _ _ (c .before .before .field-behind .ensures) _ (c .enum-told .given .1))
-
-number-behind-requires : tie.Need-number-behind-requires
-number-behind-requires c κs = search needs
-
-enum-known-size : tie.Need-enum-known-size
-enum-known-size c = search needs
-
-enum-told-2 : tie.Need-enum-told-2
-enum-told-2 c = search needs
 
 returns-2 : tie.Need-returns-2
 returns-2 c = no-route _ _ (passes _ _ _ _ _ _ (there (c .before .before .before)) ∙ number-fails _ _ _ (c .before .before .number-behind .ensures) _ (c .enum-told2 .given .1))
 
-number-behind-requires-2 : tie.Need-number-behind-requires-2
-number-behind-requires-2 c κs = search needs
-
-enum-known-originator : tie.Need-enum-known-originator
-enum-known-originator c = search needs
-
-enum-told-3 : tie.Need-enum-told-3
-enum-told-3 c = search needs
-
 returns-3 : tie.Need-returns-3
 returns-3 c = no-route _ _ (passes _ _ _ _ _ _ (there (c .before .before .before .before .before .before .before)) ∙ passes _ _ _ _ _ _ (sized (c .before .before .before) .there) ∙ number-fails _ _ _ (c .before .before .number-behind2 .ensures) _ (c .enum-told3 .given .1))
-
-number-behind-requires-3 : tie.Need-number-behind-requires-3
-number-behind-requires-3 c κs = search needs
-
-enum-known-neighbour : tie.Need-enum-known-neighbour
-enum-known-neighbour c = search needs
-
-enum-told-4 : tie.Need-enum-told-4
-enum-told-4 c = search needs
 
 returns-4 : tie.Need-returns-4
 returns-4 c = no-route _ _ (passes _ _ _ _ _ _ (there (c .before .before .before .before .before .before .before .before .before .before .before)) ∙ passes _ _ _ _ _ _ (sized (c .before .before .before .before .before .before .before) .there) ∙ passes _ _ _ _ _ _ (from (c .before .before .before) .there) ∙ number-fails _ _ _ (c .before .before .number-behind3 .ensures) _ (c .enum-told4 .given .1))
@@ -81,9 +45,6 @@ part-word-in-start c = omega (arith, there (c .before .before .before .before .b
 part-word-in-end : tie.Need-part-word-in-end
 part-word-in-end c = omega (arith, there (c .before .before .before .before .before .before .before .before .before .before .before .before .before))
 
-word-in-requires : tie.Need-word-in-requires
-word-in-requires c κs = search needs
-
 returns-6 : tie.Need-returns-6
 returns-6 c = let k = c .before .before in route-read _ _ _ _ (there (k .before .before .before .before .before .before .before .before .before .before .before .before .before)) _ _ (sized (k .before .before .before .before .before .before .before .before .before)) _ _ (from (k .before .before .before .before .before)) _ _ (by (k .before)) (k .if1 .left) _ (c .word-in .ensures)
 
@@ -91,25 +52,25 @@ pub read-route-spec : {M : Type 1} → statement M
 read-route-spec =
     tie.close
     (tie.spec
-    field-behind-requires
-    enum-known-start
-    enum-told
+    (λ c κs. search needs)
+    (λ c. search needs)
+    (λ c. search needs)
     returns
-    number-behind-requires
-    enum-known-size
-    enum-told-2
+    (λ c κs. search needs)
+    (λ c. search needs)
+    (λ c. search needs)
     returns-2
-    number-behind-requires-2
-    enum-known-originator
-    enum-told-3
+    (λ c κs. search needs)
+    (λ c. search needs)
+    (λ c. search needs)
     returns-3
-    number-behind-requires-3
-    enum-known-neighbour
-    enum-told-4
+    (λ c κs. search needs)
+    (λ c. search needs)
+    (λ c. search needs)
     returns-4
     returns-5
     sub-word-in
     part-word-in-start
     part-word-in-end
-    word-in-requires
+    (λ c κs. search needs)
     returns-6)

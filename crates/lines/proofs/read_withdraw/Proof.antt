@@ -11,15 +11,6 @@ use Rattle.lines.proofs.read_withdraw.Tie as tie
 there : (c : tie.After-known-told) → Fielded isRule (c .before .before .before .before .before .args .line .now) (c .before .before .before .before .before .args .word) (c .before .start .given .0 .0) (c .before .start .given .0 .1 .0)
 there c = was-there _ _ _ _ (c .before .before .before .field-behind .ensures) _ _ (c .before .start .given .1)
 
-field-behind-requires : tie.Need-field-behind-requires
-field-behind-requires c κs = search needs
-
-enum-known-start : tie.Need-enum-known-start
-enum-known-start c = search needs
-
-enum-told : tie.Need-enum-told
-enum-told c = search needs
-
 returns : tie.Need-returns
 returns c = no-withdraw _ _ (field-fails _ _ _ _ (c .before .before .field-behind .ensures) _ (c .enum-told .given .1))
 
@@ -32,4 +23,4 @@ returns-3 c = withdraw-read _ _ _ _ (there (c .before)) (c .if1 .left)
 pub read-withdraw-spec : {M : Type 1} → statement M
 read-withdraw-spec =
     tie.close
-    (tie.spec field-behind-requires enum-known-start enum-told returns returns-2 returns-3)
+    (tie.spec (λ c κs. search needs) (λ c. search needs) (λ c. search needs) returns returns-2 returns-3)

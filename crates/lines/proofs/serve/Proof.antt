@@ -16,29 +16,8 @@ announced c = announce-places _ _ (c .before .before .before .read-line .ensures
 withdrawn : (c : tie.After-known-told3) → (c .before .rule2 .given .0 .0 ≤ length (c .before .before .before .before .before .before .before .before .args .line .now)) × (length (c .before .before .before .before .before .before .before .before .args .line .now) ≤ mostSigns)
 withdrawn c = withdraw-places _ _ (c .before .before .before .read-line .ensures) _ (c .before .rule2 .given .1)
 
-read-line-requires : tie.Need-read-line-requires
-read-line-requires c κs = search needs
-
-enum-known-address : tie.Need-enum-known-address
-enum-known-address c = search needs
-
-serve-route-requires : tie.Need-serve-route-requires
-serve-route-requires c κs = search needs
-
-same-length : tie.Need-same-length
-same-length c = search needs
-
-same-length-2 : tie.Need-same-length-2
-same-length-2 c = search needs
-
 returns : tie.Need-returns
 returns c = serve-routed _ _ _ _ _ _ (c .before .before .before .before .before .before .before .before .before .before .read-line .ensures) _ _ _ _ (c .before .before .before .before .before .before .before .before .address .given .1) _ _ _ (c .before .before .before .before .serve-route .ensures)
-
-enum-known-rule : tie.Need-enum-known-rule
-enum-known-rule c = search needs
-
-least-requires : tie.Need-least-requires
-least-requires c κs = search needs
 
 sub-serve-announce : tie.Need-sub-serve-announce
 sub-serve-announce c = omega (arith, announced (c .before))
@@ -55,20 +34,11 @@ sub-serve-announce-2 c = omega (arith, announced (c .before .before))
 part-serve-announce-start-2 : tie.Need-part-serve-announce-start-2
 part-serve-announce-start-2 c = omega (arith, announced (c .before .before))
 
-part-serve-announce-end-2 : tie.Need-part-serve-announce-end-2
-part-serve-announce-end-2 c = search needs
-
-slice-reshare-prefix-serve-announce : tie.Need-slice-reshare-prefix-serve-announce
-slice-reshare-prefix-serve-announce c = search needs
-
 slice-aggregate-serve-announce : tie.Need-slice-aggregate-serve-announce
 slice-aggregate-serve-announce c = sym (length-take-le _ _ (omega arith))
 
 serve-announce-requires : tie.Need-serve-announce-requires
 serve-announce-requires c κs = let w = announced (c .before .before .before .before .before .before) in (simp (length-take, length-drop) (omega arith), simp (length-take, length-drop) (omega arith))
-
-enum-known-rule-2 : tie.Need-enum-known-rule-2
-enum-known-rule-2 c = search needs
 
 sub-serve-withdraw : tie.Need-sub-serve-withdraw
 sub-serve-withdraw c = omega (arith, withdrawn c)
@@ -76,56 +46,17 @@ sub-serve-withdraw c = omega (arith, withdrawn c)
 part-serve-withdraw-start : tie.Need-part-serve-withdraw-start
 part-serve-withdraw-start c = omega (arith, withdrawn c)
 
-part-serve-withdraw-end : tie.Need-part-serve-withdraw-end
-part-serve-withdraw-end c = search needs
-
 serve-withdraw-requires : tie.Need-serve-withdraw-requires
 serve-withdraw-requires c κs = let w = withdrawn (c .before .before .before) in simp (length-take, length-drop) (omega arith)
-
-enum-told : tie.Need-enum-told
-enum-told c = search needs
-
-put-list-requires : tie.Need-put-list-requires
-put-list-requires c κs = search needs
-
-enum-told-2 : tie.Need-enum-told-2
-enum-told-2 c = search needs
-
-put-unknown-requires : tie.Need-put-unknown-requires
-put-unknown-requires c κs = search needs
-
-same-length-3 : tie.Need-same-length-3
-same-length-3 c = search needs
-
-same-length-4 : tie.Need-same-length-4
-same-length-4 c = search needs
-
-same-length-5 : tie.Need-same-length-5
-same-length-5 c = search needs
 
 returns-2 : tie.Need-returns-2
 returns-2 c = serve-announced _ _ _ _ _ _ (c .before .before .before .before .before .before .before .before .before .before .before .before .before .before .read-line .ensures) _ _ _ _ (c .before .before .before .before .before .before .before .before .before .before .before .before .rule .given .1) _ _ _ _ (c .before .before .before .before .before .before .before .before .before .before .least .ensures) (c .before .before .before .before .serve-announce .ensures)
 
-same-length-6 : tie.Need-same-length-6
-same-length-6 c = search needs
-
-same-length-7 : tie.Need-same-length-7
-same-length-7 c = search needs
-
 returns-3 : tie.Need-returns-3
 returns-3 c = serve-withdrawn _ _ _ _ _ _ (c .before .before .before .before .before .before .before .before .before .before .before .read-line .ensures) _ (c .before .before .before .before .before .before .before .before .before .rule2 .given .1) _ _ _ (c .before .before .before .before .serve-withdraw .ensures)
 
-same-length-8 : tie.Need-same-length-8
-same-length-8 c = search needs
-
-same-length-9 : tie.Need-same-length-9
-same-length-9 c = search needs
-
 returns-4 : tie.Need-returns-4
 returns-4 c = serve-listed _ _ _ _ _ _ (c .before .before .before .before .before .before .before .read-line .ensures) (c .before .before .before .before .before .enum-told .given .1) _ _ (c .before .before .put-list .ensures)
-
-same-length-10 : tie.Need-same-length-10
-same-length-10 c = search needs
 
 returns-5 : tie.Need-returns-5
 returns-5 c = serve-unknown _ _ _ _ _ _ (c .before .before .before .before .before .before .read-line .ensures) (c .before .before .before .before .enum-told2 .given .1) _ _ (c .before .before .put-unknown .ensures)
@@ -134,41 +65,41 @@ pub serve-spec : {M : Type 1} → statement M
 serve-spec =
     tie.close
     (tie.spec
-    read-line-requires
-    enum-known-address
-    serve-route-requires
-    same-length
-    same-length-2
+    (λ c κs. search needs)
+    (λ c. search needs)
+    (λ c κs. search needs)
+    (λ c. search needs)
+    (λ c. search needs)
     returns
-    enum-known-rule
-    least-requires
+    (λ c. search needs)
+    (λ c κs. search needs)
     sub-serve-announce
     part-serve-announce-start
     part-serve-announce-end
     sub-serve-announce-2
     part-serve-announce-start-2
-    part-serve-announce-end-2
-    slice-reshare-prefix-serve-announce
+    (λ c. search needs)
+    (λ c. search needs)
     slice-aggregate-serve-announce
     serve-announce-requires
-    enum-known-rule-2
+    (λ c. search needs)
     sub-serve-withdraw
     part-serve-withdraw-start
-    part-serve-withdraw-end
+    (λ c. search needs)
     serve-withdraw-requires
-    enum-told
-    put-list-requires
-    enum-told-2
-    put-unknown-requires
-    same-length-3
-    same-length-4
-    same-length-5
+    (λ c. search needs)
+    (λ c κs. search needs)
+    (λ c. search needs)
+    (λ c κs. search needs)
+    (λ c. search needs)
+    (λ c. search needs)
+    (λ c. search needs)
     returns-2
-    same-length-6
-    same-length-7
+    (λ c. search needs)
+    (λ c. search needs)
     returns-3
-    same-length-8
-    same-length-9
+    (λ c. search needs)
+    (λ c. search needs)
     returns-4
-    same-length-10
+    (λ c. search needs)
     returns-5)

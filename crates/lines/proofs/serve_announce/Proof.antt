@@ -5,18 +5,6 @@ use borrow.Author.Needs.{needs}
 use Rattle.lines.proofs.serve_announce.Statement.{statement}
 use Rattle.lines.proofs.serve_announce.Tie as tie
 
-slice-aggregate-read-octets : tie.Need-slice-aggregate-read-octets
-slice-aggregate-read-octets c = search needs
-
-read-octets-requires : tie.Need-read-octets-requires
-read-octets-requires c κs = search needs
-
-slice-aggregate-read-octets-2 : tie.Need-slice-aggregate-read-octets-2
-slice-aggregate-read-octets-2 c = search needs
-
-read-octets-requires-2 : tie.Need-read-octets-requires-2
-read-octets-requires-2 c κs = search needs
-
 array-share-prefix-octets : tie.Need-array-share-prefix-octets
 array-share-prefix-octets c = read-within _ _ _ _ (c .before .before .before .before .before .read-octets .ensures) (omega arith)
 
@@ -29,18 +17,6 @@ array-share-prefix-actions c = read-within _ _ _ _ (c .before .before .before .r
 slice-aggregate-announce-2 : tie.Need-slice-aggregate-announce-2
 slice-aggregate-announce-2 c = read-size _ _ _ _ (c .before .before .before .before .read-octets2 .ensures) (omega arith)
 
-announce-requires : tie.Need-announce-requires
-announce-requires c κs = search needs
-
-put-change-requires : tie.Need-put-change-requires
-put-change-requires c κs = search needs
-
-same-length : tie.Need-same-length
-same-length c = search needs
-
-same-length-2 : tie.Need-same-length-2
-same-length-2 c = search needs
-
 returns : tie.Need-returns
 returns c =
     let octets = read-is _ _ _ _ (c .before .before .before .before .before .before .before .before .before .before .before .before .before .before .read-octets .ensures) (omega arith) in
@@ -52,16 +28,16 @@ pub serve-announce-spec : {M : Type 1} → statement M
 serve-announce-spec =
     tie.close
     (tie.spec
-    slice-aggregate-read-octets
-    read-octets-requires
-    slice-aggregate-read-octets-2
-    read-octets-requires-2
+    (λ c. search needs)
+    (λ c κs. search needs)
+    (λ c. search needs)
+    (λ c κs. search needs)
     array-share-prefix-octets
     slice-aggregate-announce
     array-share-prefix-actions
     slice-aggregate-announce-2
-    announce-requires
-    put-change-requires
-    same-length
-    same-length-2
+    (λ c κs. search needs)
+    (λ c κs. search needs)
+    (λ c. search needs)
+    (λ c. search needs)
     returns)

@@ -11,18 +11,6 @@ use Rattle.lines.proofs.serve_route.Tie as tie
 room : (c : tie.Else1) → (c .before .before .before .before .before .args .used + 4 ≤ mostWords) × (c .before .before .before .before .before .args .used + 4 ≤ length (c .before .before .before .before .before .args .routes .now))
 room c = let a = c .before .before .before .before .before .args in route-room (a .routes .now) (a .used) _ (c .before .route-fits .ensures) (c .if1 .left)
 
-route-fits-requires : tie.Need-route-fits-requires
-route-fits-requires c κs = search needs
-
-put-unknown-requires : tie.Need-put-unknown-requires
-put-unknown-requires c κs = search needs
-
-same-length : tie.Need-same-length
-same-length c = search needs
-
-same-length-2 : tie.Need-same-length-2
-same-length-2 c = search needs
-
 returns : tie.Need-returns
 returns c = let a = c .before .before .before .before .before .before .before .before .before .args in route-not-added (a .routes .now) (a .used) (a .address) (a .size) (a .originator) (a .neighbour) _ _ (c .before .before .before .before .before .route-fits .ensures) (c .before .before .before .before .if1 .taken) _ _ (c .before .before .put-unknown .ensures)
 
@@ -62,9 +50,6 @@ slice-write-routes-4 c = simp length-set (omega (arith, room c))
 add-t18 : tie.Need-add-t18
 add-t18 c = omega (arith, room c)
 
-same-length-3 : tie.Need-same-length-3
-same-length-3 c = search needs
-
 returns-2 : tie.Need-returns-2
 returns-2 c = let a = c .before .before .before .before .before .args in route-added (a .routes .now) (a .used) (a .address) (a .size) (a .originator) (a .neighbour) _ _ (c .before .route-fits .ensures) (c .if1 .left)
 
@@ -72,10 +57,10 @@ pub serve-route-spec : {M : Type 1} → statement M
 serve-route-spec =
     tie.close
     (tie.spec
-    route-fits-requires
-    put-unknown-requires
-    same-length
-    same-length-2
+    (λ c κs. search needs)
+    (λ c κs. search needs)
+    (λ c. search needs)
+    (λ c. search needs)
     returns
     add-second
     add-third
@@ -89,5 +74,5 @@ serve-route-spec =
     mul-routes-4
     slice-write-routes-4
     add-t18
-    same-length-3
+    (λ c. search needs)
     returns-2)

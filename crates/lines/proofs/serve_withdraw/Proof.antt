@@ -5,29 +5,11 @@ use borrow.Author.Needs.{needs}
 use Rattle.lines.proofs.serve_withdraw.Statement.{statement}
 use Rattle.lines.proofs.serve_withdraw.Tie as tie
 
-slice-aggregate-read-octets : tie.Need-slice-aggregate-read-octets
-slice-aggregate-read-octets c = search needs
-
-read-octets-requires : tie.Need-read-octets-requires
-read-octets-requires c κs = search needs
-
 array-share-prefix-octets : tie.Need-array-share-prefix-octets
 array-share-prefix-octets c = read-within _ _ _ _ (c .before .before .read-octets .ensures) (omega arith)
 
 slice-aggregate-withdraw : tie.Need-slice-aggregate-withdraw
 slice-aggregate-withdraw c = read-size _ _ _ _ (c .before .before .before .read-octets .ensures) (omega arith)
-
-withdraw-requires : tie.Need-withdraw-requires
-withdraw-requires c κs = search needs
-
-put-change-requires : tie.Need-put-change-requires
-put-change-requires c κs = search needs
-
-same-length : tie.Need-same-length
-same-length c = search needs
-
-same-length-2 : tie.Need-same-length-2
-same-length-2 c = search needs
 
 returns : tie.Need-returns
 returns c =
@@ -39,12 +21,12 @@ pub serve-withdraw-spec : {M : Type 1} → statement M
 serve-withdraw-spec =
     tie.close
     (tie.spec
-    slice-aggregate-read-octets
-    read-octets-requires
+    (λ c. search needs)
+    (λ c κs. search needs)
     array-share-prefix-octets
     slice-aggregate-withdraw
-    withdraw-requires
-    put-change-requires
-    same-length
-    same-length-2
+    (λ c κs. search needs)
+    (λ c κs. search needs)
+    (λ c. search needs)
+    (λ c. search needs)
     returns)

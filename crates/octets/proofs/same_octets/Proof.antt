@@ -5,18 +5,6 @@ use Rattle.octets.proofs.TestLaws.{compared}
 use Rattle.octets.proofs.same_octets.Statement.{statement}
 use Rattle.octets.proofs.same_octets.Tie as tie
 
-compare-octets-requires : tie.Need-compare-octets-requires
-compare-octets-requires c κs = search needs
-
-enum-told : tie.Need-enum-told
-enum-told c = search needs
-
-enum-told-2 : tie.Need-enum-told-2
-enum-told-2 c = search needs
-
-enum-told-3 : tie.Need-enum-told-3
-enum-told-3 c = search needs
-
 returns : tie.Need-returns
 returns c = compared _ First _ _ (c .enum-told .given .1) (c .before .before .compare-octets .ensures)
 
@@ -30,10 +18,10 @@ pub same-octets-spec : {M : Type 1} → statement M
 same-octets-spec =
     tie.close
     (tie.spec
-    compare-octets-requires
-    enum-told
-    enum-told-2
-    enum-told-3
+    (λ c κs. search needs)
+    (λ c. search needs)
+    (λ c. search needs)
+    (λ c. search needs)
     returns
     returns-2
     returns-3)

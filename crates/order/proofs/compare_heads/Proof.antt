@@ -6,20 +6,11 @@ use borrow.Author.Needs.{needs}
 use Rattle.order.proofs.compare_heads.Statement.{statement}
 use Rattle.order.proofs.compare_heads.Tie as tie
 
-least-requires : tie.Need-least-requires
-least-requires c κs = search needs
-
-least-requires-2 : tie.Need-least-requires-2
-least-requires-2 c κs = search needs
-
 slice-aggregate-compare-octets : tie.Need-slice-aggregate-compare-octets
 slice-aggregate-compare-octets c = simp length-take (omega arith)
 
 slice-aggregate-compare-octets-2 : tie.Need-slice-aggregate-compare-octets-2
 slice-aggregate-compare-octets-2 c = simp length-take (omega arith)
-
-compare-octets-requires : tie.Need-compare-octets-requires
-compare-octets-requires c κs = search needs
 
 returns : tie.Need-returns
 returns c = search (heads-taken, needs)
@@ -28,9 +19,9 @@ pub compare-heads-spec : {M : Type 1} → statement M
 compare-heads-spec =
     tie.close
     (tie.spec
-    least-requires
-    least-requires-2
+    (λ c κs. search needs)
+    (λ c κs. search needs)
     slice-aggregate-compare-octets
     slice-aggregate-compare-octets-2
-    compare-octets-requires
+    (λ c κs. search needs)
     returns)

@@ -20,36 +20,6 @@ there-found c =
     right-found _ _ _ _ _ _ _ _ (c .before .before .before .before .before .before .before .next-component .ensures) (c .before .before .before .before .before .before .next-component2 .ensures) _ _ (c .before .before .before .before .left .given .1) _ _
     (c .before .right .given .1)
 
-next-component-requires : tie.Need-next-component-requires
-next-component-requires c κs = search needs
-
-next-component-requires-2 : tie.Need-next-component-requires-2
-next-component-requires-2 c κs = search needs
-
-enum-told : tie.Need-enum-told
-enum-told c = search needs
-
-runs-out-requires : tie.Need-runs-out-requires
-runs-out-requires c κs = search needs
-
-enum-told-2 : tie.Need-enum-told-2
-enum-told-2 c = search needs
-
-runs-out-requires-2 : tie.Need-runs-out-requires-2
-runs-out-requires-2 c κs = search needs
-
-enum-known-left : tie.Need-enum-known-left
-enum-known-left c = search needs
-
-enum-told-3 : tie.Need-enum-told-3
-enum-told-3 c = search needs
-
-enum-told-4 : tie.Need-enum-told-4
-enum-told-4 c = search needs
-
-enum-known-right : tie.Need-enum-known-right
-enum-known-right c = search needs
-
 add-start : tie.Need-add-start
 add-start c = omega (arith, here-found c)
 
@@ -74,12 +44,6 @@ part-compare-components-start-2 c = omega (arith, there-found (c .before))
 part-compare-components-end-2 : tie.Need-part-compare-components-end-2
 part-compare-components-end-2 c = omega (arith, there-found (c .before))
 
-compare-components-requires : tie.Need-compare-components-requires
-compare-components-requires c κs = search needs
-
-turn-for-requires : tie.Need-turn-for-requires
-turn-for-requires c κs = search needs
-
 returns : tie.Need-returns
 returns c = search (turn-none, needs)
 
@@ -99,16 +63,16 @@ pub compare-next-spec : {M : Type 1} → statement M
 compare-next-spec =
     tie.close
     (tie.spec
-    next-component-requires
-    next-component-requires-2
-    enum-told
-    runs-out-requires
-    enum-told-2
-    runs-out-requires-2
-    enum-known-left
-    enum-told-3
-    enum-told-4
-    enum-known-right
+    (λ c κs. search needs)
+    (λ c κs. search needs)
+    (λ c. search needs)
+    (λ c κs. search needs)
+    (λ c. search needs)
+    (λ c κs. search needs)
+    (λ c. search needs)
+    (λ c. search needs)
+    (λ c. search needs)
+    (λ c. search needs)
     add-start
     add-begin
     sub-compare-components
@@ -117,8 +81,8 @@ compare-next-spec =
     sub-compare-components-2
     part-compare-components-start-2
     part-compare-components-end-2
-    compare-components-requires
-    turn-for-requires
+    (λ c κs. search needs)
+    (λ c κs. search needs)
     returns
     returns-2
     returns-3

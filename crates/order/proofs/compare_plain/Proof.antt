@@ -4,21 +4,6 @@ use borrow.Author.Needs.{needs}
 use Rattle.order.proofs.compare_plain.Statement.{statement}
 use Rattle.order.proofs.compare_plain.Tie as tie
 
-compare-heads-requires : tie.Need-compare-heads-requires
-compare-heads-requires c κs = search needs
-
-enum-told : tie.Need-enum-told
-enum-told c = search needs
-
-enum-told-2 : tie.Need-enum-told-2
-enum-told-2 c = search needs
-
-enum-told-3 : tie.Need-enum-told-3
-enum-told-3 c = search needs
-
-compare-lists-requires : tie.Need-compare-lists-requires
-compare-lists-requires c κs = search needs
-
 returns : tie.Need-returns
 returns c = search (plain-first, needs)
 
@@ -32,11 +17,11 @@ pub compare-plain-spec : {M : Type 1} → statement M
 compare-plain-spec =
     tie.close
     (tie.spec
-    compare-heads-requires
-    enum-told
-    enum-told-2
-    enum-told-3
-    compare-lists-requires
+    (λ c κs. search needs)
+    (λ c. search needs)
+    (λ c. search needs)
+    (λ c. search needs)
+    (λ c κs. search needs)
     returns
     returns-2
     returns-3)

@@ -5,32 +5,11 @@ use borrow.Author.Needs.{needs}
 use Rattle.order.proofs.compare_values.Statement.{statement}
 use Rattle.order.proofs.compare_values.Tie as tie
 
-slice-aggregate-fill-plain : tie.Need-slice-aggregate-fill-plain
-slice-aggregate-fill-plain c = search needs
-
-fill-plain-requires : tie.Need-fill-plain-requires
-fill-plain-requires c κs = search needs
-
-slice-aggregate-fill-plain-2 : tie.Need-slice-aggregate-fill-plain-2
-slice-aggregate-fill-plain-2 c = search needs
-
-fill-plain-requires-2 : tie.Need-fill-plain-requires-2
-fill-plain-requires-2 c κs = search needs
-
-array-share-prefix-work : tie.Need-array-share-prefix-work
-array-share-prefix-work c = search needs
-
 slice-aggregate-compare-plain : tie.Need-slice-aggregate-compare-plain
 slice-aggregate-compare-plain c = front-length _ _ _ _ (c .before .before .before .before .before .fill-plain .ensures)
 
-array-share-prefix-space : tie.Need-array-share-prefix-space
-array-share-prefix-space c = search needs
-
 slice-aggregate-compare-plain-2 : tie.Need-slice-aggregate-compare-plain-2
 slice-aggregate-compare-plain-2 c = front-length _ _ _ _ (c .before .before .before .fill-plain2 .ensures)
-
-compare-plain-requires : tie.Need-compare-plain-requires
-compare-plain-requires c κs = search needs
 
 returns : tie.Need-returns
 returns c =
@@ -42,13 +21,13 @@ pub compare-values-spec : {M : Type 1} → statement M
 compare-values-spec =
     tie.close
     (tie.spec
-    slice-aggregate-fill-plain
-    fill-plain-requires
-    slice-aggregate-fill-plain-2
-    fill-plain-requires-2
-    array-share-prefix-work
+    (λ c. search needs)
+    (λ c κs. search needs)
+    (λ c. search needs)
+    (λ c κs. search needs)
+    (λ c. search needs)
     slice-aggregate-compare-plain
-    array-share-prefix-space
+    (λ c. search needs)
     slice-aggregate-compare-plain-2
-    compare-plain-requires
+    (λ c κs. search needs)
     returns)

@@ -8,17 +8,11 @@ use Rattle.packet.proofs.is_unusable.Tie as tie
 returns : tie.Need-returns
 returns c = search (too-few, needs)
 
-shared-slice-read-first : tie.Need-shared-slice-read-first
-shared-slice-read-first c = search needs
-
 returns-2 : tie.Need-returns-2
 returns-2 c = search (other-version, needs)
 
 returns-3 : tie.Need-returns-3
 returns-3 c = search (short-header, needs)
-
-number-at-requires : tie.Need-number-at-requires
-number-at-requires c κs = search needs
 
 cast-header : tie.Need-cast-header
 cast-header c = omega (arith, words-bounded (c .before .before .before .before .before .before .before .args .octets .now))
@@ -34,10 +28,10 @@ is-unusable-spec =
     tie.close
     (tie.spec
     returns
-    shared-slice-read-first
+    (λ c. search needs)
     returns-2
     returns-3
-    number-at-requires
+    (λ c κs. search needs)
     cast-header
     mul-header
     returns-4)

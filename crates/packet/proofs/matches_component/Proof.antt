@@ -6,57 +6,6 @@ use borrow.Author.Needs.{needs}
 use Rattle.packet.proofs.matches_component.Statement.{statement}
 use Rattle.packet.proofs.matches_component.Tie as tie
 
-shape-of-requires : tie.Need-shape-of-requires
-shape-of-requires c κs = search needs
-
-body-covers-requires : tie.Need-body-covers-requires
-body-covers-requires c κs = search needs
-
-body-covers-requires-2 : tie.Need-body-covers-requires-2
-body-covers-requires-2 c κs = search needs
-
-field-matches-requires : tie.Need-field-matches-requires
-field-matches-requires c κs = search needs
-
-field-matches-requires-2 : tie.Need-field-matches-requires-2
-field-matches-requires-2 c κs = search needs
-
-field-matches-requires-3 : tie.Need-field-matches-requires-3
-field-matches-requires-3 c κs = search needs
-
-field-matches-requires-4 : tie.Need-field-matches-requires-4
-field-matches-requires-4 c κs = search needs
-
-field-matches-requires-5 : tie.Need-field-matches-requires-5
-field-matches-requires-5 c κs = search needs
-
-field-matches-requires-6 : tie.Need-field-matches-requires-6
-field-matches-requires-6 c κs = search needs
-
-field-matches-requires-7 : tie.Need-field-matches-requires-7
-field-matches-requires-7 c κs = search needs
-
-field-matches-requires-8 : tie.Need-field-matches-requires-8
-field-matches-requires-8 c κs = search needs
-
-cast-list-holds : tie.Need-cast-list-holds
-cast-list-holds c = search needs
-
-list-holds-requires : tie.Need-list-holds-requires
-list-holds-requires c κs = search needs
-
-cast-list-holds-2 : tie.Need-cast-list-holds-2
-cast-list-holds-2 c = search needs
-
-list-holds-requires-2 : tie.Need-list-holds-requires-2
-list-holds-requires-2 c κs = search needs
-
-cast-list-holds-3 : tie.Need-cast-list-holds-3
-cast-list-holds-3 c = search needs
-
-list-holds-requires-3 : tie.Need-list-holds-requires-3
-list-holds-requires-3 c κs = search needs
-
 returns : tie.Need-returns
 returns c = search (on-destination, needs)
 
@@ -110,23 +59,23 @@ pub matches-component-spec : {M : Type 1} → statement M
 matches-component-spec =
     tie.close
     (tie.spec
-    shape-of-requires
-    body-covers-requires
-    body-covers-requires-2
-    field-matches-requires
-    field-matches-requires-2
-    field-matches-requires-3
-    field-matches-requires-4
-    field-matches-requires-5
-    field-matches-requires-6
-    field-matches-requires-7
-    field-matches-requires-8
-    cast-list-holds
-    list-holds-requires
-    cast-list-holds-2
-    list-holds-requires-2
-    cast-list-holds-3
-    list-holds-requires-3
+    (λ c κs. search needs)
+    (λ c κs. search needs)
+    (λ c κs. search needs)
+    (λ c κs. search needs)
+    (λ c κs. search needs)
+    (λ c κs. search needs)
+    (λ c κs. search needs)
+    (λ c κs. search needs)
+    (λ c κs. search needs)
+    (λ c κs. search needs)
+    (λ c κs. search needs)
+    (λ c. search needs)
+    (λ c κs. search needs)
+    (λ c. search needs)
+    (λ c κs. search needs)
+    (λ c. search needs)
+    (λ c κs. search needs)
     returns
     returns-2
     returns-3

@@ -4,17 +4,8 @@ use borrow.Author.Needs.{needs}
 use Rattle.packet.proofs.pair_holds.Statement.{statement}
 use Rattle.packet.proofs.pair_holds.Tie as tie
 
-plain-operand-requires : tie.Need-plain-operand-requires
-plain-operand-requires c κs = search needs
-
-bitmask-holds-requires : tie.Need-bitmask-holds-requires
-bitmask-holds-requires c κs = search needs
-
 returns : tie.Need-returns
 returns c = search (holds-mask, needs)
-
-numeric-holds-requires : tie.Need-numeric-holds-requires
-numeric-holds-requires c κs = search needs
 
 returns-2 : tie.Need-returns-2
 returns-2 c = search (holds-number, needs)
@@ -23,8 +14,8 @@ pub pair-holds-spec : {M : Type 1} → statement M
 pair-holds-spec =
     tie.close
     (tie.spec
-    plain-operand-requires
-    bitmask-holds-requires
+    (λ c κs. search needs)
+    (λ c κs. search needs)
     returns
-    numeric-holds-requires
+    (λ c κs. search needs)
     returns-2)

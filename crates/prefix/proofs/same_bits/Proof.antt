@@ -7,21 +7,6 @@ use Rattle.prefix.proofs.same_bits.Tie as tie
 returns : tie.Need-returns
 returns c = search (no-bits, needs)
 
-bits-behind-requires : tie.Need-bits-behind-requires
-bits-behind-requires c κs = search needs
-
-bits-behind-requires-2 : tie.Need-bits-behind-requires-2
-bits-behind-requires-2 c κs = search needs
-
-low-bits-requires : tie.Need-low-bits-requires
-low-bits-requires c κs = search needs
-
-low-bits-requires-2 : tie.Need-low-bits-requires-2
-low-bits-requires-2 c κs = search needs
-
-same-above-requires : tie.Need-same-above-requires
-same-above-requires c κs = search needs
-
 returns-2 : tie.Need-returns-2
 returns-2 c = search (by-shifts, needs)
 
@@ -30,9 +15,9 @@ same-bits-spec =
     tie.close
     (tie.spec
     returns
-    bits-behind-requires
-    bits-behind-requires-2
-    low-bits-requires
-    low-bits-requires-2
-    same-above-requires
+    (λ c κs. search needs)
+    (λ c κs. search needs)
+    (λ c κs. search needs)
+    (λ c κs. search needs)
+    (λ c κs. search needs)
     returns-2)

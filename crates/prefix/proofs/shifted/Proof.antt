@@ -7,26 +7,8 @@ use Rattle.prefix.proofs.shifted.Tie as tie
 returns : tie.Need-returns
 returns c = search (not-shifted, needs)
 
-high-part-requires : tie.Need-high-part-requires
-high-part-requires c κs = search needs
-
 returns-2 : tie.Need-returns-2
 returns-2 c = search (shifted-far, needs)
-
-sub-back : tie.Need-sub-back
-sub-back c = search needs
-
-shr-high : tie.Need-shr-high
-shr-high c = search needs
-
-cast-low : tie.Need-cast-low
-cast-low c = search needs
-
-shl-low : tie.Need-shl-low
-shl-low c = search needs
-
-shr-low : tie.Need-shr-low
-shr-low c = search needs
 
 returns-3 : tie.Need-returns-3
 returns-3 c = search (shifted-near, needs)
@@ -36,11 +18,11 @@ shifted-spec =
     tie.close
     (tie.spec
     returns
-    high-part-requires
+    (λ c κs. search needs)
     returns-2
-    sub-back
-    shr-high
-    cast-low
-    shl-low
-    shr-low
+    (λ c. search needs)
+    (λ c. search needs)
+    (λ c. search needs)
+    (λ c. search needs)
+    (λ c. search needs)
     returns-3)

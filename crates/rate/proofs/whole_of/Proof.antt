@@ -13,26 +13,8 @@ returns-2 c = search (whole-below-one, needs)
 returns-3 : tie.Need-returns-3
 returns-3 c = search (whole-past-limit, needs)
 
-add-digits : tie.Need-add-digits
-add-digits c = search needs
-
-cast-result : tie.Need-cast-result
-cast-result c = search needs
-
-shl-result : tie.Need-shl-result
-shl-result c = search needs
-
 returns-4 : tie.Need-returns-4
 returns-4 c = search (whole-up, needs)
-
-sub-down : tie.Need-sub-down
-sub-down c = search needs
-
-cast-result-2 : tie.Need-cast-result-2
-cast-result-2 c = search needs
-
-shr-result : tie.Need-shr-result
-shr-result c = search needs
 
 returns-5 : tie.Need-returns-5
 returns-5 c = search (whole-down, needs)
@@ -44,11 +26,11 @@ whole-of-spec =
     returns
     returns-2
     returns-3
-    add-digits
-    cast-result
-    shl-result
+    (λ c. search needs)
+    (λ c. search needs)
+    (λ c. search needs)
     returns-4
-    sub-down
-    cast-result-2
-    shr-result
+    (λ c. search needs)
+    (λ c. search needs)
+    (λ c. search needs)
     returns-5)

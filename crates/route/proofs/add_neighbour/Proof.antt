@@ -5,15 +5,6 @@ use borrow.Author.Needs.{needs}
 use Rattle.route.proofs.add_neighbour.Statement.{statement}
 use Rattle.route.proofs.add_neighbour.Tie as tie
 
-enum-told : tie.Need-enum-told
-enum-told c = search needs
-
-enum-known-seen : tie.Need-enum-known-seen
-enum-known-seen c = search needs
-
-enum-told-2 : tie.Need-enum-told-2
-enum-told-2 c = search needs
-
 returns : tie.Need-returns
 unfolding added
 returns c = rw (c .enum-told .given .1)
@@ -33,4 +24,4 @@ returns-4 c = rw (c .enum-told2 .given .1)
 pub add-neighbour-spec : {M : Type 1} → statement M
 add-neighbour-spec =
     tie.close
-    (tie.spec enum-told enum-known-seen enum-told-2 returns returns-2 returns-3 returns-4)
+    (tie.spec (λ c. search needs) (λ c. search needs) (λ c. search needs) returns returns-2 returns-3 returns-4)

@@ -4,17 +4,8 @@ use borrow.Author.Needs.{needs}
 use Rattle.route.proofs.better.Statement.{statement}
 use Rattle.route.proofs.better.Tie as tie
 
-contains-prefix-requires : tie.Need-contains-prefix-requires
-contains-prefix-requires c κs = search needs
-
 returns : tie.Need-returns
 returns c = search (not-covering, needs)
-
-enum-known-best : tie.Need-enum-known-best
-enum-known-best c = search needs
-
-enum-told : tie.Need-enum-told
-enum-told c = search needs
 
 returns-2 : tie.Need-returns-2
 returns-2 c = search (first-match, needs)
@@ -29,10 +20,10 @@ pub better-spec : {M : Type 1} → statement M
 better-spec =
     tie.close
     (tie.spec
-    contains-prefix-requires
+    (λ c κs. search needs)
     returns
-    enum-known-best
-    enum-told
+    (λ c. search needs)
+    (λ c. search needs)
     returns-2
     returns-3
     returns-4)

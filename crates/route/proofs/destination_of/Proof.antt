@@ -9,12 +9,6 @@ use Rattle.route.proofs.destination_of.Tie as tie
 found-first : (c : tie.After-known-told) → Found (c .before .before .before .before .before .args .family) (c .before .before .before .before .before .args .value .now) (c .before .before .before .before .before .args .family .head) 0 (c .before .kind .given .0 .0) (c .before .kind .given .0 .1 .0)
 found-first c = first-found (c .before .before .before .before .before .args .family) _ _ (c .before .before .before .next-component .ensures) _ _ (c .before .kind .given .1)
 
-next-component-requires : tie.Need-next-component-requires
-next-component-requires c κs = search needs
-
-enum-known-kind : tie.Need-enum-known-kind
-enum-known-kind c = search needs
-
 add-begin : tie.Need-add-begin
 add-begin c = omega (arith, found-first c)
 
@@ -26,15 +20,6 @@ part-destination-for-start c = omega (arith, found-first c)
 
 part-destination-for-end : tie.Need-part-destination-for-end
 part-destination-for-end c = omega (arith, found-first c)
-
-destination-for-requires : tie.Need-destination-for-requires
-destination-for-requires c κs = search needs
-
-enum-told : tie.Need-enum-told
-enum-told c = search needs
-
-enum-told-2 : tie.Need-enum-told-2
-enum-told-2 c = search needs
 
 returns : tie.Need-returns
 returns c = search (by-first, needs)
@@ -49,15 +34,15 @@ pub destination-of-spec : {M : Type 1} → statement M
 destination-of-spec =
     tie.close
     (tie.spec
-    next-component-requires
-    enum-known-kind
+    (λ c κs. search needs)
+    (λ c. search needs)
     add-begin
     sub-destination-for
     part-destination-for-start
     part-destination-for-end
-    destination-for-requires
-    enum-told
-    enum-told-2
+    (λ c κs. search needs)
+    (λ c. search needs)
+    (λ c. search needs)
     returns
     returns-2
     returns-3)

@@ -7,14 +7,8 @@ use Rattle.route.proofs.note_neighbour.Tie as tie
 returns : tie.Need-returns
 returns c = search (not-inside, needs)
 
-contains-prefix-requires : tie.Need-contains-prefix-requires
-contains-prefix-requires c κs = search needs
-
 returns-2 : tie.Need-returns-2
 returns-2 c = search (outside, needs)
-
-add-neighbour-requires : tie.Need-add-neighbour-requires
-add-neighbour-requires c κs = search needs
 
 returns-3 : tie.Need-returns-3
 returns-3 c = search (inside, needs)
@@ -22,4 +16,4 @@ returns-3 c = search (inside, needs)
 pub note-neighbour-spec : {M : Type 1} → statement M
 note-neighbour-spec =
     tie.close
-    (tie.spec returns contains-prefix-requires returns-2 add-neighbour-requires returns-3)
+    (tie.spec returns (λ c κs. search needs) returns-2 (λ c κs. search needs) returns-3)

@@ -9,26 +9,11 @@ use Rattle.route.proofs.number_in.Tie as tie
 returns : tie.Need-returns
 returns c = search (no-word, needs)
 
-mul-first : tie.Need-mul-first
-mul-first c = search needs
-
-shared-slice-read-first : tie.Need-shared-slice-read-first
-shared-slice-read-first c = search needs
-
 cast-first : tie.Need-cast-first
 cast-first c = omega (arith, c .shared-slice-known .given (c .before .before .args .at))
 
 returns-2 : tie.Need-returns-2
 returns-2 c = search (one-word, needs)
-
-add-second : tie.Need-add-second
-add-second c = search needs
-
-mul-second : tie.Need-mul-second
-mul-second c = search needs
-
-shared-slice-read-second : tie.Need-shared-slice-read-second
-shared-slice-read-second c = search needs
 
 cast-second : tie.Need-cast-second
 cast-second c = omega (arith, c .shared-slice-known2 .given (c .before .before .before .before .args .at + 1))
@@ -47,13 +32,13 @@ number-in-spec =
     tie.close
     (tie.spec
     returns
-    mul-first
-    shared-slice-read-first
+    (λ c. search needs)
+    (λ c. search needs)
     cast-first
     returns-2
-    add-second
-    mul-second
-    shared-slice-read-second
+    (λ c. search needs)
+    (λ c. search needs)
+    (λ c. search needs)
     cast-second
     mul-result
     add-result

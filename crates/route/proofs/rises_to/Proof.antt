@@ -4,18 +4,6 @@ use borrow.Author.Needs.{needs}
 use Rattle.route.proofs.rises_to.Statement.{statement}
 use Rattle.route.proofs.rises_to.Tie as tie
 
-compare-addresses-requires : tie.Need-compare-addresses-requires
-compare-addresses-requires c κs = search needs
-
-enum-told : tie.Need-enum-told
-enum-told c = search needs
-
-enum-told-2 : tie.Need-enum-told-2
-enum-told-2 c = search needs
-
-enum-told-3 : tie.Need-enum-told-3
-enum-told-3 c = search needs
-
 returns : tie.Need-returns
 returns c = search (lower, needs)
 
@@ -29,10 +17,10 @@ pub rises-to-spec : {M : Type 1} → statement M
 rises-to-spec =
     tie.close
     (tie.spec
-    compare-addresses-requires
-    enum-told
-    enum-told-2
-    enum-told-3
+    (λ c κs. search needs)
+    (λ c. search needs)
+    (λ c. search needs)
+    (λ c. search needs)
     returns
     returns-2
     returns-3)

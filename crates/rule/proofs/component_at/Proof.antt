@@ -7,26 +7,11 @@ use Rattle.rule.proofs.component_at.Tie as tie
 returns : tie.Need-returns
 returns c = search (component-none, needs)
 
-shared-slice-read-kind : tie.Need-shared-slice-read-kind
-shared-slice-read-kind c = search needs
-
 returns-2 : tie.Need-returns-2
 returns-2 c = search (component-unknown, needs)
 
 returns-3 : tie.Need-returns-3
 returns-3 c = search (component-order, needs)
-
-add-body-end : tie.Need-add-body-end
-add-body-end c = search needs
-
-body-end-requires : tie.Need-body-end-requires
-body-end-requires c κs = search needs
-
-enum-known-next : tie.Need-enum-known-next
-enum-known-next c = search needs
-
-enum-known-number : tie.Need-enum-known-number
-enum-known-number c = search needs
 
 returns-4 : tie.Need-returns-4
 returns-4 c = search (component-whole, needs)
@@ -39,12 +24,12 @@ component-at-spec =
     tie.close
     (tie.spec
     returns
-    shared-slice-read-kind
+    (λ c. search needs)
     returns-2
     returns-3
-    add-body-end
-    body-end-requires
-    enum-known-next
-    enum-known-number
+    (λ c. search needs)
+    (λ c κs. search needs)
+    (λ c. search needs)
+    (λ c. search needs)
     returns-4
     returns-5)

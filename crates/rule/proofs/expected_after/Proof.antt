@@ -4,59 +4,14 @@ use borrow.Author.Needs.{needs}
 use Rattle.rule.proofs.expected_after.Statement.{statement}
 use Rattle.rule.proofs.expected_after.Tie as tie
 
-enum-known-expected : tie.Need-enum-known-expected
-enum-known-expected c = search needs
-
 returns : tie.Need-returns
 returns c = search (after-head-last, needs)
-
-sub-t15 : tie.Need-sub-t15
-sub-t15 c = search needs
-
-enum-told : tie.Need-enum-told
-enum-told c = search needs
-
-body-of-requires : tie.Need-body-of-requires
-body-of-requires c κs = search needs
-
-enum-told-2 : tie.Need-enum-told-2
-enum-told-2 c = search needs
 
 returns-2 : tie.Need-returns-2
 returns-2 c = search (after-length-offset, needs)
 
-pattern-after-requires : tie.Need-pattern-after-requires
-pattern-after-requires c κs = search needs
-
-enum-known-expected-2 : tie.Need-enum-known-expected-2
-enum-known-expected-2 c = search needs
-
-pattern-after-requires-2 : tie.Need-pattern-after-requires-2
-pattern-after-requires-2 c κs = search needs
-
-enum-known-expected-3 : tie.Need-enum-known-expected-3
-enum-known-expected-3 c = search needs
-
 returns-3 : tie.Need-returns-3
 returns-3 c = search (after-address-last, needs)
-
-sub-t18 : tie.Need-sub-t18
-sub-t18 c = search needs
-
-enum-known-expected-4 : tie.Need-enum-known-expected-4
-enum-known-expected-4 c = search needs
-
-size-of-requires : tie.Need-size-of-requires
-size-of-requires c κs = search needs
-
-ends-list-requires : tie.Need-ends-list-requires
-ends-list-requires c κs = search needs
-
-enum-known-expected-5 : tie.Need-enum-known-expected-5
-enum-known-expected-5 c = search needs
-
-operand-after-requires : tie.Need-operand-after-requires
-operand-after-requires c κs = search needs
 
 returns-4 : tie.Need-returns-4
 returns-4 c = search (after-head, needs)
@@ -83,24 +38,24 @@ pub expected-after-spec : {M : Type 1} → statement M
 expected-after-spec =
     tie.close
     (tie.spec
-    enum-known-expected
+    (λ c. search needs)
     returns
-    sub-t15
-    enum-told
-    body-of-requires
-    enum-told-2
+    (λ c. search needs)
+    (λ c. search needs)
+    (λ c κs. search needs)
+    (λ c. search needs)
     returns-2
-    pattern-after-requires
-    enum-known-expected-2
-    pattern-after-requires-2
-    enum-known-expected-3
+    (λ c κs. search needs)
+    (λ c. search needs)
+    (λ c κs. search needs)
+    (λ c. search needs)
     returns-3
-    sub-t18
-    enum-known-expected-4
-    size-of-requires
-    ends-list-requires
-    enum-known-expected-5
-    operand-after-requires
+    (λ c. search needs)
+    (λ c. search needs)
+    (λ c κs. search needs)
+    (λ c κs. search needs)
+    (λ c. search needs)
+    (λ c κs. search needs)
     returns-4
     returns-5
     returns-6

@@ -5,26 +5,14 @@ use borrow.Author.Needs.{needs}
 use Rattle.rule.proofs.field_length.Statement.{statement}
 use Rattle.rule.proofs.field_length.Tie as tie
 
-octet-at-requires : tie.Need-octet-at-requires
-octet-at-requires c κs = search needs
-
-cast-result : tie.Need-cast-result
-cast-result c = search needs
-
 returns : tie.Need-returns
 returns c = (short-length _ _ (c .before .octet-at .ensures .0) (c .if1 .taken), omega arith)
-
-octet-at-requires-2 : tie.Need-octet-at-requires-2
-octet-at-requires-2 c κs = search needs
 
 cast-result-2 : tie.Need-cast-result-2
 cast-result-2 c = omega (arith, high-small (c .before .before .octet-at .result))
 
 mul-result : tie.Need-mul-result
 mul-result c = omega (arith, high-small (c .before .before .octet-at .result))
-
-cast-result-3 : tie.Need-cast-result-3
-cast-result-3 c = search needs
 
 add-result : tie.Need-add-result
 add-result c = omega (arith, high-small (c .before .before .octet-at .result))
@@ -39,12 +27,12 @@ pub field-length-spec : {M : Type 1} → statement M
 field-length-spec =
     tie.close
     (tie.spec
-    octet-at-requires
-    cast-result
+    (λ c κs. search needs)
+    (λ c. search needs)
     returns
-    octet-at-requires-2
+    (λ c κs. search needs)
     cast-result-2
     mul-result
-    cast-result-3
+    (λ c. search needs)
     add-result
     returns-2)

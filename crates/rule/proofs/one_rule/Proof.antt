@@ -6,20 +6,11 @@ use borrow.Author.Needs.{needs}
 use Rattle.rule.proofs.one_rule.Statement.{statement}
 use Rattle.rule.proofs.one_rule.Tie as tie
 
-first-rule-requires : tie.Need-first-rule-requires
-first-rule-requires c κs = search needs
-
-enum-known-start : tie.Need-enum-known-start
-enum-known-start c = search needs
-
 add-end : tie.Need-add-end
 add-end c = omega (arith, rule-read _ _ _ _ (sym (c .before .before .before .first-rule .ensures) ∙ c .before .start .given .1) .inside)
 
 returns : tie.Need-returns
 returns c = search (alone-whole, needs)
-
-enum-known-number : tie.Need-enum-known-number
-enum-known-number c = search needs
 
 returns-2 : tie.Need-returns-2
 returns-2 c = search (alone-more, needs)
@@ -31,10 +22,10 @@ pub one-rule-spec : {M : Type 1} → statement M
 one-rule-spec =
     tie.close
     (tie.spec
-    first-rule-requires
-    enum-known-start
+    (λ c κs. search needs)
+    (λ c. search needs)
     add-end
     returns
-    enum-known-number
+    (λ c. search needs)
     returns-2
     returns-3)

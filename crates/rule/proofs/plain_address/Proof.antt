@@ -9,21 +9,6 @@ use Rattle.rule.proofs.plain_address.Tie as tie
 returns : tie.Need-returns
 returns c = search (whole-octet, needs)
 
-sub-ignored : tie.Need-sub-ignored
-sub-ignored c = search needs
-
-cast-kept : tie.Need-cast-kept
-cast-kept c = search needs
-
-shr-kept : tie.Need-shr-kept
-shr-kept c = search needs
-
-cast-result : tie.Need-cast-result
-cast-result c = search needs
-
-shl-result : tie.Need-shl-result
-shl-result c = search needs
-
 cast-result-2 : tie.Need-cast-result-2
 cast-result-2 c = record { fits = shifted-small _ _ (omega arith) }
 
@@ -36,10 +21,10 @@ plain-address-spec =
     tie.close
     (tie.spec
     returns
-    sub-ignored
-    cast-kept
-    shr-kept
-    cast-result
-    shl-result
+    (λ c. search needs)
+    (λ c. search needs)
+    (λ c. search needs)
+    (λ c. search needs)
+    (λ c. search needs)
     cast-result-2
     returns-2)

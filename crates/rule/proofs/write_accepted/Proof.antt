@@ -6,26 +6,8 @@ use borrow.Author.Needs.{needs}
 use Rattle.rule.proofs.write_accepted.Statement.{statement}
 use Rattle.rule.proofs.write_accepted.Tie as tie
 
-field-size-for-requires : tie.Need-field-size-for-requires
-field-size-for-requires c κs = search needs
-
-add-total : tie.Need-add-total
-add-total c = search needs
-
 returns : tie.Need-returns
 returns c = (no-room _ (c .before .before .before .before .args .value .now) (c .before .before .before .before .args .buffer .now) _ (c .before .field-size-for .ensures .0) (c .if1 .taken), refl)
-
-slice-aggregate-fill-plain : tie.Need-slice-aggregate-fill-plain
-slice-aggregate-fill-plain c = search needs
-
-fill-plain-requires : tie.Need-fill-plain-requires
-fill-plain-requires c κs = search needs
-
-write-length-requires : tie.Need-write-length-requires
-write-length-requires c κs = search needs
-
-array-share-prefix-work : tie.Need-array-share-prefix-work
-array-share-prefix-work c = search needs
 
 slice-aggregate-store : tie.Need-slice-aggregate-store
 slice-aggregate-store c = front-length _ _ _ _ (c .before .before .before .before .before .before .before .fill-plain .ensures)
@@ -34,9 +16,6 @@ store-requires : tie.Need-store-requires
 store-requires c κs = let fill = c .before .before .before .before .before .before .before .fill-plain in
     let field = c .before .before .before .before .before .before .before .before .before in
     omega (arith, front-length _ _ _ _ (fill .ensures), c .before .before .before .before .write-length .kept, field)
-
-same-length : tie.Need-same-length
-same-length c = search needs
 
 returns-2 : tie.Need-returns-2
 returns-2 c = let stores = c .before .before .store in
@@ -53,14 +32,14 @@ pub write-accepted-spec : {M : Type 1} → statement M
 write-accepted-spec =
     tie.close
     (tie.spec
-    field-size-for-requires
-    add-total
+    (λ c κs. search needs)
+    (λ c. search needs)
     returns
-    slice-aggregate-fill-plain
-    fill-plain-requires
-    write-length-requires
-    array-share-prefix-work
+    (λ c. search needs)
+    (λ c κs. search needs)
+    (λ c κs. search needs)
+    (λ c. search needs)
     slice-aggregate-store
     store-requires
-    same-length
+    (λ c. search needs)
     returns-2)

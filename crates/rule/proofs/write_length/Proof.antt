@@ -6,29 +6,14 @@ use borrow.Author.Needs.{needs}
 use Rattle.rule.proofs.write_length.Statement.{statement}
 use Rattle.rule.proofs.write_length.Tie as tie
 
-cast-buffer : tie.Need-cast-buffer
-cast-buffer c = search needs
-
 slice-write-buffer : tie.Need-slice-write-buffer
 slice-write-buffer c = room-short (c .before .args .buffer .now) _ (c .before .pre .1) (c .if1 .taken)
-
-same-length : tie.Need-same-length
-same-length c = search needs
 
 returns : tie.Need-returns
 returns c = write-short _ _ (c .before .pre .1) (c .if1 .taken)
 
-add-high : tie.Need-add-high
-add-high c = search needs
-
-cast-buffer-2 : tie.Need-cast-buffer-2
-cast-buffer-2 c = search needs
-
 slice-write-buffer-2 : tie.Need-slice-write-buffer-2
 slice-write-buffer-2 c = omega (arith, room-long (c .before .args .buffer .now) (c .before .args .size) (c .before .pre .1) (c .if1 .left))
-
-cast-buffer-3 : tie.Need-cast-buffer-3
-cast-buffer-3 c = search needs
 
 slice-write-buffer-3 : tie.Need-slice-write-buffer-3
 slice-write-buffer-3 c = simp length-set (room-long (c .before .args .buffer .now) (c .before .args .size) (c .before .pre .1) (c .if1 .left))
@@ -43,14 +28,14 @@ pub write-length-spec : {M : Type 1} → statement M
 write-length-spec =
     tie.close
     (tie.spec
-    cast-buffer
+    (λ c. search needs)
     slice-write-buffer
-    same-length
+    (λ c. search needs)
     returns
-    add-high
-    cast-buffer-2
+    (λ c. search needs)
+    (λ c. search needs)
     slice-write-buffer-2
-    cast-buffer-3
+    (λ c. search needs)
     slice-write-buffer-3
     same-length-2
     returns-2)

@@ -6,20 +6,8 @@ use borrow.Author.Needs.{needs}
 use Rattle.rule.proofs.write_rule.Statement.{statement}
 use Rattle.rule.proofs.write_rule.Tie as tie
 
-check-value-requires : tie.Need-check-value-requires
-check-value-requires c κs = search needs
-
-enum-told : tie.Need-enum-told
-enum-told c = search needs
-
 write-accepted-requires : tie.Need-write-accepted-requires
 write-accepted-requires c κs = accepted-small _ _ (sym (c .before .before .before .check-value .ensures) ∙ c .before .enum-told .given .1)
-
-enum-known-number : tie.Need-enum-known-number
-enum-known-number c = search needs
-
-same-length : tie.Need-same-length
-same-length c = search needs
 
 returns : tie.Need-returns
 returns c = let says = c .before .before .write-accepted .ensures in
@@ -32,10 +20,10 @@ pub write-rule-spec : {M : Type 1} → statement M
 write-rule-spec =
     tie.close
     (tie.spec
-    check-value-requires
-    enum-told
+    (λ c κs. search needs)
+    (λ c. search needs)
     write-accepted-requires
-    enum-known-number
-    same-length
+    (λ c. search needs)
+    (λ c. search needs)
     returns
     returns-2)

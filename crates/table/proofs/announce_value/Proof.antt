@@ -7,9 +7,6 @@ use borrow.Author.Needs.{needs}
 use Rattle.table.proofs.announce_value.Statement.{statement}
 use Rattle.table.proofs.announce_value.Tie as tie
 
-slice-aggregate-fill-plain : tie.Need-slice-aggregate-fill-plain
-slice-aggregate-fill-plain c = search needs
-
 fill-plain-requires : tie.Need-fill-plain-requires
 fill-plain-requires c κs = omega (arith, accepted-small _ _ (c .before .before .before .pre .1))
 
@@ -23,9 +20,6 @@ insert-rule-requires : tie.Need-insert-rule-requires
 insert-rule-requires c κs =
     let k = c .before .before .before .before .before .before .before .before in
     (k .pre .0, front-held _ _ _ _ (c .before .before .before .before .fill-plain .ensures) (λ i. c .before .before .before .before .before .before .shared-slice-known .given i .fits) (k .pre .1))
-
-same-length : tie.Need-same-length
-same-length c = search needs
 
 returns : tie.Need-returns
 returns c =
@@ -42,9 +36,6 @@ remove-rule-requires c κs =
     let k = c .before .before .before .before .before .before .before .before in
     (k .pre .0, front-held _ _ _ _ (c .before .before .before .before .fill-plain .ensures) (λ i. c .before .before .before .before .before .before .shared-slice-known .given i .fits) (k .pre .1))
 
-same-length-2 : tie.Need-same-length-2
-same-length-2 c = search needs
-
 returns-2 : tie.Need-returns-2
 returns-2 c =
     infeasible _ _ _ _ (c .before .before .before .before .before .before .before .fill-plain .ensures) _ _ _ _ _ (c .before .before .before .before .before .if1 .left) (λ i. c .before .before .before .before .before .before .before .before .before .before .slice-known .given i .fits) (c .before .before .before .before .before .before .before .before .before .before .before .pre .0 .sound) (c .before .before .remove-rule .ensures)
@@ -53,15 +44,15 @@ pub announce-value-spec : {M : Type 1} → statement M
 announce-value-spec =
     tie.close
     (tie.spec
-    slice-aggregate-fill-plain
+    (λ c. search needs)
     fill-plain-requires
     array-share-prefix-work
     slice-aggregate-insert-rule
     insert-rule-requires
-    same-length
+    (λ c. search needs)
     returns
     array-share-prefix-work-2
     slice-aggregate-remove-rule
     remove-rule-requires
-    same-length-2
+    (λ c. search needs)
     returns-2)

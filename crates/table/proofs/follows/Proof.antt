@@ -14,38 +14,11 @@ returns c = search (follows-none, needs)
 add-start : tie.Need-add-start
 add-start c = omega (arith, c .before .before .pre .1 .before (c .if1 .left), c .before .before .pre)
 
-add-begin : tie.Need-add-begin
-add-begin c = search needs
-
 sub-compare-plain : tie.Need-sub-compare-plain
 sub-compare-plain c = omega (arith, c .before .before .pre .1 .before (c .if1 .left))
 
 part-compare-plain-start : tie.Need-part-compare-plain-start
 part-compare-plain-start c = omega (arith, c .before .before .pre .1 .before (c .if1 .left))
-
-part-compare-plain-end : tie.Need-part-compare-plain-end
-part-compare-plain-end c = search needs
-
-sub-compare-plain-2 : tie.Need-sub-compare-plain-2
-sub-compare-plain-2 c = search needs
-
-part-compare-plain-start-2 : tie.Need-part-compare-plain-start-2
-part-compare-plain-start-2 c = search needs
-
-part-compare-plain-end-2 : tie.Need-part-compare-plain-end-2
-part-compare-plain-end-2 c = search needs
-
-compare-plain-requires : tie.Need-compare-plain-requires
-compare-plain-requires c κs = search needs
-
-enum-told : tie.Need-enum-told
-enum-told c = search needs
-
-enum-told-2 : tie.Need-enum-told-2
-enum-told-2 c = search needs
-
-enum-told-3 : tie.Need-enum-told-3
-enum-told-3 c = search needs
 
 returns-2 : tie.Need-returns-2
 returns-2 c = follows-yes _ _ _ _ _ (c .before .before .before .before .before .if1 .left) _ (c .before .before .compare-plain .ensures) (c .enum-told .given .1)
@@ -62,17 +35,17 @@ follows-spec =
     (tie.spec
     returns
     add-start
-    add-begin
+    (λ c. search needs)
     sub-compare-plain
     part-compare-plain-start
-    part-compare-plain-end
-    sub-compare-plain-2
-    part-compare-plain-start-2
-    part-compare-plain-end-2
-    compare-plain-requires
-    enum-told
-    enum-told-2
-    enum-told-3
+    (λ c. search needs)
+    (λ c. search needs)
+    (λ c. search needs)
+    (λ c. search needs)
+    (λ c κs. search needs)
+    (λ c. search needs)
+    (λ c. search needs)
+    (λ c. search needs)
     returns-2
     returns-3
     returns-4)

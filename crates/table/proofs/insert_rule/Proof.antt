@@ -39,14 +39,8 @@ kept c =
     let after : ℕ = c .before .before .before .before .before .before .before .args .used - (c .before .before .before .find .result .end - c .before .before .before .find .result .start) + (headCost + length (c .before .before .before .before .before .before .before .args .value .now)) in
     ⊎-elim (λ w. ap length (w .5) ∙ front-kept (c .before .before .before .before .before .before .before .args .table .now) (w .2 .last .0) after (w .2 .kept .0)) (λ w. ap length (w .1)) (c .if2 .came)
 
-find-requires : tie.Need-find-requires
-find-requires c κs = search needs
-
 sub-held : tie.Need-sub-held
 sub-held c = omega (arith, there c)
-
-add-size : tie.Need-add-size
-add-size c = search needs
 
 sub-after : tie.Need-sub-after
 sub-after c = omega (arith, there c)
@@ -56,16 +50,10 @@ add-after c =
     let s = sum-fits _ _ (λ i. c .before .before .before .before .slice-known .given i .fits) (c .before .before .before .before .before .pre .0 .sound) _ _ (c .before .before .before .before .before .pre .0 .all) (c .before .before .before .before .before .pre .1) in
     record { fits = omega (arith, s) }
 
-same-length : tie.Need-same-length
-same-length c = search needs
-
 returns : tie.Need-returns
 returns c = let k = c .before in
     no-room _ _ (λ i. k .before .before .before .before .slice-known .given i .fits) (k .before .before .before .before .before .pre .0 .sound) (entryFor (k .before .before .before .before .before .args .head) (k .before .before .before .before .before .args .value .now)) _
     (k .before .find .ensures) _ (k .before .before .before .before .before .pre .0 .all) (c .if1 .taken)
-
-slice-relend-prefix-open-gap : tie.Need-slice-relend-prefix-open-gap
-slice-relend-prefix-open-gap c = search needs
 
 -- the part that is lent is as long as the records will be
 slice-aggregate-open-gap : tie.Need-slice-aggregate-open-gap
@@ -91,14 +79,14 @@ pub insert-rule-spec : {M : Type 1} → statement M
 insert-rule-spec =
     tie.close
     (tie.spec
-    find-requires
+    (λ c κs. search needs)
     sub-held
-    add-size
+    (λ c. search needs)
     sub-after
     add-after
-    same-length
+    (λ c. search needs)
     returns
-    slice-relend-prefix-open-gap
+    (λ c. search needs)
     slice-aggregate-open-gap
     open-gap-requires
     write-record-requires

@@ -21,14 +21,8 @@ inside : (c : tie.After-struct-known)
     × (c .before .before .before .before .before .args .used ≤ length (c .before .before .before .before .before .args .table .now))
 inside c = ends-inside _ _ (λ i. c .before .before .before .before .slice-known .given i .fits) (c .before .before .before .before .before .pre .0 .sound) _ _ (c .before .find .ensures) _ (c .before .before .before .before .before .pre .0 .all)
 
-find-requires : tie.Need-find-requires
-find-requires c κs = search needs
-
 sub-size : tie.Need-sub-size
 sub-size c = omega (arith, there c)
-
-same-length : tie.Need-same-length
-same-length c = search needs
 
 returns : tie.Need-returns
 returns c = let k = c .before in
@@ -46,9 +40,6 @@ cut-out-requires c κs = let l = inside (c .before .before) in omega (arith, l, 
 sub-t14 : tie.Need-sub-t14
 sub-t14 c = omega (arith, inside (c .before .before .before .before .before))
 
-same-length-2 : tie.Need-same-length-2
-same-length-2 c = search needs
-
 returns-2 : tie.Need-returns-2
 returns-2 c = let k = c .before .before .before .before .before in
     removes-held _ _ (λ i. k .before .before .before .before .slice-known .given i .fits) (k .before .before .before .before .before .pre .0 .sound) _ _ (k .before .find .ensures) _ (k .before .before .before .before .before .pre .0 .all) _ (c .before .before .before .before .if1 .left)
@@ -58,13 +49,13 @@ pub remove-rule-spec : {M : Type 1} → statement M
 remove-rule-spec =
     tie.close
     (tie.spec
-    find-requires
+    (λ c κs. search needs)
     sub-size
-    same-length
+    (λ c. search needs)
     returns
     slice-relend-prefix-cut-out
     slice-aggregate-cut-out
     cut-out-requires
     sub-t14
-    same-length-2
+    (λ c. search needs)
     returns-2)

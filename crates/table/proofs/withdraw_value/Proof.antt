@@ -7,9 +7,6 @@ use borrow.Author.Needs.{needs}
 use Rattle.table.proofs.withdraw_value.Statement.{statement}
 use Rattle.table.proofs.withdraw_value.Tie as tie
 
-slice-aggregate-fill-plain : tie.Need-slice-aggregate-fill-plain
-slice-aggregate-fill-plain c = search needs
-
 fill-plain-requires : tie.Need-fill-plain-requires
 fill-plain-requires c κs = omega (arith, accepted-small _ _ (c .before .before .before .pre .1))
 
@@ -24,9 +21,6 @@ remove-rule-requires c κs =
     let k = c .before .before .before .before .before .before .before in
     (k .pre .0, front-held _ _ _ _ (c .before .before .before .fill-plain .ensures) (λ i. c .before .before .before .before .before .shared-slice-known .given i .fits) (k .pre .1))
 
-same-length : tie.Need-same-length
-same-length c = search needs
-
 returns : tie.Need-returns
 returns c = withdrew _ _ _ _ (c .before .before .before .before .before .before .fill-plain .ensures) _ _ _ (c .before .before .remove-rule .ensures)
 
@@ -34,10 +28,10 @@ pub withdraw-value-spec : {M : Type 1} → statement M
 withdraw-value-spec =
     tie.close
     (tie.spec
-    slice-aggregate-fill-plain
+    (λ c. search needs)
     fill-plain-requires
     array-share-prefix-work
     slice-aggregate-remove-rule
     remove-rule-requires
-    same-length
+    (λ c. search needs)
     returns)

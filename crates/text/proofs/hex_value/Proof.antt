@@ -4,23 +4,14 @@ use Rattle.text.proofs.HexLaws.{low-decimal, value-decimal, low-letter,
 use Rattle.text.proofs.hex_value.Statement.{statement}
 use Rattle.text.proofs.hex_value.Tie as tie
 
-is-from-requires : tie.Need-is-from-requires
-is-from-requires c κs = search needs
-
 sub-result : tie.Need-sub-result
 sub-result c = search (low-decimal, needs)
 
 returns : tie.Need-returns
 returns c = value-decimal _ _ (c .before .is-from .ensures) (c .if1 .taken)
 
-is-from-requires-2 : tie.Need-is-from-requires-2
-is-from-requires-2 c κs = search needs
-
 sub-result-2 : tie.Need-sub-result-2
 sub-result-2 c = search (low-letter, needs)
-
-add-result : tie.Need-add-result
-add-result c = search needs
 
 returns-2 : tie.Need-returns-2
 returns-2 c = value-letter _ _ (c .before .before .before .is-from .ensures) _ (c .before .is-from2 .ensures) (c .before .before .if1 .left) (c .if2 .taken)
@@ -32,11 +23,11 @@ pub hex-value-spec : {M : Type 1} → statement M
 hex-value-spec =
     tie.close
     (tie.spec
-    is-from-requires
+    (λ c κs. search needs)
     sub-result
     returns
-    is-from-requires-2
+    (λ c κs. search needs)
     sub-result-2
-    add-result
+    (λ c. search needs)
     returns-2
     returns-3)
