@@ -75,8 +75,8 @@ unfoldable pub first : List ℕ → Given
 first [] = absent
 first (n ∷ ns) = given n
 
--- 01: "Within a rule: smallest rate of each kind, first marking, first redirect, S and T if any sets them", which section 7.7 leaves open. A
--- redirect is the community itself (section 7.4).
+-- 01: "Within a rule: smallest rate of each kind, first marking, first redirect, S and T if any sets them", which section 7.7 leaves
+-- open. A redirect is the community itself (section 7.4).
 unfoldable pub ruleActions : List ℕ → Actions
 ruleActions cs =
     record {
@@ -110,12 +110,12 @@ communitiesAt (suc n) s at = numberAt 8 s at ∷ communitiesAt n s (at + 8)
 abbrev pub communitiesOf : List ℕ → List ℕ
 communitiesOf s = communitiesAt (length s / 8) s 0
 
--- The actions of a rule, from the octets of its communities: 13 at a wrong length or at a rate that is not a number, else what 01 says.
+-- The actions of a rule, from the octets of its communities: unsound (13) at a wrong length or a rate that is not a number.
 unfoldable pub actionsOf : List ℕ → Reading
 actionsOf s =
     cond (wrongLength (length s) || wrongRate (communitiesOf s)) Unsound (Read (ruleActions (communitiesOf s)))
 
--- A rule that asks for nothing.
+-- Actions that ask for nothing.
 abbrev pub noActions : Actions
 noActions =
     record { bytes = absent; packets = absent; sample = false; onward = false; marking = absent; redirect = absent }

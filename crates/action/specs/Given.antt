@@ -12,7 +12,7 @@ absent = record { present = false; number = 0 }
 abbrev pub given : ℕ → Given
 given n = record { present = true; number = n }
 
--- 01: "first marking, first redirect": the first that is there.
+-- 01: "marking and redirect from the first that has one": the first of two where it is there, else the second.
 unfoldable pub firstOf : Given → Given → Given
 firstOf a b = cond (a .present) a b
 

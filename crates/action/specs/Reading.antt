@@ -1,5 +1,5 @@
--- How the code reads communities: one by one, each changing the field of its kind in the actions told so far. No promise names these
--- words; that they come to the actions of Actions is proved.
+-- How the code reads communities: one by one, each changing the field of its kind in the actions told so far. No promise to a caller
+-- names these words; that they come to the actions of Actions is proved.
 use Prim.Native.Nat.{ℕ, _/_, _^_}
 use mathlib.Core.Bool.{Bool, cond, _||_}
 use mathlib.Core.List.{List, [], _∷_}

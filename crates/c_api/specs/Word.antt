@@ -14,7 +14,8 @@ word number place = number + place * 2 ^ 32
 abbrev pub wordOf : Told → ℕ
 wordOf a = word (a .number) (a .place)
 
--- What `out` holds at exit: the values where the number is 0, and what it held at entry where the call is refused.
+-- What `out` holds at exit: the values where the number is 0, and what it held at entry where the call is refused,
+-- since a refusal changes nothing (docs/DECISIONS.md, Refused and done in one word).
 abbrev pub outAfter : Told → List ℕ → List ℕ
 outAfter a out = cond (eqb (a .number) 0) (a .values) out
 

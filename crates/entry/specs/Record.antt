@@ -51,7 +51,7 @@ fieldsOf e =
 unfoldable pub recordOf : Entry → List ℕ
 recordOf e = writtenFields headWidths (fieldsOf e) ++ e .value
 
--- A field with its flag, the number of the flag's bit.
+-- A field and whether its flag is set; `bit` is the flag's value. The number is taken as it stands, also where the flag is not set.
 abbrev pub fieldIf : ℕ → ℕ → ℕ → Given
 fieldIf flags bit number = record { present = has flags bit; number = number }
 

@@ -48,7 +48,7 @@ asked policy a = askedBy policy a (readWithRoutes (policy .routes) (a .rule)) (a
 abbrev pub outcome : Changed → Outcome
 outcome c = record { answer = changeOf (c .number); table = c .table }
 
--- A refusal gives back the octets it was given.
+-- A refusal that comes before the table is asked (10, 9, 1 to 7, 15, 13) gives back the octets it was given.
 abbrev pub refusal : ℕ → ℕ → List ℕ → Outcome
 refusal number place t = record { answer = NotChanged number place; table = t }
 

@@ -58,7 +58,7 @@ abbrev pub feasibilityTold : Feasibility → Told
 feasibilityTold Feasible = done []
 feasibilityTold (NotFeasible number place) = refused number place 0
 
--- The values of the actions; unsound actions are 13.
+-- Flags, DSCP, byte rate, packet rate, redirect community; unsound actions are 13.
 abbrev pub actionsTold : ActionsReading → Told
 actionsTold (Read actions) = done (valuesOf actions)
 actionsTold Unsound = refused 13 0 5
@@ -68,7 +68,8 @@ abbrev pub changeTold : Change → Told
 changeTold Done = done []
 changeTold (NotChanged number place) = refused number place 0
 
--- The count and the values of the merged actions, in which T is never set; each is 0 where no rule matches.
+-- The count, then flags, DSCP, byte rate, packet rate and redirect community of the merged actions, in which T is never set; each is 0 where
+-- no rule matches.
 abbrev pub verdictTold : Verdict → Told
 verdictTold Unmatched = done (replicate 6 0)
 verdictTold (Matched actions count) = done (count ∷ valuesOf actions)

@@ -1,6 +1,6 @@
 -- The refusals 1 to 7 of a value, row by row as in 01's table, each with its place. Reading goes left to right: a component begins where the one
--- before it ends, and in a list an operator stands behind the pair before it. That a value is refused exactly so is shown in
--- proofs/ValueNumbers.antt.
+-- before it ends, and in a list an operator stands behind the pair before it. Where an accepted component or pair ends is taken from
+-- `componentAt` and `pairAt`. That a value is refused exactly so is shown in proofs/ValueNumbers.antt.
 use Prim.Native.Nat.{ℕ, _+_, _-_, _/_, _<_, _≤_}
 use mathlib.Core.Path.{_≡_}
 use mathlib.Core.Bool.{Bool, true, false, _||_}

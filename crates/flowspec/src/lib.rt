@@ -1,5 +1,5 @@
 // The door: every public call of the flow-rule part, each with its promise (specs/Promise.antt). No call has a `requires`: whatever
-// octets it is lent, it answers, and a refusal is a number and a place of 01's table.
+// octets it is lent, it answers; which number and place of 01's table an answer says is in specs/Told.antt.
 ghost use mathlib.Core.Path.{_≡_};
 ghost use mathlib.Core.List.{[], _∷_};
 ghost use Rattle.flowspec.specs.Compare.{comparisonOf};
@@ -32,8 +32,8 @@ pub enum Feasibility {
     Refused { number: u8, place: usize },
 }
 
-// What an announcement asks of a table once its input is read and judged: to hold a rule's value with its actions, where it is
-// feasible, or nothing, since it is refused.
+// What an announcement asks of a table once its input is read and judged: to hold a rule's value with its actions where it is
+// feasible, and to hold that rule no longer where it is not; or nothing, since it is refused.
 pub enum Request {
     Announce {
         start: usize,

@@ -1,5 +1,5 @@
--- Histories: calls that change one table, each with its answer and the octets it left. A rule is known by its key: two rules have one key
--- exactly when their plain spellings are equal (crate order, KeyLaws: `keys-only` and `keys-same`).
+-- Histories: calls that change one table, each with its answer and the octets it left. A rule is known by its key: two accepted rules have one
+-- key exactly when their plain spellings are equal (crate order, KeyLaws: `keys-only` and `keys-same`).
 use Prim.Native.Nat.{ℕ, _^_, _<_, _≤_}
 use mathlib.Core.Path.{_≡_}
 use mathlib.Core.List.{List, [], _∷_, List·Memᴰ}
@@ -60,7 +60,8 @@ pub record Made : Type 0 where
 abbrev pub numberOf : Made → ℕ
 numberOf m = changeTold (m .answer) .number
 
--- What a call is given, by the types of what it is lent: octets, and an originator of 32 bits.
+-- What is asked of what a call is given, and holds by the types of what it is lent: an announced rule is octets, and an originator has 32
+-- bits.
 abbrev pub CanBe : Call → Type 0
 CanBe (announcement a) = Octets (a .rule) × (a .originator < 2 ^ 32)
 CanBe (withdrawal rule) = Unit {0}
@@ -101,7 +102,8 @@ module _ (policy : Policy) where
   Promised (announcement a) table answer left = Announces policy a table answer left (policy .routes ∷ a .rule ∷ a .communities ∷ [])
   Promised (withdrawal rule) table answer left = Withdraws rule table answer left (rule ∷ [])
 
-  -- A history from a table on, the oldest call first: each call keeps its promise on the table that the call before it left.
+  -- A history from a table on, the oldest call first, all calls by one policy: each call keeps its promise on the table that the call
+  -- before it left.
   abbrev pub Happened : List ℕ → List Made → Type 0
   Happened table [] = Unit {0}
   Happened table (m ∷ h) = Promised (m .call) table (m .answer) (m .left) × Happened (m .left) h

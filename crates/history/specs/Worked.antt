@@ -55,7 +55,7 @@ drops = withByteRate noActions (given 0)
 abbrev pub marks : Actions
 marks = withMarking noActions (given 10)
 
--- Mail as the table holds it, its record, and the tables that are left: with mail, with ping, and with both.
+-- Mail as the table holds it, the records of mail and of ping, and the tables that are left: with mail, with ping, and with both.
 abbrev pub mailEntry : Entry
 mailEntry = record { originator = 7; actions = drops; value = mailValue }
 

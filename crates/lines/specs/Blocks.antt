@@ -1,5 +1,6 @@
 -- How the program comes to what a whole input prints, by blocks of any length: where it stands between two octets, what an octet, a block and
--- the end of the input print and leave, and how its buffers hold where it stands. The contracts of `line_program` are stated by this.
+-- the end of the input print and leave, and how its buffers hold where it stands. The contracts of `line_program` speak
+-- of that: of its buffers, routes and table.
 use Prim.Native.Nat.{ℕ, _+_, _≤_}
 use mathlib.Core.Path.{_≡_}
 use mathlib.Core.Bool.{cond}

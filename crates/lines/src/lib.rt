@@ -29,7 +29,7 @@ pub const MOST_SIGNS: usize = 16384;
 // The octets that a field of a line spells at most: two digits an octet.
 const FIELD_OCTETS: usize = MOST_SIGNS / 2;
 
-// The octets of the longest text that a line prints, which `mostText` in specs/Answer.antt counts.
+// No text that a line prints has more octets than these, which `mostText` in specs/Answer.antt counts.
 pub const MOST_TEXT: usize = 142993;
 
 // The words of a route: address, length, originator and neighbour AS.

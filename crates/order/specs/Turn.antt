@@ -1,5 +1,5 @@
 -- One turn of a comparison, as the code makes it: what it finds, and how that stands to what is left of both values.
--- No promise names these words.
+-- No promise to a caller names these words.
 use Prim.Native.Nat.{ℕ, _<_, _≤_}
 use mathlib.Core.Path.{_≡_}
 use mathlib.Core.List.{List}
@@ -19,7 +19,7 @@ use Rattle.order.specs.Precedence.{componentsOrder}
 abbrev pub componentsLeft : Family → List ℕ → ℕ → ℕ → List Component
 componentsLeft family v at previous = componentsFrom family v (record { at = at; previous = previous }) .items
 
--- The answer where the first value has run out, by what stands in the second.
+-- The answer where the first value has no further component: it comes later, unless the second has none either; a refusal counts as none.
 abbrev pub runsOut : Next → Order
 runsOut Nothing = Same
 runsOut (Another kind next) = Second

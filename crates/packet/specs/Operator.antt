@@ -1,5 +1,5 @@
--- What an operator asks of a packet's data and a rule's value (RFC 8955 section 4.2.1). Both are numbers and nothing is cut but what
--- the plain spelling clears: a value above a field's range is compared as it is.
+-- What an operator asks of a packet's data and a rule's value (RFC 8955 section 4.2.1). Both are numbers and are compared whole: a value
+-- above a field's range is compared as it is. Ignored bits of a value are cleared before this, in `holdsFor`.
 use Prim.Native.Nat.{ℕ}
 use mathlib.Core.Bool.{Bool, cond, not, _&&_, _||_}
 use lib.Bits.{bitAnd}

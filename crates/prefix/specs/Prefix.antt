@@ -14,7 +14,8 @@ use Rattle.prefix.specs.declared.Address.{Address}
 use Rattle.prefix.specs.declared.Prefix.{Prefix}
 
 -- RFC 8956 section 3.1: a pattern stands for the bits of an address from `offset` ("the number of most significant address bits to skip")
--- up to `length` ("the N-th most significant bit in the address where bitwise pattern matching stops").
+-- up to `length` ("the N-th most significant bit in the address where bitwise pattern matching stops"). They are the bits of `address` at
+-- those places.
 pub record Pattern : Type 0 where
   pub offset : ℕ
   pub length : ℕ

@@ -8,7 +8,7 @@ use Rattle.rate.specs.declared.Rate.{Rate}
 use Rattle.rate.specs.declared.Rate.the-variants.{Number, NotANumber}
 
 -- The value of a single without its sign, times 2^149 (IEEE 754-1985 section 3.2.1). Infinity, exponent 255 with no fraction, comes out
--- above 2^63 and so needs no case.
+-- as 2^128 times 2^149, whose whole part is above 2^63, and so needs no case.
 unfoldable pub scaled : ℕ → ℕ → ℕ
 scaled exponent fraction = cond (eqb exponent 0) fraction ((2 ^ 23 + fraction) * 2 ^ (exponent - 1))
 
@@ -24,7 +24,8 @@ wholeOf exponent fraction = wholePart (scaled exponent fraction)
 abbrev pub isNotANumber : ℕ → ℕ → Bool
 isNotANumber exponent fraction = eqb exponent 255 && not (eqb fraction 0)
 
--- 01: "Negative, either zero, and minus infinity give 0 (drop)": the sign alone decides, and plus zero has the number 0 as it is.
+-- 01: "Not-a-number of either sign is 13", and of the rest "Negative, either zero, and minus infinity give 0 (drop)": a sign that is set
+-- gives 0, and plus zero gives 0 by its value.
 unfoldable pub rateOfParts : ℕ → ℕ → ℕ → Rate
 rateOfParts sign exponent fraction =
     cond (isNotANumber exponent fraction) NotANumber (cond (eqb sign 0) (Number (wholeOf exponent fraction)) (Number 0))

@@ -1,5 +1,5 @@
 -- How the code goes over the routes: once with each beside the one before it, and once with the best match kept and, of the routes strictly
--- inside the destination, whether they have no neighbour AS, one, or several. No promise names these words.
+-- inside the destination, whether they have no neighbour AS, one, or several. No promise to a caller names these words.
 use Prim.Native.Nat.{ℕ}
 use mathlib.Core.Bool.{Bool, true, false, cond, _&&_}
 use lib.Dec.{eqb}

@@ -61,9 +61,9 @@ leadOf family = cond (family .offsets) 2 1
 unfoldable pub offsetAt : Family → List ℕ → ℕ → ℕ
 offsetAt family v place = cond (family .offsets) (getD v place 0) 0
 
--- 01: "length octet 0 to 32, then that many bits rounded up to octets"; behind an offset octet, as many bits fewer as it says. A missing
--- length octet is 6 at the value's end, a length above the address's width 5 at the length octet, a missing offset octet 6 at the value's
--- end, a length not above the offset, 0 and 0 apart, 5 at the length octet, and missing octets of the pattern 6 at the value's end.
+-- 01: "length octet 0 to 32, then that many bits rounded up to octets"; with an offset octet, that many less the offset. In order:
+-- 6 at the value's end where the length octet is missing; 5 at the length octet where it is above the width; 6 where the offset octet is
+-- missing; 5 at the length octet where it is not above the offset, unless both are 0; 6 where octets of the pattern are missing.
 unfoldable pub prefixEnd : Family → List ℕ → ℕ → BodyEnd
 prefixEnd family v at =
     let bits = getD v at 0 in
@@ -87,8 +87,8 @@ abbrev pub found : ℕ → BodyEnd → Next
 found kind (At next) = Another kind next
 found kind (RefusedBody number place) = Refused number place
 
--- The component at a place, behind one of the type `previous` (0 at the start). A type that the family does not have is 3 at the
--- type octet, and then a type not above the one before is 4 there.
+-- The component at a place, behind one of the type `previous` (0 at the start), or nothing where the value ends there. A type 0 or above
+-- the family's highest is 3 at the type octet, then a type not above the one before is 4 there, then come the body's refusals.
 unfoldable pub componentAt : Family → List ℕ → ℕ → ℕ → Next
 componentAt family v at previous =
     let kind = getD v at 0 in

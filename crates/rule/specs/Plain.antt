@@ -28,9 +28,10 @@ patternAfter length offset = cond (leb length offset) Kind (Address (length - of
 unfoldable pub operandAfter : ℕ → ℕ → Bool → Expected
 operandAfter kind left last = cond (ltb 1 left) (Operand kind (left - 1) last) (cond last Kind (Operator kind false))
 
--- What is expected after the octet x, where x was as expected: `Head left` has `left` octets before the first component to come, `Offset
--- length` is the offset behind that length, `Address left` has `left` bits of the pattern to come, `Operator kind first` is the list's first
--- operator or a later one, and `Operand kind left last` has `left` octets of a pair's value to come.
+-- What is expected after the octet x, where x was as expected. `Head left` has `left` octets before the first component to come,
+-- `Offset length` is the offset behind that length, `Address left` has `left` bits of the pattern to come, `Operator kind first` is the
+-- list's first operator or a later one, and `Operand kind left last` has `left` octets to come of a value, that of the list's last pair or
+-- of an earlier one.
 unfoldable pub after : Family → Expected → ℕ → Expected
 after family (Head left) x = cond (leb left 1) Kind (Head (left - 1))
 after family Kind x = bodyOf family x

@@ -1,4 +1,4 @@
--- A reader of a value: the value, the place where the next component begins, and the type of the component before it.
+-- A reader of a value: its family, the value, the place where the next component begins, and the type of the component before it.
 use Prim.Native.Nat.{ℕ}
 use mathlib.Core.List.{List}
 use denote.Ref.{RefT, now}

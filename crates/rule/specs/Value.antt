@@ -44,7 +44,7 @@ pub record Progress : Type 0 where
 abbrev pub headOf : Family → List ℕ → List ℕ
 headOf family v = take (family .head) v
 
--- A reader that has read these, and no component.
+-- How far a reader has come that has read the head and no component.
 abbrev pub atStart : Family → Progress
 atStart family = record { at = family .head; previous = 0 }
 
