@@ -8,7 +8,7 @@ use lib.Bits.{bitAnd}
 use lib.Dec.{eqb, lit<}
 use lib.ListN.{length, getD, take, drop, length-append, length-drop, take-append-drop}
 use lib.Seq.{drop-at, take-all}
-use borrow.Author.Tests.{ltb-true, lt-ltb, leb-true, eqb-true, ne-eqb, not-true, not-false}
+use borrow.Author.Tests.{ltb-true, lt-ltb, eqb-true, ne-eqb, not-true, not-false}
 use Rattle.octets.specs.Number.{numberAt}
 use Rattle.octets.specs.Test.{sameList}
 use Rattle.octets.proofs.TestLaws.{same-list, list-same}

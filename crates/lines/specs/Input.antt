@@ -5,10 +5,9 @@ use Prim.Native.Nat.{ℕ}
 use mathlib.Core.Bool.{cond}
 use mathlib.Core.List.{List, [], _∷_, _++_}
 use lib.Dec.{eqb}
-use lib.ListN.{length, take, replicate}
+use lib.ListN.{replicate}
 use Rattle.table.specs.Sound.{mostOctets}
 use Rattle.text.specs.Field.{inFirst}
-use Rattle.lines.specs.Line.{mostSigns}
 use Rattle.lines.specs.Serve.{mostWords, served}
 
 -- The lines of an input. 01: "A line ends at LF, which the last may lack." Each LF, octet 10, ends one; what stands behind the last LF is a

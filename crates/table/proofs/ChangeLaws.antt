@@ -65,7 +65,7 @@ module _ (family : Family) where
       made : t ≡ tableOf (length t) (before es k ++ y ∷ behind es k)
       made = c .is ∙ ap (tableOf (length t)) (sym whole)
 
-      value-octets : Octets t → Octets (y .value)
+      pub value-octets : Octets t → Octets (y .value)
       value-octets o =
           let at = costs cost (before es k) in
           let part = rw (add-sub-cancel-left at (cost y)) at (octets-between t at (at + cost y) o) in
