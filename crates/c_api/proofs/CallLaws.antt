@@ -14,8 +14,8 @@ use Rattle.rule.proofs.Refusal.{Refusal, placeless}
 use Rattle.action.specs.declared.Actions.{Actions}
 use Rattle.action.specs.declared.Reading.the-variants.{Read, Unsound}
 use Rattle.action.specs.Actions.{valuesOf}
-use Rattle.table.specs.declared.Verdict.{Verdict}
-use Rattle.table.specs.declared.Verdict.the-variants.{Unmatched, Matched}
+use Rattle.lookup.specs.declared.Verdict.{Verdict}
+use Rattle.lookup.specs.declared.Verdict.the-variants.{Unmatched, Matched}
 use Rattle.flowspec.specs.declared.Looked.the-variants.{Judged}
 use Rattle.flowspec.specs.declared.MatchPlace.{MatchPlace}
 use Rattle.flowspec.specs.Told.{Told, readingTold, actionsTold, verdictTold, lookupTold, matchPlaceTold}

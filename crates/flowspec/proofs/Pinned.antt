@@ -8,7 +8,7 @@ use Rattle.rule.specs.declared.Writing.the-variants.{Written, Refused as NotWri
 use Rattle.action.specs.declared.Actions.{Actions}
 use Rattle.action.specs.declared.Reading.the-variants.{Read, Unsound}
 use Rattle.action.specs.Actions.{flagsOf}
-use Rattle.table.specs.declared.Verdict.the-variants.{Unmatched, Matched}
+use Rattle.lookup.specs.declared.Verdict.the-variants.{Unmatched, Matched}
 use Rattle.flowspec.specs.declared.Comparison.the-variants.{First, Second, Same, Refused as NotCompared}
 use Rattle.flowspec.specs.declared.Feasibility.the-variants.{Feasible, Refused as NotFeasible}
 use Rattle.flowspec.specs.declared.Change.the-variants.{Done, Refused as NotChanged}

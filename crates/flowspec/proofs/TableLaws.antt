@@ -25,12 +25,12 @@ use Rattle.packet.specs.declared.Sight.the-variants.{Usable, Unusable}
 use Rattle.packet.specs.Packet.{packetOf}
 use Rattle.table.specs.declared.Soundness.{Soundness}
 use Rattle.table.specs.declared.Soundness.the-variants.{Sound, Unsound}
-use Rattle.table.specs.declared.Verdict.{Verdict}
-use Rattle.table.specs.declared.Verdict.the-variants.{Unmatched, Matched}
+use Rattle.lookup.specs.declared.Verdict.{Verdict}
+use Rattle.lookup.specs.declared.Verdict.the-variants.{Unmatched, Matched}
 use Rattle.table.specs.declared.Place.{Place}
 use Rattle.table.specs.Walk.{entries}
 use Rattle.table.specs.Sound.{soundTable, soundness}
-use Rattle.table.specs.Lookup.{hit, verdictFor, firstPlace}
+use Rattle.lookup.specs.Lookup.{hit, verdictFor, firstPlace}
 use Rattle.table.specs.declared.Answer.{Answer}
 use Rattle.table.specs.Change.{announced, withdrawn, Ready, Leaves}
 use Rattle.table.proofs.LeaveLaws.{was-sound, was-ready, was-unsound}

@@ -28,11 +28,11 @@ use Rattle.entry.specs.Entry.{Entry}
 use Rattle.route.specs.Route.{soundRoutes}
 use Rattle.packet.specs.Header.{isUnusable}
 use Rattle.packet.specs.Packet.{fieldsOf, packetOf}
-use Rattle.table.specs.declared.Verdict.{Verdict}
-use Rattle.table.specs.declared.Verdict.the-variants.{Unmatched, Matched}
+use Rattle.lookup.specs.declared.Verdict.{Verdict}
+use Rattle.lookup.specs.declared.Verdict.the-variants.{Unmatched, Matched}
 use Rattle.table.specs.Walk.{entries}
 use Rattle.table.specs.Sound.{soundTable}
-use Rattle.table.specs.Lookup.{hit, collected, mergedOnto, verdictOf, verdictFor}
+use Rattle.lookup.specs.Lookup.{hit, collected, mergedOnto, verdictOf, verdictFor}
 use Rattle.table.specs.Change.{holds, hasRoom, withdrawn}
 use Rattle.flowspec.specs.declared.Looked.the-variants.{Judged}
 use Rattle.flowspec.specs.Compare.{comparisonOf, compareRead, compareRules}

@@ -26,7 +26,7 @@ use Rattle.entry.specs.Entry.{Entry}
 use Rattle.table.specs.declared.Place.{Place}
 use Rattle.table.specs.Walk.{entries}
 use Rattle.table.specs.Sound.{soundTable}
-use Rattle.table.specs.Lookup.{hit, collected, mergedOnto, firstPlace}
+use Rattle.lookup.specs.Lookup.{hit, collected, mergedOnto, firstPlace}
 use Rattle.table.specs.Change.{holds, hasRoom}
 use Rattle.flowspec.specs.Input.{Announcement, Policy}
 use Rattle.flowspec.specs.Feasibility.{isFeasible}

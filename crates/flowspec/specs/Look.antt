@@ -10,7 +10,7 @@ use Rattle.packet.specs.Packet.{packetOf}
 use Rattle.table.specs.declared.Place.{Place}
 use Rattle.table.specs.Walk.{entries}
 use Rattle.table.specs.Sound.{soundTable}
-use Rattle.table.specs.Lookup.{hit, verdictFor, firstPlace}
+use Rattle.lookup.specs.Lookup.{hit, verdictFor, firstPlace}
 use Rattle.flowspec.specs.declared.Looked.{Looked}
 use Rattle.flowspec.specs.declared.Looked.the-variants.{Judged, Refused}
 use Rattle.flowspec.specs.declared.MatchPlace.{MatchPlace}

@@ -10,8 +10,8 @@ use Rattle.rule.specs.declared.Writing.the-variants.{Written, Refused as NotWri
 use Rattle.action.specs.declared.Reading.{Reading as ActionsReading}
 use Rattle.action.specs.declared.Reading.the-variants.{Read, Unsound}
 use Rattle.action.specs.Actions.{valuesOf}
-use Rattle.table.specs.declared.Verdict.{Verdict}
-use Rattle.table.specs.declared.Verdict.the-variants.{Unmatched, Matched}
+use Rattle.lookup.specs.declared.Verdict.{Verdict}
+use Rattle.lookup.specs.declared.Verdict.the-variants.{Unmatched, Matched}
 use Rattle.flowspec.specs.declared.Comparison.{Comparison}
 use Rattle.flowspec.specs.declared.Comparison.the-variants.{First, Second, Same, Refused as NotCompared}
 use Rattle.flowspec.specs.declared.Feasibility.{Feasibility}

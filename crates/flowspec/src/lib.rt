@@ -10,13 +10,13 @@ ghost use Rattle.flowspec.specs.Announce.{changeOf, asked};
 ghost use Rattle.flowspec.specs.Look.{seen};
 use action::Actions;
 use entry::Head;
+use lookup::Verdict;
 use octets::Order;
 use packet::Packet;
 use packet::Sight;
 use rule::Reading;
 use rule::Writing;
 use table::Soundness;
-use table::Verdict;
 
 // Which of two rules comes first, that they are the same rule, or a refusal.
 pub enum Comparison {
@@ -333,7 +333,7 @@ pub fn lookup(table: &[u8], packet: &[u8]) -> Looked
 {
     match see(table, packet) {
         Seen::Refused(number) => Looked::Refused { number, place: 0 },
-        Seen::Shows(sight) => Looked::Judged(table::look_up(rule::ipv4(), table, sight)),
+        Seen::Shows(sight) => Looked::Judged(lookup::look_up(rule::ipv4(), table, sight)),
     }
 }
 
@@ -348,7 +348,7 @@ pub fn first_match_place(table: &[u8], packet: &[u8]) -> MatchPlace
             end: 0,
         },
         Seen::Shows(sight) => {
-            let place = table::first_place(rule::ipv4(), table, sight);
+            let place = lookup::first_place(rule::ipv4(), table, sight);
             MatchPlace {
                 number: 0,
                 start: place.start,

@@ -42,7 +42,7 @@ use Rattle.packet.specs.Transport.{transportOctets, transportFields}
 use Rattle.entry.specs.Entry.{plainValue, possible, Entry, entryKey}
 use Rattle.entry.specs.Record.{writtenFields, readFields, fieldsOf as entryFieldsOf, recordOf, actionsIn, entryOf, goodRecord}
 use Rattle.table.specs.Change.{holds, removed, hasRoom, inserted, withdrawn}
-use Rattle.table.specs.Lookup.{collected, mergedOnto, verdictOf, verdictFor, firstPlace}
+use Rattle.lookup.specs.Lookup.{collected, mergedOnto, verdictOf, verdictFor, firstPlace}
 use Rattle.table.specs.Sound.{joined, tableOf, soundTable, soundness}
 use Rattle.table.specs.Walk.{recordAt, recordsFrom, records, entries}
 use Rattle.flowspec.specs.declared.Change.the-variants.{Done, Refused}

@@ -3,7 +3,6 @@ pub mod WalkLaws
 pub mod SpliceLaws
 pub mod EntryLaws
 pub mod FindLaws
-pub mod LookupLaws
 pub mod TestLaws
 pub mod SoundLaws
 pub mod ChangeLaws

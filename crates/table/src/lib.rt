@@ -12,13 +12,9 @@ ghost use Rattle.table.specs.Walk.{recordAt, entries};
 ghost use Rattle.table.specs.Sound.{soundTable, soundness};
 ghost use Rattle.table.specs.Follow.{Adjacent, followsAt};
 ghost use Rattle.table.specs.Place.{placeIn};
-ghost use Rattle.entry.specs.Record.{headCost, entryOf};
 ghost use Rattle.table.specs.Change.{announced, withdrawn, Ready, Leaves};
-ghost use Rattle.table.specs.Lookup.{hit, hitOf, verdictOf, verdictFor, firstPlace};
-use action::Actions;
 use entry::Head;
 use octets::Order;
-use packet::Packet;
 use rule::Checked;
 use rule::Family;
 
@@ -55,19 +51,6 @@ pub fn record_at(table: &[u8], at: usize) -> NextRecord
 pub struct Place {
     pub start: usize,
     pub end: usize,
-}
-
-// What a lookup says of a packet: no rule matches, or the merged actions of the rules collected and their count.
-pub enum Verdict {
-    Unmatched,
-    Matched { actions: Actions, count: usize },
-}
-
-// What one record says of a packet: it misses; it matches and the walk goes on (T); it matches and the walk stops.
-pub enum Hit {
-    Missed,
-    GoesOn(Actions),
-    Stops(Actions),
 }
 
 // Whether a table is sound, and how many octets its records take.
@@ -107,99 +90,6 @@ pub fn find(family: Family, table: &[u8], value: &[u8]) -> Place
                         at = behind;
                     }
                 }
-            }
-        }
-    }
-}
-
-// Whether a record's rule matches a packet.
-fn hits_record(family: Family, held: &[u8], packet: Packet) -> bool
-    requires { ⌜ Fits family × (headCost ≤ length (now held)) ⌝ }
-    ensures { λ r. ⌜ r ≡ hit family packet (entryOf (now (held .entry))) ⌝ }
-{
-    packet::matches_rule(family, &held[entry::HEAD_COST..], packet)
-}
-
-// What a record says of a packet.
-fn judge_record(family: Family, held: &[u8], packet: Packet) -> Hit
-    requires { ⌜ Fits family × (headCost ≤ length (now held)) ⌝ }
-    ensures { λ r. ⌜ r ≡ hitOf (hit family packet (entryOf (now (held .entry)))) (entryOf (now (held .entry)) .actions) ⌝ }
-{
-    if !hits_record(family, held, packet) {
-        return Hit::Missed;
-    }
-    let actions = entry::record_actions(held);
-    if actions.onward {
-        return Hit::GoesOn(actions);
-    }
-    Hit::Stops(actions)
-}
-
-// The verdict on merged actions and a count of rules.
-fn verdict_of(actions: Actions, count: usize) -> Verdict
-    ensures { λ r. ⌜ r ≡ verdictOf actions count ⌝ }
-{
-    if count == 0 {
-        return Verdict::Unmatched;
-    }
-    Verdict::Matched { actions, count }
-}
-
-// Looks a packet up in a sound table: goes down the records, collects those that match, and stops after one without T.
-pub fn look_up(family: Family, table: &[u8], packet: Packet) -> Verdict
-    requires { ⌜ Fits family ⌝ }
-    ensures { λ r. ⌜ r ≡ verdictFor family packet (entries (now (table .entry))) ⌝ }
-{
-    let mut at: usize = 0;
-    let mut count: usize = 0;
-    let mut actions = action::no_actions();
-    loop {
-        match record_at(table, at) {
-            NextRecord::Nothing => {
-                break verdict_of(actions, count);
-            }
-            NextRecord::Unsound => {
-                break verdict_of(actions, count);
-            }
-            NextRecord::Record(next) => match judge_record(family, &table[at..next], packet) {
-                Hit::Missed => {
-                    at = next;
-                }
-                Hit::GoesOn(more) => {
-                    actions = action::merge(actions, more);
-                    count += 1;
-                    at = next;
-                }
-                Hit::Stops(more) => {
-                    break verdict_of(action::merge(actions, more), count + 1);
-                }
-            },
-        }
-    }
-}
-
-// Where the first match's record stands in a sound table; 0 and 0 where nothing matches.
-pub fn first_place(family: Family, table: &[u8], packet: Packet) -> Place
-    requires { ⌜ Fits family ⌝ }
-    ensures { λ r. ⌜ (r ≡ firstPlace (hit family packet) 0 (entries (now (table .entry)))) × ((r .start ≤ r .end) × (r .end ≤ length (now (table .entry)))) ⌝ }
-{
-    let mut at: usize = 0;
-    loop {
-        match record_at(table, at) {
-            NextRecord::Nothing => {
-                return Place { start: 0, end: 0 };
-            }
-            NextRecord::Unsound => {
-                return Place { start: 0, end: 0 };
-            }
-            NextRecord::Record(next) => {
-                if hits_record(family, &table[at..next], packet) {
-                    return Place {
-                        start: at,
-                        end: next,
-                    };
-                }
-                at = next;
             }
         }
     }

@@ -21,11 +21,11 @@ use flowspec::Feasibility;
 use flowspec::Looked;
 use libc::STDIN_FILENO;
 use libc::STDOUT_FILENO;
+use lookup::Verdict;
 use packet::Sight;
 use rule::Checked;
 use rule::Reading;
 use rule::Writing;
-use table::Verdict;
 
 // A call's name by its first two letters: `ac`, `an`, `co`, `fe`, `fi`, `lo`, `ma`, `re`, `ta`, `wi`, `wr`.
 const ACTIONS: u64 = 0x6163;

@@ -11,13 +11,13 @@ use Rattle.action.specs.Actions.{noActions}
 use Rattle.action.specs.Merging.{merged}
 use Rattle.packet.specs.declared.Packet.{Packet}
 use Rattle.packet.specs.Match.{matches}
-use Rattle.table.specs.declared.Verdict.{Verdict}
-use Rattle.table.specs.declared.Verdict.the-variants.{Unmatched, Matched}
-use Rattle.table.specs.declared.Hit.{Hit}
-use Rattle.table.specs.declared.Hit.the-variants.{Missed, GoesOn, Stops}
+use Rattle.lookup.specs.declared.Verdict.{Verdict}
+use Rattle.lookup.specs.declared.Verdict.the-variants.{Unmatched, Matched}
+use Rattle.lookup.specs.declared.Hit.{Hit}
+use Rattle.lookup.specs.declared.Hit.the-variants.{Missed, GoesOn, Stops}
 use Rattle.table.specs.declared.Place.{Place}
 use Rattle.entry.specs.Entry.{Entry}
 use Rattle.table.specs.Sound.{cost}
 
 -- Whether a packet matches an entry's rule.
 abbrev pub hit : Family → Packet → Entry → Bool

@@ -1,8 +1,8 @@
 -- The rule decides whether the record matches, and T in its actions whether the walk goes on.
-use Rattle.table.proofs.LookupLaws.{judge-missed, judge-goes-on, judge-stops}
+use Rattle.lookup.proofs.LookupLaws.{judge-missed, judge-goes-on, judge-stops}
 use borrow.Author.Needs.{needs}
-use Rattle.table.proofs.judge_record.Statement.{statement}
-use Rattle.table.proofs.judge_record.Tie as tie
+use Rattle.lookup.proofs.judge_record.Statement.{statement}
+use Rattle.lookup.proofs.judge_record.Tie as tie
 
 hits-record-requires : tie.Need-hits-record-requires
 hits-record-requires c κs = search needs

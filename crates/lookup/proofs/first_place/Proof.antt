@@ -4,13 +4,13 @@ use Prim.Native.Nat.{_-_}
 use mathlib.Core.Path.{_≡_, sym, _∙_}
 use native.Mathlib.Omega.{arith}
 use lib.ListN.{length}
 use Rattle.table.specs.declared.NextRecord.the-variants.{Record}
 use Rattle.table.specs.Walk.{recordAt}
 use Rattle.table.proofs.WalkLaws.{was-found}
 use Rattle.table.proofs.EntryLaws.{length-there}
-use Rattle.table.proofs.LookupLaws.{Missing, miss-starts, first-end, first-unsound, first-met, first-missed}
-use Rattle.table.proofs.first_place.Statement.{statement}
-use Rattle.table.proofs.first_place.Tie as tie
+use Rattle.lookup.proofs.LookupLaws.{Missing, miss-starts, first-end, first-unsound, first-met, first-missed}
+use Rattle.lookup.proofs.first_place.Statement.{statement}
+use Rattle.lookup.proofs.first_place.Tie as tie
 
 abbrev Inv-loop : tie.InvT-loop
 Inv-loop family table packet at₀ at = Missing family table packet at

@@ -16,19 +16,19 @@ use Rattle.action.specs.Actions.{noActions}
 use Rattle.action.specs.Merging.{merged}
 use Rattle.packet.specs.declared.Packet.{Packet}
 use Rattle.packet.specs.Match.{matches}
 use Rattle.table.specs.declared.NextRecord.{NextRecord}
 use Rattle.table.specs.declared.NextRecord.the-variants.{Nothing, Record, Unsound}
-use Rattle.table.specs.declared.Hit.{Hit}
-use Rattle.table.specs.declared.Hit.the-variants.{Missed, GoesOn, Stops}
-use Rattle.table.specs.declared.Verdict.{Verdict}
-use Rattle.table.specs.declared.Verdict.the-variants.{Unmatched, Matched}
+use Rattle.lookup.specs.declared.Hit.{Hit}
+use Rattle.lookup.specs.declared.Hit.the-variants.{Missed, GoesOn, Stops}
+use Rattle.lookup.specs.declared.Verdict.{Verdict}
+use Rattle.lookup.specs.declared.Verdict.the-variants.{Unmatched, Matched}
 use Rattle.entry.specs.Entry.{Entry}
 use Rattle.entry.specs.Record.{headCost, entryOf}
 use Rattle.table.specs.Walk.{recordAt, records, entries}
-use Rattle.table.specs.Lookup.{hit, collected, mergedOnto, verdictOf, verdictFor, hitOf, firstPlace}
+use Rattle.lookup.specs.Lookup.{hit, collected, mergedOnto, verdictOf, verdictFor, hitOf, firstPlace}
 use Rattle.table.proofs.WalkLaws.{was-found}
 use Rattle.table.proofs.EntryLaws.{entriesFrom, cost-there}
 use Rattle.table.proofs.FindLaws.{left-more, left-end, left-unsound}
 
 -- how `verdict_of` comes to its answers
 module _ (actions : Actions) (count : ℕ) where

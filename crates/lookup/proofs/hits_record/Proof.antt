@@ -1,8 +1,8 @@
 -- The value behind the head decides.
-use Rattle.table.proofs.LookupLaws.{record-hit}
+use Rattle.lookup.proofs.LookupLaws.{record-hit}
 use borrow.Author.Needs.{needs}
-use Rattle.table.proofs.hits_record.Statement.{statement}
-use Rattle.table.proofs.hits_record.Tie as tie
+use Rattle.lookup.proofs.hits_record.Statement.{statement}
+use Rattle.lookup.proofs.hits_record.Tie as tie
 
 returns : tie.Need-returns
 returns c = search (record-hit, needs)

@@ -1,8 +1,8 @@
 -- A count of 0 is unmatched.
 use borrow.Author.Needs.{needs}
-use Rattle.table.proofs.LookupLaws.{verdict-none, verdict-some}
-use Rattle.table.proofs.verdict_of.Statement.{statement}
-use Rattle.table.proofs.verdict_of.Tie as tie
+use Rattle.lookup.proofs.LookupLaws.{verdict-none, verdict-some}
+use Rattle.lookup.proofs.verdict_of.Statement.{statement}
+use Rattle.lookup.proofs.verdict_of.Tie as tie
 
 returns : tie.Need-returns
 returns c = search (verdict-none, needs)

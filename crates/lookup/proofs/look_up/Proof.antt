@@ -4,13 +4,13 @@ use Prim.Native.Nat.{_-_}
 use mathlib.Core.Path.{_≡_, sym, _∙_}
 use native.Mathlib.Omega.{arith}
 use lib.ListN.{length}
 use Rattle.table.specs.declared.NextRecord.the-variants.{Record}
 use Rattle.table.specs.Walk.{recordAt}
 use Rattle.table.proofs.WalkLaws.{was-found}
 use Rattle.table.proofs.EntryLaws.{length-there}
-use Rattle.table.proofs.LookupLaws.{Looking, look-starts, look-end, look-unsound, look-missed, look-goes-on, look-stops}
-use Rattle.table.proofs.look_up.Statement.{statement}
-use Rattle.table.proofs.look_up.Tie as tie
+use Rattle.lookup.proofs.LookupLaws.{Looking, look-starts, look-end, look-unsound, look-missed, look-goes-on, look-stops}
+use Rattle.lookup.proofs.look_up.Statement.{statement}
+use Rattle.lookup.proofs.look_up.Tie as tie
 
 abbrev Inv-loop : tie.InvT-loop
 Inv-loop family table packet at₀ count₀ actions₀ at count actions = Looking family table packet at count actions
