@@ -21,7 +21,7 @@ use Rattle.table.specs.Sound.{soundTable}
 use Rattle.lookup.specs.Lookup.{hit, collected, mergedOnto, verdictOf, verdictFor}
 use Rattle.flowspec.specs.declared.Looked.{Looked}
 use Rattle.flowspec.specs.declared.Looked.the-variants.{Judged, Refused}
-use Rattle.flowspec.specs.Look.{shown, seen, lookedUp, lookingUp}
+use Rattle.flowspec.specs.Look.{shown, seen, noHead, lookedUp, lookingUp}
 
 onto-no-T : (a : Actions) (es : List Entry) → a .onward ≡ false → mergedOnto a es .onward ≡ false
 unfolding mergedOnto
@@ -40,5 +40,5 @@ lookup-no-T t octets = by-test (soundTable ipv4 t) (λ s. rw s (go (packetOf ipv
     go : (s : Sight) → NoT (lookedUp t (shown s))
     go Unusable = tt
     go (Usable packet) =
-        let es = collected (hit ipv4 packet) (entries t) in
+        let es = collected (hit ipv4 noHead packet) (entries t) in
         by-test (eqb (length es) 0) (λ z. rw z tt) (λ z. rw z (onto-no-T noActions es refl))

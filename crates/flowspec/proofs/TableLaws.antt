@@ -45,7 +45,7 @@ use Rattle.flowspec.specs.Announce.{announcedEntry, Outcome, changeOf, o
 use Rattle.flowspec.specs.declared.Seen.{Seen}
 use Rattle.flowspec.specs.declared.Seen.the-variants.{Shows, Refused as NotSeen}
 use Rattle.flowspec.specs.Input.{Announcement, Policy}
-use Rattle.flowspec.specs.Look.{seen, lookingUp, firstMatch, matchPlace}
+use Rattle.flowspec.specs.Look.{seen, noHead, lookingUp, firstMatch, matchPlace}
 use Rattle.flowspec.specs.Told.{changeTold, verdictTold, lookupTold, matchPlaceTold}
 use Rattle.flowspec.specs.Promise.{Announces, Withdraws, LooksUp, LocatesFirst}
 use Rattle.flowspec.proofs.ToldLaws.{announce-tells, withdraw-tells, lookup-tells, locate-tells}
@@ -180,7 +180,7 @@ module _ (t octets : List ℕ) where
       pub look-sound : soundTable ipv4 t ≡ true
       look-sound = seen-sound packet (sym is ∙ e)
 
-      pub look-judged : (family : Family) → family ≡ ipv4 → (verdict : Verdict) → verdict ≡ verdictFor family packet (entries t) → LooksUp t octets (Judged verdict) (t ∷ octets ∷ [])
+      pub look-judged : (family : Family) → family ≡ ipv4 → (verdict : Verdict) → verdict ≡ verdictFor family noHead packet (entries t) → LooksUp t octets (Judged verdict) (t ∷ octets ∷ [])
       unfolding lookingUp
       look-judged family four verdict v = look-kept _ (rw (← is, e, v, four))
 
@@ -189,10 +189,10 @@ module _ (t octets : List ℕ) where
       judged-done Unmatched = refl
       judged-done (Matched actions count) = refl
 
-      pub locate-found : (family : Family) → family ≡ ipv4 → (place : Place) → (place ≡ firstPlace (hit family packet) 0 (entries t)) × ((place .start ≤ place .end) × (place .end ≤ length t))
+      pub locate-found : (family : Family) → family ≡ ipv4 → (place : Place) → (place ≡ firstPlace (hit family noHead packet) 0 (entries t)) × ((place .start ≤ place .end) × (place .end ≤ length t))
           → LocatesFirst t octets (record { number = 0; start = place .start; end = place .end }) (t ∷ octets ∷ [])
       unfolding matchPlace lookingUp firstMatch
-      locate-found family four place told = let v = rw four at told in located _ (rw (← is, e, ← v .0, ← judged-done (verdictFor ipv4 packet (entries t)))) (v .1 .0) (v .1 .1)
+      locate-found family four place told = let v = rw four at told in located _ (rw (← is, e, ← v .0, ← judged-done (verdictFor ipv4 noHead packet (entries t)))) (v .1 .0) (v .1 .1)
 
 -- where a first match was located is where it stands
 pub located-at : {t octets : List ℕ} {answer : MatchPlace} {kept : List (List ℕ)} → LocatesFirst t octets answer kept

@@ -39,7 +39,7 @@ use Rattle.flowspec.specs.Compare.{comparisonOf, compareRead, compareRul
 use Rattle.flowspec.specs.Input.{Announcement, Policy}
 use Rattle.flowspec.specs.Feasibility.{readWithRoutes, isFeasible, judgeRead, judgement}
 use Rattle.flowspec.specs.Announce.{changeOf, askedBy, asked, entryFor, announcedBy, announcing, withdrawnBy, withdrawing}
-use Rattle.flowspec.specs.Look.{seen, lookingUp, firstMatch, matchPlace}
+use Rattle.flowspec.specs.Look.{seen, noHead, lookingUp, firstMatch, matchPlace}
 use Rattle.flowspec.specs.Told.{Told, done, refused, readingTold, writingTold, comparisonTold, feasibilityTold, actionsTold, changeTold, verdictTold, lookupTold, matchPlaceTold}
 use Rattle.flowspec.specs.Checks.{judgeChecks, announceChecks, Check, check, oneToSeven, told, ruleEnd, valueIn, checkRule, endsThere, readChecks, readValues, writeChecks, writeValues, compareChecks, compareValues, actionsChecks, actionsValues, withdrawChecks, lookupChecks, lookupValues, firstMatchValues, isSound, actionsIn}
 
@@ -195,7 +195,7 @@ pub lookup-tells : (t packet : List ℕ) → lookupTold (lookingUp t packet) ≡
 unfolding lookingUp seen packetOf verdictFor verdictOf mergedOnto flagsOf
 lookup-tells t packet =
     by-test (soundTable ipv4 t)
-    (λ s. by-test (isUnusable ipv4 packet) (λ u. rw (s, u)) (λ u. rw (s, u) (go (collected (hit ipv4 (fieldsOf ipv4 packet)) (entries t)))))
+    (λ s. by-test (isUnusable ipv4 packet) (λ u. rw (s, u)) (λ u. rw (s, u) (go (collected (hit ipv4 noHead (fieldsOf ipv4 packet)) (entries t)))))
     (λ s. rw s)
   where
     go : (rules : List Entry) → lookupTold (Judged (verdictOf (mergedOnto noActions rules) (length rules)))
@@ -207,7 +207,7 @@ pub locate-tells : (t packet : List ℕ) → matchPlaceTold (matchPlace t packet
 unfolding matchPlace lookingUp firstMatch seen packetOf
 locate-tells t packet =
     by-test (soundTable ipv4 t)
-    (λ s. by-test (isUnusable ipv4 packet) (λ u. rw (s, u)) (λ u. rw (s, u) (go (verdictFor ipv4 (fieldsOf ipv4 packet) (entries t)))))
+    (λ s. by-test (isUnusable ipv4 packet) (λ u. rw (s, u)) (λ u. rw (s, u) (go (verdictFor ipv4 noHead (fieldsOf ipv4 packet) (entries t)))))
     (λ s. rw s)
   where
     go : (v : Verdict) → _≡_ {A = Told} (record { number = verdictTold v .number; place = 0; values = firstMatchValues t packet }) (done (firstMatchValues t packet))

@@ -32,6 +32,7 @@ use Rattle.flowspec.specs.Input.{Announcement, Policy}
 use Rattle.flowspec.specs.Feasibility.{isFeasible}
 use Rattle.flowspec.specs.Announce.{entryFor}
 use Rattle.flowspec.specs.Told.{Told, done, refused}
+use Rattle.flowspec.specs.Look.{noHead}
 
 -- A check: whether it holds, and the number and the place of the refusal where it does not.
 pub record Check : Type 0 where
@@ -158,7 +159,7 @@ lookupChecks table packet = check (soundTable ipv4 table) 10 ∷ check (not (isU
 -- 01: "matched with the merged actions and the count collected": the count, then the values of the actions; each is 0 where no rule matches.
 abbrev pub lookupValues : List ℕ → List ℕ → List ℕ
 lookupValues table packet =
-    let rules = collected (hit ipv4 (fieldsOf ipv4 packet)) (entries table) in
+    let rules = collected (hit ipv4 noHead (fieldsOf ipv4 packet)) (entries table) in
     length rules ∷ valuesOf (mergedOnto noActions rules)
 
 -- A place in a table by its start and length.
@@ -167,4 +168,4 @@ placeValues place = place .start ∷ (place .end - place .start) ∷ []
 
 -- Where the first match's record stands, 0 and 0 where there is none.
 abbrev pub firstMatchValues : List ℕ → List ℕ → List ℕ
-firstMatchValues table packet = placeValues (firstPlace (hit ipv4 (fieldsOf ipv4 packet)) 0 (entries table))
+firstMatchValues table packet = placeValues (firstPlace (hit ipv4 noHead (fieldsOf ipv4 packet)) 0 (entries table))

@@ -2,7 +2,7 @@
 -- as a part of the lent table (empty if none, or if the lookup is refused)".
 use Prim.Native.Nat.{ℕ}
 use mathlib.Core.Bool.{cond}
-use mathlib.Core.List.{List}
+use mathlib.Core.List.{List, []}
 use Rattle.rule.specs.Family.{ipv4}
 use Rattle.packet.specs.declared.Sight.{Sight}
 use Rattle.packet.specs.declared.Sight.the-variants.{Usable, Unusable}
@@ -27,10 +27,14 @@ shown (Usable packet) = Shows packet
 unfoldable pub seen : List ℕ → List ℕ → Seen
 seen t octets = cond (soundTable ipv4 t) (shown (packetOf ipv4 octets)) (NotSeen 10)
 
+-- The head that a packet is asked for under: a lookup names no head today.
+abbrev pub noHead : List ℕ
+noHead = []
+
 -- What a table says of a packet.
 abbrev pub lookedUp : List ℕ → Seen → Looked
 lookedUp t (NotSeen number) = Refused number 0
-lookedUp t (Shows packet) = Judged (verdictFor ipv4 packet (entries t))
+lookedUp t (Shows packet) = Judged (verdictFor ipv4 noHead packet (entries t))
 
 -- Looking a packet up.
 unfoldable pub lookingUp : List ℕ → List ℕ → Looked
@@ -39,7 +43,7 @@ lookingUp t octets = lookedUp t (seen t octets)
 -- Where the first match's record stands; nowhere is an empty part at octet 0.
 abbrev pub firstIn : List ℕ → Seen → Place
 firstIn t (NotSeen number) = record { start = 0; end = 0 }
-firstIn t (Shows packet) = firstPlace (hit ipv4 packet) 0 (entries t)
+firstIn t (Shows packet) = firstPlace (hit ipv4 noHead packet) 0 (entries t)
 
 -- The first match.
 unfoldable pub firstMatch : List ℕ → List ℕ → Place

@@ -327,17 +327,18 @@ fn see(table: &[u8], packet: &[u8]) -> Seen
     }
 }
 
-// Looks a packet up in a table.
+// Looks a packet up in a table, under no head.
 pub fn lookup(table: &[u8], packet: &[u8]) -> Looked
     ensures { λ r. ⌜ LooksUp (now (table .entry)) (now (packet .entry)) r (now (table .exit) ∷ now (packet .exit) ∷ []) ⌝ }
 {
     match see(table, packet) {
         Seen::Refused(number) => Looked::Refused { number, place: 0 },
-        Seen::Shows(sight) => Looked::Judged(lookup::look_up(rule::ipv4(), table, sight)),
+        Seen::Shows(sight) => Looked::Judged(lookup::look_up(rule::ipv4(), b"", table, sight)),
     }
 }
 
-// Where the first match's record stands in a table, with the lookup's number; 0 and 0 where nothing matches or the lookup is refused.
+// Where the first match's record stands in a table, under no head, with the lookup's number; 0 and 0 where nothing matches or the lookup is
+// refused.
 pub fn first_match_place(table: &[u8], packet: &[u8]) -> MatchPlace
     ensures { λ r. ⌜ LocatesFirst (now (table .entry)) (now (packet .entry)) r (now (table .exit) ∷ now (packet .exit) ∷ []) ⌝ }
 {
@@ -348,7 +349,7 @@ pub fn first_match_place(table: &[u8], packet: &[u8]) -> MatchPlace
             end: 0,
         },
         Seen::Shows(sight) => {
-            let place = lookup::first_place(rule::ipv4(), table, sight);
+            let place = lookup::first_place(rule::ipv4(), b"", table, sight);
             MatchPlace {
                 number: 0,
                 start: place.start,

@@ -1,21 +1,27 @@
 -- Going down a table with a packet: what is left of the table and what was collected give the verdict. Assumes nothing.
 use mathlib.Core.Path.{_≡_, refl, sym, ap, ap₂, _∙_}
-use mathlib.Core.Bool.{Bool, true, false, not, cond}
+use mathlib.Core.Bool.{Bool, true, false, not, cond, _&&_}
 use mathlib.Core.List.{List, [], _∷_}
-use Prim.Native.Nat.{ℕ, suc, _+_, _-_, _≤_}
+use Prim.Native.Nat.{ℕ, suc, _+_, _-_, _<_, _≤_}
 use native.Mathlib.Omega.{arith}
 use native.Mathlib.Nat.{add-zero}
 use lib.ListN.{length, take, drop, length-drop}
 use lib.Seq.{take-all}
 use borrow.Author.Tests.{eq-eqb, ne-eqb, not-true, not-false}
+use Rattle.octets.specs.Test.{sameList}
 use Rattle.octets.proofs.Cases.{by-test, apart}
+use Rattle.octets.proofs.Facts.{Octets}
 use Rattle.rule.specs.declared.Family.{Family}
-use Rattle.rule.specs.Value.{between}
+use Rattle.rule.specs.Family.{Fits}
+use Rattle.rule.specs.Value.{between, headOf}
+use Rattle.rule.specs.Plain.{plain}
+use Rattle.rule.proofs.SpellingLaws.{head-kept}
 use Rattle.action.specs.declared.Actions.{Actions}
 use Rattle.action.specs.Actions.{noActions}
 use Rattle.action.specs.Merging.{merged}
 use Rattle.packet.specs.declared.Packet.{Packet}
 use Rattle.packet.specs.Match.{matches}
+use Rattle.packet.proofs.PlainLaws.{plain-alone}
 use Rattle.table.specs.declared.NextRecord.{NextRecord}
 use Rattle.table.specs.declared.NextRecord.the-variants.{Nothing, Record, Unsound}
 use Rattle.lookup.specs.declared.Hit.{Hit}
@@ -40,24 +46,48 @@ module _ (actions : Actions) (count : ℕ) where
   unfolding verdictOf
   verdict-some h = rw (ne-eqb count 0 h)
 
--- how `hits_record` comes to its answer
-pub record-hit : (family : Family) (r : List ℕ) (packet : Packet) (says : Bool) → says ≡ matches family (take (length r - headCost) (drop headCost r)) packet
-    → says ≡ hit family packet (entryOf r)
-unfolding entryOf
-record-hit family r packet says is =
-    let whole = take-all (length r - headCost) (drop headCost r) (simp length-drop (omega arith)) in
-    rw whole at is
+-- how `has_head` comes to its answer of a value that is shorter than the family's head
+pub head-whole : (family : Family) (head v : List ℕ) (says : Bool) → says ≡ sameList v head → length v < family .head
+    → says ≡ sameList (headOf family v) head
+head-whole family head v says is h = is ∙ ap (λ (l : List ℕ). sameList l head) (sym (take-all (family .head) v (omega arith)))
+
+-- how `hits_record` comes to its answers
+module _ (family : Family) (head r : List ℕ) (packet : Packet) (same : Bool)
+    (is : same ≡ sameList (headOf family (take (length r - headCost) (drop headCost r))) head) where
+  whole : take (length r - headCost) (drop headCost r) ≡ drop headCost r
+  whole = take-all (length r - headCost) (drop headCost r) (simp length-drop (omega arith))
+
+  pub record-other : not same ≡ true → false ≡ hit family head packet (entryOf r)
+  unfolding entryOf
+  record-other h = let e = rw whole at is in rw (← e, not-true same h)
+
+  pub record-hit : not same ≡ false → (says : Bool) → says ≡ matches family (take (length r - headCost) (drop headCost r)) packet
+      → says ≡ hit family head packet (entryOf r)
+  unfolding entryOf
+  record-hit h says told = let e = rw whole at is in rw (← e, not-false same h) (rw whole at told)
+
+-- a family that has no head: a packet asked for under none hits where the components match
+pub no-head : (family : Family) → family .head ≡ 0 → (packet : Packet) (e : Entry) → hit family [] packet e ≡ matches family (e .value) packet
+unfolding sameList
+no-head family none packet e = ap (λ n. sameList (take n (e .value)) [] && matches family (e .value) packet) none
+
+-- rules of one plain spelling are hit alike, whatever head is asked for: the plain spelling has the same head
+pub hit-plain : (family : Family) → Fits family → (head : List ℕ) (packet : Packet) (e f : Entry) → Octets (e .value) → Octets (f .value)
+    → plain family (e .value) ≡ plain family (f .value) → hit family head packet e ≡ hit family head packet f
+hit-plain family fits head packet e f o p same =
+    let heads = sym (head-kept family (e .value)) ∙ ap (headOf family) same ∙ head-kept family (f .value) in
+    ap₂ (λ (l : List ℕ) (b : Bool). sameList l head && b) heads (plain-alone family fits packet (e .value) (f .value) o p same)
 
 -- how `judge_record` comes to its answers
-module _ (family : Family) (r : List ℕ) (packet : Packet) (says : Bool) (is : says ≡ hit family packet (entryOf r)) where
-  pub judge-missed : not says ≡ true → Missed ≡ hitOf (hit family packet (entryOf r)) (entryOf r .actions)
+module _ (family : Family) (head r : List ℕ) (packet : Packet) (says : Bool) (is : says ≡ hit family head packet (entryOf r)) where
+  pub judge-missed : not says ≡ true → Missed ≡ hitOf (hit family head packet (entryOf r)) (entryOf r .actions)
   judge-missed h = rw (← is, not-true says h)
 
   module _ (ok : not says ≡ false) (actions : Actions) (acts : actions ≡ entryOf r .actions) where
-    pub judge-goes-on : actions .onward ≡ true → GoesOn actions ≡ hitOf (hit family packet (entryOf r)) (entryOf r .actions)
+    pub judge-goes-on : actions .onward ≡ true → GoesOn actions ≡ hitOf (hit family head packet (entryOf r)) (entryOf r .actions)
     judge-goes-on h = rw (← is, not-false says ok, ← acts, h)
 
-    pub judge-stops : actions .onward ≡ false → Stops actions ≡ hitOf (hit family packet (entryOf r)) (entryOf r .actions)
+    pub judge-stops : actions .onward ≡ false → Stops actions ≡ hitOf (hit family head packet (entryOf r)) (entryOf r .actions)
     judge-stops h = rw (← is, not-false says ok, ← acts, h)
 
 -- the verdict where some entries are left and some were collected
@@ -110,12 +140,12 @@ module _ (test : Entry → Bool) (e : Entry) (es : List Entry) where
         ∙ ap (λ m. verdictOf (merged actions m) (count + 1)) s))
         (λ t. apart (cc))
 
-module _ (family : Family) where
+module _ (family : Family) (head : List ℕ) where
   -- the walk has come to a place with merged actions and a count
   pub record Looking (t : List ℕ) (packet : Packet) (at count : ℕ) (actions : Actions) : Type 0 where
     pub within : at ≤ length t
     pub few : count ≤ at
-    pub so-far : verdictFor family packet (entries t) ≡ verdictWith (hit family packet) actions count (entriesFrom t at)
+    pub so-far : verdictFor family head packet (entries t) ≡ verdictWith (hit family head packet) actions count (entriesFrom t at)
 
   pub look-starts : (t : List ℕ) (packet : Packet) (actions : Actions) → actions ≡ noActions → Looking t packet 0 0 actions
   unfolding verdictFor entries records
@@ -123,23 +153,23 @@ module _ (family : Family) where
       record {
         within = omega arith;
         few = omega arith;
-        so-far = rw e (ap (verdictOf (mergedOnto noActions (collected (hit family packet) (entriesFrom t 0)))) (omega arith));
+        so-far = rw e (ap (verdictOf (mergedOnto noActions (collected (hit family head packet) (entriesFrom t 0)))) (omega arith));
       }
 
   module _ (t : List ℕ) (packet : Packet) (at count : ℕ) (actions : Actions) (l : Looking t packet at count actions) where
-    nothing-left : entriesFrom t at ≡ [] → verdictOf actions count ≡ verdictFor family packet (entries t)
+    nothing-left : entriesFrom t at ≡ [] → verdictOf actions count ≡ verdictFor family head packet (entries t)
     unfolding collected mergedOnto
     nothing-left e = sym (l .so-far ∙ rw (e, add-zero count))
 
-    pub look-end : (next : NextRecord) (r : Verdict) → next ≡ recordAt t at → next ≡ Nothing → r ≡ verdictOf actions count → r ≡ verdictFor family packet (entries t)
+    pub look-end : (next : NextRecord) (r : Verdict) → next ≡ recordAt t at → next ≡ Nothing → r ≡ verdictOf actions count → r ≡ verdictFor family head packet (entries t)
     look-end next r is e v = v ∙ nothing-left (left-end t at (sym is ∙ e))
 
-    pub look-unsound : (next : NextRecord) (r : Verdict) → next ≡ recordAt t at → next ≡ Unsound → r ≡ verdictOf actions count → r ≡ verdictFor family packet (entries t)
+    pub look-unsound : (next : NextRecord) (r : Verdict) → next ≡ recordAt t at → next ≡ Unsound → r ≡ verdictOf actions count → r ≡ verdictFor family head packet (entries t)
     look-unsound next r is e v = v ∙ nothing-left (left-unsound t at (sym is ∙ e))
 
     module _ (next : ℕ) (found : recordAt t at ≡ Record next) (h : Hit)
-        (is : h ≡ hitOf (hit family packet (entryOf (between t at next))) (entryOf (between t at next) .actions)) where
-      here : verdictFor family packet (entries t) ≡ verdictWith (hit family packet) actions count (entryOf (between t at next) ∷ entriesFrom t next)
+        (is : h ≡ hitOf (hit family head packet (entryOf (between t at next))) (entryOf (between t at next) .actions)) where
+      here : verdictFor family head packet (entries t) ≡ verdictWith (hit family head packet) actions count (entryOf (between t at next) ∷ entriesFrom t next)
       here = l .so-far ∙ rw (left-more t at next found)
 
       bounds : (next ≤ length t) × (count + 1 ≤ next)
@@ -157,7 +187,7 @@ module _ (family : Family) where
           record {
             within = bounds .0;
             few = omega arith;
-            so-far = here ∙ one-missed (hit family packet) (entryOf (between t at next)) (entriesFrom t next) actions count (sym is ∙ e);
+            so-far = here ∙ one-missed (hit family head packet) (entryOf (between t at next)) (entriesFrom t next) actions count (sym is ∙ e);
           }
 
       pub look-goes-on : (more after : Actions) → h ≡ GoesOn more → after ≡ merged actions more → Looking t packet next (count + 1) after
@@ -165,41 +195,41 @@ module _ (family : Family) where
           record {
             within = bounds .0;
             few = bounds .1;
-            so-far = rw m (here ∙ one-goes-on (hit family packet) (entryOf (between t at next)) (entriesFrom t next) actions count more (sym is ∙ e));
+            so-far = rw m (here ∙ one-goes-on (hit family head packet) (entryOf (between t at next)) (entriesFrom t next) actions count more (sym is ∙ e));
           }
 
       pub look-stops : (more after : Actions) (r : Verdict) → h ≡ Stops more → after ≡ merged actions more → r ≡ verdictOf after (count + 1)
-          → r ≡ verdictFor family packet (entries t)
+          → r ≡ verdictFor family head packet (entries t)
       look-stops more after r e m v =
-          v ∙ rw m (sym (here ∙ one-stops (hit family packet) (entryOf (between t at next)) (entriesFrom t next) actions count more (sym is ∙ e)))
+          v ∙ rw m (sym (here ∙ one-stops (hit family head packet) (entryOf (between t at next)) (entriesFrom t next) actions count more (sym is ∙ e)))
 
   -- the first match: the walk has come to a place and has met no match
   pub record Missing (t : List ℕ) (packet : Packet) (at : ℕ) : Type 0 where
     pub within : at ≤ length t
-    pub so-far : firstPlace (hit family packet) 0 (entries t) ≡ firstPlace (hit family packet) at (entriesFrom t at)
+    pub so-far : firstPlace (hit family head packet) 0 (entries t) ≡ firstPlace (hit family head packet) at (entriesFrom t at)
 
   pub miss-starts : (t : List ℕ) (packet : Packet) → Missing t packet 0
   unfolding entries records
   miss-starts t packet = record { within = omega arith; so-far = refl }
 
   module _ (t : List ℕ) (packet : Packet) (at : ℕ) (m : Missing t packet at) where
-    none-met : entriesFrom t at ≡ [] → record { start = 0; end = 0 } ≡ firstPlace (hit family packet) 0 (entries t)
+    none-met : entriesFrom t at ≡ [] → record { start = 0; end = 0 } ≡ firstPlace (hit family head packet) 0 (entries t)
     unfolding firstPlace
     none-met e = sym (m .so-far ∙ rw e)
 
-    pub first-end : (next : NextRecord) → next ≡ recordAt t at → next ≡ Nothing → record { start = 0; end = 0 } ≡ firstPlace (hit family packet) 0 (entries t)
+    pub first-end : (next : NextRecord) → next ≡ recordAt t at → next ≡ Nothing → record { start = 0; end = 0 } ≡ firstPlace (hit family head packet) 0 (entries t)
     first-end next is e = none-met (left-end t at (sym is ∙ e))
 
-    pub first-unsound : (next : NextRecord) → next ≡ recordAt t at → next ≡ Unsound → record { start = 0; end = 0 } ≡ firstPlace (hit family packet) 0 (entries t)
+    pub first-unsound : (next : NextRecord) → next ≡ recordAt t at → next ≡ Unsound → record { start = 0; end = 0 } ≡ firstPlace (hit family head packet) 0 (entries t)
     first-unsound next is e = none-met (left-unsound t at (sym is ∙ e))
 
-    module _ (next : ℕ) (found : recordAt t at ≡ Record next) (says : Bool) (is : says ≡ hit family packet (entryOf (between t at next))) where
-      there : firstPlace (hit family packet) 0 (entries t)
-          ≡ cond says (record { start = at; end = next }) (firstPlace (hit family packet) next (entriesFrom t next))
+    module _ (next : ℕ) (found : recordAt t at ≡ Record next) (says : Bool) (is : says ≡ hit family head packet (entryOf (between t at next))) where
+      there : firstPlace (hit family head packet) 0 (entries t)
+          ≡ cond says (record { start = at; end = next }) (firstPlace (hit family head packet) next (entriesFrom t next))
       unfolding firstPlace
       there = m .so-far ∙ rw (left-more t at next found, ← is, cost-there t at next found)
 
-      pub first-met : says ≡ true → record { start = at; end = next } ≡ firstPlace (hit family packet) 0 (entries t)
+      pub first-met : says ≡ true → record { start = at; end = next } ≡ firstPlace (hit family head packet) 0 (entries t)
       first-met h = sym (there ∙ rw h)
 
       pub first-missed : says ≡ false → Missing t packet next

@@ -1,11 +1,13 @@
 -- Looking a packet up. 01: "Lookup goes down the table; a matching rule is collected, and the walk stops after one without T. The verdict
 -- is unmatched, or matched with the merged actions and the count collected; merged actions carry no T."
 use Prim.Native.Nat.{ℕ, _+_}
-use mathlib.Core.Bool.{Bool, true, false, cond}
+use mathlib.Core.Bool.{Bool, true, false, cond, _&&_}
 use mathlib.Core.List.{List, [], _∷_}
 use lib.Dec.{eqb}
 use lib.ListN.{length}
+use Rattle.octets.specs.Test.{sameList}
 use Rattle.rule.specs.declared.Family.{Family}
+use Rattle.rule.specs.Value.{headOf}
 use Rattle.action.specs.declared.Actions.{Actions}
 use Rattle.action.specs.Actions.{noActions}
 use Rattle.action.specs.Merging.{merged}
@@ -19,9 +21,10 @@ use Rattle.table.specs.declared.Place.{Place}
 use Rattle.entry.specs.Entry.{Entry}
 use Rattle.table.specs.Sound.{cost}
 
--- Whether a packet matches an entry's rule.
-abbrev pub hit : Family → Packet → Entry → Bool
-hit family packet e = matches family (e .value) packet
+-- Whether a packet, asked for under a head, matches an entry's rule: the value's head (the octets before its first component; none in IPv4)
+-- is that head, and its components match.
+abbrev pub hit : Family → List ℕ → Packet → Entry → Bool
+hit family head packet e = sameList (headOf family (e .value)) head && matches family (e .value) packet
 
 -- The entries collected: those that match, down to the first of them without T.
 unfoldable pub collected : (Entry → Bool) → List Entry → List Entry
@@ -37,10 +40,10 @@ mergedOnto actions (e ∷ es) = mergedOnto (merged actions (e .actions)) es
 unfoldable pub verdictOf : Actions → ℕ → Verdict
 verdictOf actions count = cond (eqb count 0) Unmatched (Matched actions count)
 
--- The verdict on a packet.
-unfoldable pub verdictFor : Family → Packet → List Entry → Verdict
-verdictFor family packet es =
-    let rules = collected (hit family packet) es in
+-- The verdict on a packet, asked for under a head.
+unfoldable pub verdictFor : Family → List ℕ → Packet → List Entry → Verdict
+verdictFor family head packet es =
+    let rules = collected (hit family head packet) es in
     verdictOf (mergedOnto noActions rules) (length rules)
 
 -- What one record says of a packet, as the code has it: that it misses, or its entry's actions with whether the walk goes on.

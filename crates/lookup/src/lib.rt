@@ -2,7 +2,9 @@
 ghost use mathlib.Core.Path.{_≡_};
 ghost use Prim.Native.Nat.{_≤_};
 ghost use lib.ListN.{length};
+ghost use Rattle.octets.specs.Test.{sameList};
 ghost use Rattle.rule.specs.Family.{Fits};
+ghost use Rattle.rule.specs.Value.{headOf};
 ghost use Rattle.entry.specs.Record.{headCost, entryOf};
 ghost use Rattle.table.specs.Walk.{entries};
 ghost use Rattle.lookup.specs.Lookup.{hit, hitOf, verdictOf, verdictFor, firstPlace};
@@ -26,20 +28,35 @@ pub enum Hit {
     Stops(Actions),
 }
 
-// Whether a record's rule matches a packet.
-fn hits_record(family: Family, held: &[u8], packet: Packet) -> bool
-    requires { ⌜ Fits family × (headCost ≤ length (now held)) ⌝ }
-    ensures { λ r. ⌜ r ≡ hit family packet (entryOf (now (held .entry))) ⌝ }
+// Whether a value's head is the one asked for.
+fn has_head(family: Family, head: &[u8], value: &[u8]) -> bool
+    ensures { λ r. ⌜ r ≡ sameList (headOf family (now (value .entry))) (now (head .entry)) ⌝ }
 {
-    packet::matches_rule(family, &held[entry::HEAD_COST..], packet)
+    let size = family.head;
+    if value.len() < size {
+        return octets::same_octets(value, head);
+    }
+    octets::same_octets(&value[..size], head)
 }
 
-// What a record says of a packet.
-fn judge_record(family: Family, held: &[u8], packet: Packet) -> Hit
+// Whether a packet, asked for under a head, matches a record's rule.
+fn hits_record(family: Family, head: &[u8], held: &[u8], packet: Packet) -> bool
     requires { ⌜ Fits family × (headCost ≤ length (now held)) ⌝ }
-    ensures { λ r. ⌜ r ≡ hitOf (hit family packet (entryOf (now (held .entry)))) (entryOf (now (held .entry)) .actions) ⌝ }
+    ensures { λ r. ⌜ r ≡ hit family (now (head .entry)) packet (entryOf (now (held .entry))) ⌝ }
 {
-    if !hits_record(family, held, packet) {
+    let value = &held[entry::HEAD_COST..];
+    if !has_head(family, head, value) {
+        return false;
+    }
+    packet::matches_rule(family, value, packet)
+}
+
+// What a record says of a packet, asked for under a head.
+fn judge_record(family: Family, head: &[u8], held: &[u8], packet: Packet) -> Hit
+    requires { ⌜ Fits family × (headCost ≤ length (now held)) ⌝ }
+    ensures { λ r. ⌜ r ≡ hitOf (hit family (now (head .entry)) packet (entryOf (now (held .entry)))) (entryOf (now (held .entry)) .actions) ⌝ }
+{
+    if !hits_record(family, head, held, packet) {
         return Hit::Missed;
     }
     let actions = entry::record_actions(held);
@@ -59,10 +76,10 @@ fn verdict_of(actions: Actions, count: usize) -> Verdict
     Verdict::Matched { actions, count }
 }
 
-// Looks a packet up in a sound table: goes down the records, collects those that match, and stops after one without T.
-pub fn look_up(family: Family, table: &[u8], packet: Packet) -> Verdict
+// Looks a packet up in a sound table, under a head: goes down the records, collects those that match, and stops after one without T.
+pub fn look_up(family: Family, head: &[u8], table: &[u8], packet: Packet) -> Verdict
     requires { ⌜ Fits family ⌝ }
-    ensures { λ r. ⌜ r ≡ verdictFor family packet (entries (now (table .entry))) ⌝ }
+    ensures { λ r. ⌜ r ≡ verdictFor family (now (head .entry)) packet (entries (now (table .entry))) ⌝ }
 {
     let mut at: usize = 0;
     let mut count: usize = 0;
@@ -75,7 +92,7 @@ pub fn look_up(family: Family, table: &[u8], packet: Packet) -> Verdict
             NextRecord::Unsound => {
                 break verdict_of(actions, count);
             }
-            NextRecord::Record(next) => match judge_record(family, &table[at..next], packet) {
+            NextRecord::Record(next) => match judge_record(family, head, &table[at..next], packet) {
                 Hit::Missed => {
                     at = next;
                 }
@@ -92,10 +109,10 @@ pub fn look_up(family: Family, table: &[u8], packet: Packet) -> Verdict
     }
 }
 
-// Where the first match's record stands in a sound table; 0 and 0 where nothing matches.
-pub fn first_place(family: Family, table: &[u8], packet: Packet) -> Place
+// Where the first match's record stands in a sound table, for a packet asked for under a head; 0 and 0 where nothing matches.
+pub fn first_place(family: Family, head: &[u8], table: &[u8], packet: Packet) -> Place
     requires { ⌜ Fits family ⌝ }
-    ensures { λ r. ⌜ (r ≡ firstPlace (hit family packet) 0 (entries (now (table .entry)))) × ((r .start ≤ r .end) × (r .end ≤ length (now (table .entry)))) ⌝ }
+    ensures { λ r. ⌜ (r ≡ firstPlace (hit family (now (head .entry)) packet) 0 (entries (now (table .entry)))) × ((r .start ≤ r .end) × (r .end ≤ length (now (table .entry)))) ⌝ }
 {
     let mut at: usize = 0;
     loop {
@@ -107,7 +124,7 @@ pub fn first_place(family: Family, table: &[u8], packet: Packet) -> Place
                 return Place { start: 0, end: 0 };
             }
             NextRecord::Record(next) => {
-                if hits_record(family, &table[at..next], packet) {
+                if hits_record(family, head, &table[at..next], packet) {
                     return Place {
                         start: at,
                         end: next,

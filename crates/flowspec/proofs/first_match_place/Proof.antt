@@ -21,6 +21,7 @@ first-match-place-spec =
     (λ c. search needs)
     (λ c. search needs)
     (λ c κs. search needs)
+    (λ c. search needs)
     first-place-requires
     returns
     returns-2)

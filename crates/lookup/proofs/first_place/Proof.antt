@@ -13,16 +13,16 @@ use Rattle.lookup.proofs.first_place.Statement.{statement}
 use Rattle.lookup.proofs.first_place.Tie as tie
 
 abbrev Inv-loop : tie.InvT-loop
-Inv-loop family table packet at₀ at = Missing family table packet at
+Inv-loop family head table packet at₀ at = Missing family head table packet at
 
 abbrev μ-loop : tie.MeasureT-loop
-μ-loop family table packet at₀ at = length table - at
+μ-loop family head table packet at₀ at = length table - at
 
-found-here : (c : tie.After-known-told Inv-loop μ-loop) → recordAt (c .before .before .before .before .before .before .args .table .now) (c .before .before .before .before .loop .at) ≡ Record (c .before .next .given .0 .0)
+found-here : (c : tie.After-known-told Inv-loop μ-loop) → recordAt (c .before .before .before .before .before .before .before .args .table .now) (c .before .before .before .before .loop .at) ≡ Record (c .before .next .given .0 .0)
 found-here c = sym (c .before .before .before .record-at .ensures) ∙ c .before .next .given .1
 
 loop-holds : tie.Need-loop-holds Inv-loop μ-loop
-loop-holds c = miss-starts _ _ _
+loop-holds c = miss-starts _ _ _ _
 
 record-at-requires : tie.Need-record-at-requires Inv-loop μ-loop
 record-at-requires c κs = search needs
@@ -31,13 +31,13 @@ enum-told : tie.Need-enum-told Inv-loop μ-loop
 enum-told c = search needs
 
 returns : tie.Need-returns Inv-loop μ-loop
-returns c = (first-end _ _ _ _ (c .before .before .before .loop .inv) _ (c .before .before .record-at .ensures) (c .enum-told .given .1), (omega arith, omega arith))
+returns c = (first-end _ _ _ _ _ (c .before .before .before .loop .inv) _ (c .before .before .record-at .ensures) (c .enum-told .given .1), (omega arith, omega arith))
 
 enum-told-2 : tie.Need-enum-told-2 Inv-loop μ-loop
 enum-told-2 c = search needs
 
 returns-2 : tie.Need-returns-2 Inv-loop μ-loop
-returns-2 c = (first-unsound _ _ _ _ (c .before .before .before .loop .inv) _ (c .before .before .record-at .ensures) (c .enum-told2 .given .1), (omega arith, omega arith))
+returns-2 c = (first-unsound _ _ _ _ _ (c .before .before .before .loop .inv) _ (c .before .before .record-at .ensures) (c .enum-told2 .given .1), (omega arith, omega arith))
 
 enum-known-next : tie.Need-enum-known-next Inv-loop μ-loop
 enum-known-next c = search needs
@@ -54,11 +54,11 @@ part-hits-record-end c = omega (arith, was-found _ (c .before .before .before .b
 hits-record-requires : tie.Need-hits-record-requires Inv-loop μ-loop
 hits-record-requires c κs =
     let k = c .before in
-    (k .before .before .before .before .before .before .pre, omega (arith, was-found _ (k .before .before .before .before .loop .at) _ (found-here k), length-there _ (k .before .before .before .before .loop .at) _ (found-here k)))
+    (k .before .before .before .before .before .before .before .pre, omega (arith, was-found _ (k .before .before .before .before .loop .at) _ (found-here k), length-there _ (k .before .before .before .before .loop .at) _ (found-here k)))
 
 returns-3 : tie.Need-returns-3 Inv-loop μ-loop
 returns-3 c = let k = c .before .before .before in (
-  first-met _ _ _ _ (k .before .before .before .before .loop .inv) _ (found-here k) _ (c .before .hits-record .ensures) (c .if1 .taken),
+  first-met _ _ _ _ _ (k .before .before .before .before .loop .inv) _ (found-here k) _ (c .before .hits-record .ensures) (c .if1 .taken),
   (omega (arith, was-found _ (k .before .before .before .before .loop .at) _ (found-here k)), omega (arith, was-found _ (k .before .before .before .before .loop .at) _ (found-here k))),
 )
 
@@ -67,7 +67,7 @@ loop-less c = let k = c .before .before .before in omega (arith, was-found _ (k 
 
 loop-again : tie.Need-loop-again Inv-loop μ-loop
 loop-again c = let k = c .before .before .before in
-    first-missed _ _ _ _ (k .before .before .before .before .loop .inv) _ (found-here k) _ (c .before .hits-record .ensures) (c .if1 .left)
+    first-missed _ _ _ _ _ (k .before .before .before .before .loop .inv) _ (found-here k) _ (c .before .hits-record .ensures) (c .if1 .left)
 
 pub first-place-spec : {M : Type 1} → statement M
 first-place-spec =

@@ -13,19 +13,19 @@ use Rattle.lookup.proofs.look_up.Statement.{statement}
 use Rattle.lookup.proofs.look_up.Tie as tie
 
 abbrev Inv-loop : tie.InvT-loop
-Inv-loop family table packet at₀ count₀ actions₀ at count actions = Looking family table packet at count actions
+Inv-loop family head table packet at₀ count₀ actions₀ at count actions = Looking family head table packet at count actions
 
 abbrev μ-loop : tie.MeasureT-loop
-μ-loop family table packet at₀ count₀ actions₀ at count actions = length table - at
+μ-loop family head table packet at₀ count₀ actions₀ at count actions = length table - at
 
-found-here : (c : tie.After-known-told Inv-loop μ-loop) → recordAt (c .before .before .before .before .before .before .before .args .table .now) (c .before .before .before .before .loop .at) ≡ Record (c .before .next .given .0 .0)
+found-here : (c : tie.After-known-told Inv-loop μ-loop) → recordAt (c .before .before .before .before .before .before .before .before .args .table .now) (c .before .before .before .before .loop .at) ≡ Record (c .before .next .given .0 .0)
 found-here c = sym (c .before .before .before .record-at .ensures) ∙ c .before .next .given .1
 
 no-actions-requires : tie.Need-no-actions-requires Inv-loop μ-loop
 no-actions-requires c κs = search needs
 
 loop-holds : tie.Need-loop-holds Inv-loop μ-loop
-loop-holds c = look-starts _ _ _ _ (c .no-actions .ensures)
+loop-holds c = look-starts _ _ _ _ _ (c .no-actions .ensures)
 
 record-at-requires : tie.Need-record-at-requires Inv-loop μ-loop
 record-at-requires c κs = search needs
@@ -56,7 +56,7 @@ part-judge-record-end c = omega (arith, was-found _ (c .before .before .before .
 
 judge-record-requires : tie.Need-judge-record-requires Inv-loop μ-loop
 judge-record-requires c κs = let k = c .before in
-    (k .before .before .before .before .before .before .before .pre, omega (arith, was-found _ (k .before .before .before .before .loop .at) _ (found-here k), length-there _ (k .before .before .before .before .loop .at) _ (found-here k)))
+    (k .before .before .before .before .before .before .before .before .pre, omega (arith, was-found _ (k .before .before .before .before .loop .at) _ (found-here k), length-there _ (k .before .before .before .before .loop .at) _ (found-here k)))
 
 enum-told-3 : tie.Need-enum-told-3 Inv-loop μ-loop
 enum-told-3 c = search needs
@@ -66,7 +66,7 @@ loop-less c = let k = c .before .before .before .before in omega (arith, was-fou
 
 loop-again : tie.Need-loop-again Inv-loop μ-loop
 loop-again c = let k = c .before .before .before .before in
-    look-missed _ _ _ _ _ _ (k .before .before .before .before .loop .inv) _ (found-here k) _ (c .before .before .judge-record .ensures) (c .enum-told3 .given .1)
+    look-missed _ _ _ _ _ _ _ (k .before .before .before .before .loop .inv) _ (found-here k) _ (c .before .before .judge-record .ensures) (c .enum-told3 .given .1)
 
 enum-known-more : tie.Need-enum-known-more Inv-loop μ-loop
 enum-known-more c = search needs
@@ -82,7 +82,7 @@ loop-less-2 c = let k = c .before .before .before .before .before .before in ome
 
 loop-again-2 : tie.Need-loop-again-2 Inv-loop μ-loop
 loop-again-2 c = let k = c .before .before .before .before .before .before in
-    look-goes-on _ _ _ _ _ _ (k .before .before .before .before .loop .inv) _ (found-here k) _ (c .before .before .before .before .judge-record .ensures) _ _ (c .before .before .more .given .1) (c .merge .ensures)
+    look-goes-on _ _ _ _ _ _ _ (k .before .before .before .before .loop .inv) _ (found-here k) _ (c .before .before .before .before .judge-record .ensures) _ _ (c .before .before .more .given .1) (c .merge .ensures)
 
 enum-known-more-2 : tie.Need-enum-known-more-2 Inv-loop μ-loop
 enum-known-more-2 c = search needs
@@ -104,7 +104,7 @@ returns-2 c = search (look-unsound, needs)
 
 returns-3 : tie.Need-returns-3 Inv-loop μ-loop
 returns-3 c = let k = c .before .before .before .before .before .before .before in
-    look-stops _ _ _ _ _ _ (k .before .before .before .before .loop .inv) _ (found-here k) _ (c .before .before .before .before .before .judge-record .ensures) _ _ _ (c .before .before .before .more2 .given .1) (c .before .merge2 .ensures) (c .verdict-of3 .ensures)
+    look-stops _ _ _ _ _ _ _ (k .before .before .before .before .loop .inv) _ (found-here k) _ (c .before .before .before .before .before .judge-record .ensures) _ _ _ (c .before .before .before .more2 .given .1) (c .before .merge2 .ensures) (c .verdict-of3 .ensures)
 
 pub look-up-spec : {M : Type 1} → statement M
 look-up-spec =
