@@ -1,14 +1,15 @@
 -- Components and rules against a packet: one law for each return of the code and each turn of its loop. Assumes nothing.
 use mathlib.Core.Path.{_≡_, refl, sym, ap, _∙_}
-use mathlib.Core.Bool.{Bool, true, false, not, _&&_, _||_, or-false}
+use mathlib.Core.Bool.{Bool, true, false, cond, not, _&&_, _||_, or-false}
 use mathlib.Core.List.{List, [], _∷_}
 use Prim.Native.Nat.{ℕ, _+_, _-_, _<_}
 use native.Mathlib.Omega.{arith}
-use lib.Dec.{ltb}
+use lib.Dec.{ltb, eqb}
 use lib.ListN.{length, take, drop}
 use borrow.Author.Tests.{ltb-true, ne-eqb, not-true, not-false}
 use Rattle.octets.specs.Test.{every, oneHolds}
 use Rattle.octets.specs.Walk.{Walk}
+use Rattle.octets.proofs.Cases.{by-test}
 use Rattle.prefix.specs.Prefix.{Pattern, addressOf, coversAddress, prefixOf}
 use Rattle.rule.specs.declared.Family.{Family}
 use Rattle.rule.specs.declared.Shape.{Shape}
@@ -22,7 +23,7 @@ use Rattle.rule.proofs.ValueLaws.{was-found, components-more, components-none, 
 use Rattle.packet.specs.declared.Field.{Field}
 use Rattle.packet.specs.declared.Field.the-variants.{Shown, Hidden}
 use Rattle.packet.specs.declared.Packet.{Packet}
-use Rattle.packet.specs.Match.{bodyHolds, fieldMatches, fieldsFor, bodyCovers, componentMatches, matches}
+use Rattle.packet.specs.Match.{bodyHolds, fieldMatches, fieldsFor, bodyCovers, addressFor, componentMatches, matches}
 
 -- how `field_matches` comes to each of its answers
 module _ (shape : Shape) (body : List ℕ) (field : Field) where
@@ -40,15 +41,24 @@ pub covered : (family : Family) (body : List ℕ) (address : ℕ) (pattern : Pat
 unfolding bodyCovers
 covered family body address pattern r e f = rw (← e) f
 
+-- the prefixes are the types 1 and 2
+pub prefix-types : (family : Family) (kind : ℕ) → shapeOf family kind .prefix ≡ eqb kind 1 || eqb kind 2
+unfolding shapeOf
+prefix-types family kind =
+    by-test (eqb kind 1) (λ t. rw t)
+    (λ t. by-test (eqb kind 2) (λ u. rw (t, u))
+    (λ u. by-test (eqb kind 9) (λ a. rw (t, u, a))
+    (λ a. by-test (eqb kind 11) (λ b. rw (t, u, a, b)) (λ b. by-test (eqb kind 12) (λ c. rw (t, u, a, b, c)) (λ c. rw (t, u, a, b, c))))))
+
 -- how `matches_component` comes to each of its answers
 module _ (family : Family) (kind : ℕ) (body : List ℕ) (packet : Packet) where
   pub on-destination : (r : Bool) → kind ≡ 1 → r ≡ bodyCovers family body (addressOf (packet .destination)) → r ≡ componentMatches family packet (component kind body)
   unfolding componentMatches
-  on-destination r is e = rw is e
+  on-destination r is e = rw (prefix-types family kind, is) e
 
   pub on-source : (r : Bool) → kind ≡ 2 → r ≡ bodyCovers family body (addressOf (packet .source)) → r ≡ componentMatches family packet (component kind body)
   unfolding componentMatches
-  on-source r is e = rw is e
+  on-source r is e = rw (prefix-types family kind, is) e
 
   -- n is the type of a row of the fields, at which that definition computes
   module _ (n : ℕ) (is : kind ≡ n) (list : ltb 2 n ≡ true) (shape : Shape) (has : shape ≡ shapeOf family kind) where
@@ -56,7 +66,9 @@ module _ (family : Family) (kind : ℕ) (body : List ℕ) (packet : Packet) wher
     unfolding componentMatches
     one-holds fields row =
         let above = ltb-true 2 n list in
-        rw (ne-eqb kind 1 (λ e. omega arith), ne-eqb kind 2 (λ e. omega arith), ← has, is, row)
+        let none : shapeOf family kind .prefix ≡ false = prefix-types family kind ∙ rw (ne-eqb kind 1 (λ e. omega arith), ne-eqb kind 2 (λ e. omega arith)) in
+        ap (λ (prefix : Bool). cond prefix (bodyCovers family body (addressOf (addressFor kind packet))) (oneHolds (fieldMatches (shapeOf family kind) body) (fieldsFor kind packet))) none
+        ∙ rw (← has, is, row)
 
     pub on-field : (field : Field) (r : Bool) → fieldsFor n packet ≡ field ∷ [] → r ≡ fieldMatches shape body field
         → r ≡ componentMatches family packet (component kind body)
@@ -79,6 +91,7 @@ pub on-nothing : (family : Family) (kind : ℕ) (body : List ℕ) (packet : Pack
 unfolding componentMatches fieldsFor oneHolds
 on-nothing family kind body packet a b c d e f g h i j k l =
     rw (
+      prefix-types family kind,
       ne-eqb kind 1 a,
       ne-eqb kind 2 b,
       ne-eqb kind 3 c,

@@ -5,7 +5,6 @@ use mathlib.Core.Bool.{Bool, true, false, cond, _&&_, _||_}
 use mathlib.Core.List.{List, [], _∷_, map}
 use Prim.Native.Nat.{ℕ, _<_}
 use lib.Bits.{bitAnd}
-use lib.Dec.{eqb}
 use Rattle.octets.specs.Test.{every, oneHolds, Each}
 use Rattle.octets.proofs.Cases.{by-test}
 use Rattle.octets.proofs.Facts.{Octets, octet}
@@ -28,7 +27,7 @@ use Rattle.packet.specs.declared.Field.{Field}
 use Rattle.packet.specs.declared.Field.the-variants.{Shown, Hidden}
 use Rattle.packet.specs.declared.Packet.{Packet}
 use Rattle.packet.specs.PairList.{listHolds}
-use Rattle.packet.specs.Match.{holdsFor, pairHolds, bodyHolds, fieldMatches, fieldsFor, bodyCovers, componentMatches, matches}
+use Rattle.packet.specs.Match.{holdsFor, pairHolds, bodyHolds, fieldMatches, fieldsFor, bodyCovers, addressFor, componentMatches, matches}
 use Rattle.packet.proofs.OperatorLaws.{numeric-alike, mask-alike}
 use Rattle.packet.proofs.PairListLaws.{goesOn, from-first}
 use Rattle.packet.proofs.PatternLaws.{pattern-plain}
@@ -110,19 +109,6 @@ module _ (family : Family) (kind : ℕ) (body : List ℕ) (o : Octets body) wher
   fields-plain [] = refl
   fields-plain (field ∷ fields) = rw (field-plain field, fields-plain fields)
 
--- the prefixes are the types that are matched by an address
-prefix-types : (family : Family) (kind : ℕ) → shapeOf family kind .prefix ≡ eqb kind 1 || eqb kind 2
-unfolding shapeOf
-prefix-types family kind =
-    by-test (eqb kind 1) (λ t. rw t)
-    (λ t. by-test (eqb kind 2) (λ u. rw (t, u))
-    (λ u. by-test (eqb kind 9) (λ a. rw (t, u, a))
-    (λ a. by-test (eqb kind 11) (λ b. rw (t, u, a, b)) (λ b. by-test (eqb kind 12) (λ c. rw (t, u, a, b, c)) (λ c. rw (t, u, a, b, c))))))
-
-behind-type : (family : Family) (kind : ℕ) → bodyOf family kind ≡ cond (eqb kind 1 || eqb kind 2) Length (Operator kind true)
-unfolding bodyOf
-behind-type family kind = ap (λ (prefix : Bool). cond prefix Length (Operator kind true)) (prefix-types family kind)
-
 module _ (family : Family) (fits : Fits family) (packet : Packet) where
   -- a prefix in the plain spelling covers what the prefix does
   prefix-plain : (body : List ℕ) (address : ℕ) → Octets body → PrefixBody family body → bodyCovers family (plainFrom family Length body) address ≡ bodyCovers family body address
@@ -131,14 +117,13 @@ module _ (family : Family) (fits : Fits family) (packet : Packet) where
 
   -- a component in the plain spelling matches where the component does
   component-plain : (p : Component) → Octets (p .body) → SoundComponent family p → componentMatches family packet (plainComponent family p) ≡ componentMatches family packet p
-  unfolding componentMatches
+  unfolding componentMatches bodyOf shapeOf
   component-plain p o sound =
       let kind = p .kind in
       let body = p .body in
-      let prefixes = prefix-types family kind in
-      by-test (eqb kind 1) (λ t. rw (behind-type family kind, t) (prefix-plain body (addressOf (packet .destination)) o (sound .prefix (prefixes ∙ rw t))))
-      (λ t. by-test (eqb kind 2) (λ u. rw (behind-type family kind, t, u) (prefix-plain body (addressOf (packet .source)) o (sound .prefix (prefixes ∙ rw (t, u)))))
-      (λ u. rw (behind-type family kind, t, u) (fields-plain family kind body o (fieldsFor kind packet))))
+      by-test (shapeOf family kind .prefix)
+      (λ t. rw (t) (prefix-plain body (addressOf (addressFor kind packet)) o (sound .prefix t)))
+      (λ t. rw (t) (fields-plain family kind body o (fieldsFor kind packet)))
 
   all-plain : (ps : List Component) → Each (λ p. Octets (p .body)) ps → Each (SoundComponent family) ps
       → every (componentMatches family packet) (map (plainComponent family) ps) ≡ every (componentMatches family packet) ps

@@ -17,6 +17,7 @@ use Rattle.octets.proofs.Cases.{by-test, apart, both}
 use Rattle.octets.proofs.Facts.{Octets, below}
 use Rattle.rule.specs.declared.Family.{Family}
 use Rattle.rule.specs.declared.Shape.{Shape}
+use Rattle.rule.specs.Shape.{shapeOf}
 use Rattle.rule.specs.Component.{Pair}
 use Rattle.rule.specs.Value.{Component, components}
 use Rattle.rule.specs.Plain.{plainOperand}
@@ -63,7 +64,7 @@ no-octets family protocol = simp and-false
 -- a component that asks for a hidden transport header never matches
 module _ (family : Family) (packet : Packet) (shows : packet .transport ≡ hidden) where
   pub never-matches : (component : Component) → asksTransport component ≡ true → componentMatches family packet component ≡ false
-  unfolding componentMatches fieldsFor fieldMatches oneHolds
+  unfolding componentMatches shapeOf fieldsFor fieldMatches oneHolds
   never-matches component asks =
       let kind = component .kind in
       let bounds = both (leb 4 kind) (leb kind 9) asks in

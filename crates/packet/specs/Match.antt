@@ -5,6 +5,7 @@ use mathlib.Core.Bool.{Bool, false, cond}
 use mathlib.Core.List.{List, [], _∷_}
 use lib.Dec.{eqb}
 use Rattle.octets.specs.Test.{every, oneHolds}
+use Rattle.prefix.specs.declared.Address.{Address}
 use Rattle.prefix.specs.Prefix.{addressOf, coversAddress, prefixOf}
 use Rattle.rule.specs.declared.Family.{Family}
 use Rattle.rule.specs.declared.Shape.{Shape}
@@ -61,12 +62,16 @@ fieldsFor kind packet =
 unfoldable pub bodyCovers : Family → List ℕ → ℕ → Bool
 bodyCovers family body address = coversAddress (family .width) (prefixOf (family .width) (family .offsets) body) address
 
--- Whether a packet matches a component: types 1 (destination) and 2 (source) by an address, every other by a field.
+-- The address that a prefix of the given type is matched by: sections 4.2.2.1 (type 1, the destination) and 4.2.2.2 (type 2, the source).
+abbrev pub addressFor : ℕ → Packet → Address
+addressFor kind packet = cond (eqb kind 1) (packet .destination) (packet .source)
+
+-- Whether a packet matches a component: a prefix by an address, a list by a field.
 unfoldable pub componentMatches : Family → Packet → Component → Bool
 componentMatches family packet component =
-    cond (eqb (component .kind) 1) (bodyCovers family (component .body) (addressOf (packet .destination)))
-    (cond (eqb (component .kind) 2) (bodyCovers family (component .body) (addressOf (packet .source)))
-    (oneHolds (fieldMatches (shapeOf family (component .kind)) (component .body)) (fieldsFor (component .kind) packet)))
+    let shape = shapeOf family (component .kind) in
+    cond (shape .prefix) (bodyCovers family (component .body) (addressOf (addressFor (component .kind) packet)))
+    (oneHolds (fieldMatches shape (component .body)) (fieldsFor (component .kind) packet))
 
 -- Section 4.2: a packet matches a rule where it matches all components of the rule's value.
 unfoldable pub matches : Family → List ℕ → Packet → Bool

@@ -1,7 +1,6 @@
 -- What the body of each component type is, as one table: a prefix or a list of pairs (`prefix`) and, of a list, whether its operators are
 -- bitmask or numeric ones (`bitmask`), the largest size of a value in octets (`largest`), and the bits of a value that are to be ignored
--- (`ignored`). Reading, plain spelling and order go by it, and matching for lists; types 1 and 2 are matched
--- by name.
+-- (`ignored`). Reading, plain spelling, order and matching go by it.
 use Prim.Native.Nat.{ℕ, _-_}
 use mathlib.Core.Bool.{true, false, cond, _||_}
 use lib.Dec.{eqb}
