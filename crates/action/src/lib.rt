@@ -137,13 +137,13 @@ fn rate_in(community: u64) -> Rate
 pub fn actions_of(communities: &[u8]) -> Reading
     ensures { λ r. ⌜ r ≡ actionsOf (now (communities .entry)) ⌝ }
 {
-    let length = communities.len();
-    if (512 < length) | (length % 8 != 0) {
+    let size = communities.len();
+    if (512 < size) | (size % 8 != 0) {
         return Reading::Unsound;
     }
     let mut actions = no_actions();
     let mut at = 0;
-    while at < length {
+    while at < size {
         let community = octets::number_at(8, communities, at);
         match kind_of(community >> 48) {
             Kind::ByteRate => {

@@ -183,13 +183,13 @@ pub fn prefix_of(width: u8, offsets: bool, body: &[u8]) -> Prefix
     requires { ⌜ width ≤ 128 ⌝ }
     ensures { λ r. ⌜ patternOf r ≡ prefixOf width offsets (now (body .entry)) ⌝ }
 {
-    let length = octets::octet_at(body, 0) as u32;
+    let bits = octets::octet_at(body, 0) as u32;
     let count = (width / 8) as usize;
     if !offsets {
         let address = address_at(count, body, 1);
         return Prefix {
             offset: 0,
-            length,
+            length: bits,
             address,
         };
     }
@@ -197,7 +197,7 @@ pub fn prefix_of(width: u8, offsets: bool, body: &[u8]) -> Prefix
     let address = shifted(offset, address_at(count, body, 2));
     Prefix {
         offset,
-        length,
+        length: bits,
         address,
     }
 }

@@ -85,12 +85,12 @@ fn route_at(family: Family, words: &[u32], at: usize) -> Route
     let count = family.words - 3;
     let address = address_in(count, words, at);
     let behind = at + count;
-    let length = words[behind];
+    let bits = words[behind];
     let originator = words[behind + 1];
     let neighbour = words[behind + 2];
     let prefix = Prefix {
         offset: 0,
-        length,
+        length: bits,
         address,
     };
     Route {

@@ -3,17 +3,17 @@ use Prim.Native.Nat.{_-_}
 use mathlib.Core.Path.{_≡_, refl}
 use mathlib.Core.Logic.{⊎-elim}
 use native.Mathlib.Omega.{arith}
-use lib.ListN as ListN
+use lib.ListN.{length}
 use borrow.Author.Needs.{needs}
 use Rattle.action.proofs.Communities.{Reached, refused, start, finished, next, stopped, takes-byte-rate, takes-packet-rate, takes-flags, takes-marking, takes-redirect, skipped, refuses-byte-rate, refuses-packet-rate}
 use Rattle.action.proofs.actions_of.Statement.{statement}
 use Rattle.action.proofs.actions_of.Tie as tie
 
 abbrev Inv-loop : tie.InvT-loop
-Inv-loop communities length actions₀ at₀ actions at = (length ≡ ListN.length communities) × Reached communities actions at
+Inv-loop communities size actions₀ at₀ actions at = (size ≡ length communities) × Reached communities actions at
 
 abbrev μ-loop : tie.MeasureT-loop
-μ-loop communities length actions₀ at₀ actions at = ListN.length communities - at
+μ-loop communities size actions₀ at₀ actions at = length communities - at
 
 returns : tie.Need-returns Inv-loop μ-loop
 returns c = search (refused, needs)
