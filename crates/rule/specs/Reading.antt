@@ -20,7 +20,7 @@ fieldSize s = cond (ltb (getD s 0 0) 0xf0) 1 2
 unfoldable pub fieldLength : List ℕ → ℕ
 fieldLength s = cond (ltb (getD s 0 0) 0xf0) (getD s 0 0) (bitAnd (getD s 0 0) 0x0f * 256 + getD s 1 0)
 
--- What is read once the value is checked: a rule, by where its value starts and its size, or the value's refusal.
+-- What is read once a rule is checked: the rule, by where its value starts and its size, or its refusal.
 abbrev pub readAs : ℕ → ℕ → Checked → Reading
 readAs start size Accepted = Rule start size
 readAs start size (RefusedValue number place) = Refused number place
@@ -29,13 +29,21 @@ readAs start size (RefusedValue number place) = Refused number place
 abbrev pub valueOf : List ℕ → ℕ → ℕ → List ℕ
 valueOf rule start size = take size (drop start rule)
 
--- The rule that octets begin with. A length field or a value that runs past them is 1, and then the value's own refusals follow.
+-- Where the rule ends that octets begin with: behind its length field and its value.
+abbrev pub ruleEnd : List ℕ → ℕ
+ruleEnd rule = fieldSize rule + fieldLength rule
+
+-- The value of that rule.
+abbrev pub valueIn : List ℕ → List ℕ
+valueIn rule = valueOf rule (fieldSize rule) (fieldLength rule)
+
+-- Refusals 1 to 7 of that rule: 1 where its "length field or value runs past the bytes", then those of its value.
+abbrev pub checkRule : Family → List ℕ → Checked
+checkRule family rule = cond (ltb (length rule) (ruleEnd rule)) (RefusedValue 1 0) (checkValue family (valueIn rule))
+
+-- That rule as it is read.
 unfoldable pub firstRule : Family → List ℕ → Reading
-firstRule family s =
-    let start = fieldSize s in
-    let size = fieldLength s in
-    cond (ltb (length s) (start + size)) (Refused 1 0)
-    (readAs start size (checkValue family (valueOf s start size)))
+firstRule family s = readAs (fieldSize s) (fieldLength s) (checkRule family s)
 
 -- A rule that does not end where the `total` octets end is 15 instead, and a refusal stays as it is.
 abbrev pub alone : ℕ → Reading → Reading
