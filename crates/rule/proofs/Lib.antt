@@ -12,6 +12,7 @@ pub mod ClearedLaws
 pub mod SpellingLaws
 pub mod FillLaws
 pub mod ReadingLaws
+pub mod RefusalsLaws
 pub mod WritingLaws
 pub mod RoundTripLaws
 pub mod Examples

@@ -8,4 +8,5 @@ pub mod Value
 pub mod Plain
 pub mod PlainComponent
 pub mod Reading
+pub mod Refusals
 pub mod Writing
