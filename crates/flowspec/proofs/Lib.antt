@@ -13,5 +13,4 @@ pub mod RoomLaws
 pub mod PlainLaws
 pub mod ComparisonTheorems
 pub mod Numbers
-pub mod ValueNumbers
 pub mod Pinned

@@ -8,5 +8,4 @@ pub mod Look
 pub mod Checks
 pub mod Promise
 pub mod Numbers
-pub mod ValueNumbers
 pub mod Examples

@@ -1,6 +1,6 @@
 -- 01's table of refusals, "given exactly when", call by call: where an answer has each number, and where it has the number 0. That the answers
--- of the calls are such is shown in proofs/Numbers.antt, from their promises; what a value's own refusals 1 to 7 are is in ValueNumbers.antt. That the
--- others have place 0 is in each promise's `tells`.
+-- of the calls are such is shown in proofs/Numbers.antt, from their promises; what a value's own refusals 1 to 7 are is in rule's
+-- specs/Refusals.antt. That the others have place 0 is in each promise's `tells`.
 use Prim.Native.Nat.{ℕ, _≤_}
 use mathlib.Core.Path.{_≡_}
 use mathlib.Core.Bool.{Bool, true, false}
