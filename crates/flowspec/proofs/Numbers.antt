@@ -16,6 +16,7 @@ use Rattle.rule.specs.declared.Reading.{Reading}
 use Rattle.rule.specs.declared.Writing.{Writing}
 use Rattle.rule.specs.Family.{ipv4}
 use Rattle.rule.specs.Value.{checkValue}
+use Rattle.rule.specs.Reading.{ruleEnd, valueIn, checkRule}
 use Rattle.rule.proofs.ValueLaws.{accepts, components-ind, was-refused}
 use Rattle.action.specs.declared.Reading.{Reading as ActionsReading}
 use Rattle.packet.specs.Header.{isUnusable}
@@ -26,7 +27,7 @@ use Rattle.flowspec.specs.declared.Looked.{Looked}
 use Rattle.flowspec.specs.declared.MatchPlace.{MatchPlace}
 use Rattle.flowspec.specs.Input.{Announcement, Policy}
 use Rattle.flowspec.specs.Told.{readingTold, writingTold, comparisonTold, feasibilityTold, actionsTold, changeTold, lookupTold, matchPlaceTold}
-use Rattle.flowspec.specs.Checks.{Check, check, oneToSeven, told, ruleEnd, valueIn, checkRule, endsThere, readChecks, writeChecks, compareChecks, compareValues, judgeChecks, actionsChecks, announceChecks, withdrawChecks, lookupChecks, lookupValues, firstMatchValues}
+use Rattle.flowspec.specs.Checks.{Check, check, oneToSeven, told, endsThere, readChecks, writeChecks, compareChecks, compareValues, judgeChecks, actionsChecks, announceChecks, withdrawChecks, lookupChecks, lookupValues, firstMatchValues}
 use Rattle.flowspec.specs.Numbers.{Yes, No, Accepts, OneToSeven, ReadNumbers, WriteNumbers, CompareNumbers, JudgeNumbers, ActionsNumbers, AnnounceNumbers, WithdrawNumbers, LookupNumbers}
 use Rattle.flowspec.specs.Promise.{ReadsOne, WritesOne, ComparesTwo, JudgesOne, ReadsActions, Announces, Withdraws, LooksUp, LocatesFirst}
 use Rattle.flowspec.proofs.ChecksLaws.{number-at, value-at, all-hold}
@@ -48,7 +49,7 @@ value-numbered v =
         (λ at previous number place e. let m = was-refused ipv4 v at previous number place e in (omega arith, omega arith))
         (λ at previous kind next w e rest. rest) 0 0
 
-rule-numbered : (rule : List ℕ) → Numbered (checkRule rule)
+rule-numbered : (rule : List ℕ) → Numbered (checkRule ipv4 rule)
 rule-numbered rule =
     by-test (ltb (length rule) (ruleEnd rule)) (λ t. rw t (omega arith, omega arith)) (λ t. rw t (value-numbered (valueIn rule)))
 
@@ -66,11 +67,11 @@ far : (m n : ℕ) → n ≤ 7 → 7 < m → eqb m n ≡ false
 far m n h k = ne-eqb m n (λ e. omega arith)
 
 module _ (rule : List ℕ) where
-  apart-from : (n : ℕ) → 7 < n → eqb (oneToSeven (checkRule rule) .number) n ≡ false
-  apart-from = other (checkRule rule) (rule-numbered rule)
+  apart-from : (n : ℕ) → 7 < n → eqb (oneToSeven (checkRule ipv4 rule) .number) n ≡ false
+  apart-from = other (checkRule ipv4 rule) (rule-numbered rule)
 
-  named : oneToSeven (checkRule rule) .holds ≡ false → 1 ≤ oneToSeven (checkRule rule) .number
-  named = given (checkRule rule) (rule-numbered rule)
+  named : oneToSeven (checkRule ipv4 rule) .holds ≡ false → 1 ≤ oneToSeven (checkRule ipv4 rule) .number
+  named = given (checkRule ipv4 rule) (rule-numbered rule)
 
 -- ---- actions ----
 
@@ -87,7 +88,7 @@ actions-numbers {communities} p =
 pub read-numbers : {rule : List ℕ} {answer : Reading} {kept : List (List ℕ)} → ReadsOne rule answer kept → ReadNumbers rule (readingTold answer)
 read-numbers {rule} p =
     rw (p .tells) (record {
-      one-to-seven = λ number place h k. value-at _ number (λ e. omega arith) (checkRule rule) place (readChecks rule) 0 (refl, (far 15 number k (omega arith), tt));
+      one-to-seven = λ number place h k. value-at _ number (λ e. omega arith) (checkRule ipv4 rule) place (readChecks rule) 0 (refl, (far 15 number k (omega arith), tt));
       fifteen = number-at _ 15 (λ e. omega arith) (readChecks rule) 1 (apart-from rule 15 (omega arith), (refl, tt));
       zero = all-hold _ (readChecks rule) (named rule, ((λ h. omega arith), tt));
     })
@@ -136,8 +137,8 @@ compare-numbers {first} {second} p =
     let left = rule-numbered first in
     let right = rule-numbered second in
     rw (p .tells) (record {
-      one-to-seven = both-seven (compareValues first second) (checkRule second) (endsThere second) right (checkRule first) (endsThere first) left;
-      fifteen = both-fifteen (compareValues first second) (checkRule second) (endsThere second) right (checkRule first) (endsThere first) left;
+      one-to-seven = both-seven (compareValues first second) (checkRule ipv4 second) (endsThere second) right (checkRule ipv4 first) (endsThere first) left;
+      fifteen = both-fifteen (compareValues first second) (checkRule ipv4 second) (endsThere second) right (checkRule ipv4 first) (endsThere first) left;
       zero = all-hold _ (compareChecks first second) (named first, ((λ h. omega arith), (named second, ((λ h. omega arith), tt))));
     })
 
@@ -151,7 +152,7 @@ judge-numbers {policy} {rule} {originator} p =
     rw (p .tells) (record {
       nine = number-at _ 9 (λ e. omega arith) cs 0 (refl, (apart-from rule 9 (omega arith), (refl, (refl, tt))));
       one-to-seven = λ number place h k.
-          value-at _ number (λ e. omega arith) (checkRule rule) place cs 1 (far 9 number k (omega arith), (refl, (far 15 number k (omega arith), (far 8 number k (omega arith), tt))));
+          value-at _ number (λ e. omega arith) (checkRule ipv4 rule) place cs 1 (far 9 number k (omega arith), (refl, (far 15 number k (omega arith), (far 8 number k (omega arith), tt))));
       fifteen = number-at _ 15 (λ e. omega arith) cs 2 (refl, (fifteen, (refl, (refl, tt))));
       eight = number-at _ 8 (λ e. omega arith) cs 3 (refl, (apart-from rule 8 (omega arith), (refl, (refl, tt))));
       zero = all-hold _ cs ((λ h. omega arith), (named rule, ((λ h. omega arith), ((λ h. omega arith), tt))));
@@ -167,7 +168,7 @@ announce-numbers {policy} {a} {table} p =
       ten = number-at _ 10 (λ e. omega arith) cs 0 (refl, (refl, (apart-from (a .rule) 10 (omega arith), (refl, (refl, (refl, (refl, tt)))))));
       nine = number-at _ 9 (λ e. omega arith) cs 1 (refl, (refl, (apart-from (a .rule) 9 (omega arith), (refl, (refl, (refl, (refl, tt)))))));
       one-to-seven = λ number place h k.
-          value-at _ number (λ e. omega arith) (checkRule (a .rule)) place cs 2 (
+          value-at _ number (λ e. omega arith) (checkRule ipv4 (a .rule)) place cs 2 (
             far 10 number k (omega arith),
             (
               far 9 number k (omega arith),
@@ -196,7 +197,7 @@ withdraw-numbers {rule} {table} p =
     rw (p .tells) (record {
       ten = number-at _ 10 (λ e. omega arith) cs 0 (refl, (apart-from rule 10 (omega arith), (refl, (refl, tt))));
       one-to-seven = λ number place h k.
-          value-at _ number (λ e. omega arith) (checkRule rule) place cs 1 (far 10 number k (omega arith), (refl, (far 15 number k (omega arith), (far 14 number k (omega arith), tt))));
+          value-at _ number (λ e. omega arith) (checkRule ipv4 rule) place cs 1 (far 10 number k (omega arith), (refl, (far 15 number k (omega arith), (far 14 number k (omega arith), tt))));
       fifteen = number-at _ 15 (λ e. omega arith) cs 2 (refl, (apart-from rule 15 (omega arith), (refl, (refl, tt))));
       fourteen = number-at _ 14 (λ e. omega arith) cs 3 (refl, (apart-from rule 14 (omega arith), (refl, (refl, tt))));
       zero = all-hold _ cs ((λ h. omega arith), (named rule, ((λ h. omega arith), ((λ h. omega arith), tt))));

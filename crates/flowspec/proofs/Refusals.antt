@@ -19,7 +19,7 @@ use Rattle.rule.specs.declared.Reading.the-variants.{Rule, Refused as NotRead}
 use Rattle.rule.specs.Family.{ipv4}
 use Rattle.rule.specs.Plain.{plain}
 use Rattle.rule.specs.Value.{checkValue}
-use Rattle.rule.specs.Reading.{fieldSize, fieldLength, valueOf, oneRule}
+use Rattle.rule.specs.Reading.{fieldSize, fieldLength, valueOf, valueIn, checkRule, oneRule}
 use Rattle.rule.proofs.ClearedLaws.{octets-plain, plain-again}
 use Rattle.rule.proofs.SpellingLaws.{check-plain}
 use Rattle.rule.proofs.FamilyLaws.{ipv4-fits}
@@ -43,7 +43,7 @@ use Rattle.flowspec.specs.Input.{Announcement, Policy}
 use Rattle.flowspec.specs.Feasibility.{readWithRoutes, isFeasible}
 use Rattle.flowspec.specs.Announce.{announcedEntry, Outcome, changeOf, outcome, askedBy, asked, announcedBy, announcing, withdrawnBy, withdrawing}
 use Rattle.flowspec.specs.Told.{Told, done, refused, changeTold}
-use Rattle.flowspec.specs.Checks.{valueIn, checkRule, endsThere, isSound}
+use Rattle.flowspec.specs.Checks.{endsThere, isSound}
 use Rattle.flowspec.specs.Numbers.{Yes, No, Accepts, SoundBoth, OneRule}
 use Rattle.flowspec.specs.Promise.{Announces, Withdraws}
 use Rattle.flowspec.proofs.ToldLaws.{read-first}
@@ -153,7 +153,7 @@ module _ (t : List ℕ) (octets : Octets t) (sound : soundTable ipv4 t ≡ true)
           })
 
 -- a rule that is accepted and ends there is read
-one-rule-is : (rule : List ℕ) → Accepts (checkRule rule) → Yes (endsThere rule) → oneRule ipv4 rule ≡ Rule (fieldSize rule) (fieldLength rule)
+one-rule-is : (rule : List ℕ) → Accepts (checkRule ipv4 rule) → Yes (endsThere rule) → oneRule ipv4 rule ≡ Rule (fieldSize rule) (fieldLength rule)
 one-rule-is rule accepts ends = go (oneRule ipv4 rule) refl
   where
     go : (r : Reading) → oneRule ipv4 rule ≡ r → oneRule ipv4 rule ≡ Rule (fieldSize rule) (fieldLength rule)

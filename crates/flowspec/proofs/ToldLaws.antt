@@ -16,7 +16,7 @@ use Rattle.rule.specs.declared.Reading.the-variants.{Rule, Refused as NotRead}
 use Rattle.rule.specs.Family.{ipv4}
 use Rattle.rule.specs.Plain.{plain}
 use Rattle.rule.specs.Value.{checkValue}
-use Rattle.rule.specs.Reading.{fieldSize, fieldLength, readAs, alone, firstRule, oneRule}
+use Rattle.rule.specs.Reading.{fieldSize, fieldLength, readAs, ruleEnd, valueIn, checkRule, alone, firstRule, oneRule}
 use Rattle.rule.specs.Writing.{ruleFor, intoRoom, writing}
 use Rattle.rule.proofs.ReadingLaws.{one-read}
 use Rattle.order.specs.Key.{keysOf}
@@ -41,7 +41,7 @@ use Rattle.flowspec.specs.Feasibility.{readWithRoutes, isFeasible, judge
 use Rattle.flowspec.specs.Announce.{changeOf, askedBy, asked, entryFor, announcedBy, announcing, withdrawnBy, withdrawing}
 use Rattle.flowspec.specs.Look.{seen, noHead, lookingUp, firstMatch, matchPlace}
 use Rattle.flowspec.specs.Told.{Told, done, refused, readingTold, writingTold, comparisonTold, feasibilityTold, actionsTold, changeTold, verdictTold, lookupTold, matchPlaceTold}
-use Rattle.flowspec.specs.Checks.{judgeChecks, announceChecks, Check, check, oneToSeven, told, ruleEnd, valueIn, checkRule, endsThere, readChecks, readValues, writeChecks, writeValues, compareChecks, compareValues, actionsChecks, actionsValues, withdrawChecks, lookupChecks, lookupValues, firstMatchValues, isSound, actionsIn}
+use Rattle.flowspec.specs.Checks.{judgeChecks, announceChecks, Check, check, oneToSeven, told, endsThere, readChecks, readValues, writeChecks, writeValues, compareChecks, compareValues, actionsChecks, actionsValues, withdrawChecks, lookupChecks, lookupValues, firstMatchValues, isSound, actionsIn}
 
 -- ---- reading ----
 
@@ -52,7 +52,7 @@ afterReading (NotRead number place) many next = refused number place many
 
 -- 1 to 7 and 15 are the refusals of reading, whatever is checked next
 module _ (rule : List ℕ) (cs : List Check) (values : List ℕ) where
-  pub read-first : told (oneToSeven (checkRule rule) ∷ check (endsThere rule) 15 ∷ cs) values
+  pub read-first : told (oneToSeven (checkRule ipv4 rule) ∷ check (endsThere rule) 15 ∷ cs) values
       ≡ afterReading (oneRule ipv4 rule) (length values) (told cs values)
   unfolding oneRule firstRule
   read-first =
@@ -98,7 +98,7 @@ pub compare-tells : (a b : List ℕ) → comparisonTold (compareRules a b) ≡ t
 unfolding compareRules
 compare-tells a b =
     go (oneRule ipv4 a) refl (oneRule ipv4 b) refl
-    ∙ sym (read-first a (oneToSeven (checkRule b) ∷ check (endsThere b) 15 ∷ []) (compareValues a b)
+    ∙ sym (read-first a (oneToSeven (checkRule ipv4 b) ∷ check (endsThere b) 15 ∷ []) (compareValues a b)
     ∙ ap (afterReading (oneRule ipv4 a) 1) (read-first b [] (compareValues a b)))
   where
     order : (o : Ordering) → comparisonTold (comparisonOf (ordered o)) ≡ done (byOrder o 1 3 2 ∷ [])

@@ -1,9 +1,9 @@
 -- 01's table of refusals as lists: what each call checks, in the order in which 01 names the numbers, and what a call says that goes
 -- through such a list. The first check that does not hold refuses the call.
-use Prim.Native.Nat.{ℕ, _+_, _-_}
+use Prim.Native.Nat.{ℕ, _-_}
 use mathlib.Core.Bool.{Bool, true, false, cond, not}
 use mathlib.Core.List.{List, [], _∷_}
-use lib.Dec.{leb, ltb}
+use lib.Dec.{leb}
 use lib.ListN.{length}
 use Rattle.sorted.specs.Table.{byOrder}
 use Rattle.rule.specs.declared.Checked.{Checked}
@@ -11,7 +11,7 @@ use Rattle.rule.specs.declared.Checked.the-variants.{Accepted, Refused}
 use Rattle.rule.specs.Family.{ipv4}
 use Rattle.rule.specs.Plain.{plain}
 use Rattle.rule.specs.Value.{checkValue}
-use Rattle.rule.specs.Reading.{fieldSize, fieldLength, valueOf}
+use Rattle.rule.specs.Reading.{fieldSize, fieldLength, ruleEnd, valueIn, checkRule}
 use Rattle.rule.specs.Writing.{ruleFor}
 use Rattle.order.specs.Key.{keysOf}
 use Rattle.order.specs.Precedence.{precedence}
@@ -55,25 +55,13 @@ abbrev pub told : List Check → List ℕ → Told
 told [] values = done values
 told (c ∷ cs) values = cond (c .holds) (told cs values) (refused (c .number) (c .place) (length values))
 
--- Where the rule ends that octets begin with: behind its length field and its value.
-abbrev pub ruleEnd : List ℕ → ℕ
-ruleEnd rule = fieldSize rule + fieldLength rule
-
--- The value of that rule.
-abbrev pub valueIn : List ℕ → List ℕ
-valueIn rule = valueOf rule (fieldSize rule) (fieldLength rule)
-
--- 1 where the "length field or value runs past the bytes", then the refusals of the value.
-abbrev pub checkRule : List ℕ → Checked
-checkRule rule = cond (ltb (length rule) (ruleEnd rule)) (Refused 1 0) (checkValue ipv4 (valueIn rule))
-
 -- No "bytes after the one rule".
 abbrev pub endsThere : List ℕ → Bool
 endsThere rule = leb (length rule) (ruleEnd rule)
 
 -- 01: "reading one rule 1 to 7, 15".
 abbrev pub readChecks : List ℕ → List Check
-readChecks rule = oneToSeven (checkRule rule) ∷ check (endsThere rule) 15 ∷ []
+readChecks rule = oneToSeven (checkRule ipv4 rule) ∷ check (endsThere rule) 15 ∷ []
 
 -- 01: "Reading one rule answers the start and length of its value".
 abbrev pub readValues : List ℕ → List ℕ
@@ -90,9 +78,9 @@ writeValues value = length (ruleFor ipv4 value) ∷ []
 -- 01: "comparing the same, first rule before second".
 abbrev pub compareChecks : List ℕ → List ℕ → List Check
 compareChecks first second =
-    oneToSeven (checkRule first)
+    oneToSeven (checkRule ipv4 first)
     ∷ check (endsThere first) 15
-    ∷ oneToSeven (checkRule second)
+    ∷ oneToSeven (checkRule ipv4 second)
     ∷ check (endsThere second) 15
     ∷ []
 
@@ -122,7 +110,7 @@ actionsValues communities = valuesOf (actionsIn (actionsOf communities))
 abbrev pub judgeChecks : Policy → List ℕ → ℕ → List Check
 judgeChecks policy rule originator =
     check (soundRoutes ipv4 (policy .routes)) 9
-    ∷ oneToSeven (checkRule rule)
+    ∷ oneToSeven (checkRule ipv4 rule)
     ∷ check (endsThere rule) 15
     ∷ check (isFeasible policy (valueIn rule) originator) 8
     ∷ []
@@ -136,7 +124,7 @@ abbrev pub announceChecks : Policy → Announcement → List ℕ → List Check
 announceChecks policy a table =
     check (soundTable ipv4 table) 10
     ∷ check (soundRoutes ipv4 (policy .routes)) 9
-    ∷ oneToSeven (checkRule (a .rule))
+    ∷ oneToSeven (checkRule ipv4 (a .rule))
     ∷ check (endsThere (a .rule)) 15
     ∷ check (isSound (actionsOf (a .communities))) 13
     ∷ check (isFeasible policy (valueIn (a .rule)) (a .originator)) 8
@@ -147,7 +135,7 @@ announceChecks policy a table =
 abbrev pub withdrawChecks : List ℕ → List ℕ → List Check
 withdrawChecks rule table =
     check (soundTable ipv4 table) 10
-    ∷ oneToSeven (checkRule rule)
+    ∷ oneToSeven (checkRule ipv4 rule)
     ∷ check (endsThere rule) 15
     ∷ check (holds ipv4 table (keysOf ipv4 (plain ipv4 (valueIn rule)))) 14
     ∷ []

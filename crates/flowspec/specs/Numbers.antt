@@ -14,6 +14,7 @@ use Rattle.rule.specs.declared.Checked.the-variants.{Refused}
 use Rattle.rule.specs.Family.{ipv4}
 use Rattle.rule.specs.Plain.{plain}
 use Rattle.rule.specs.Value.{checkValue}
+use Rattle.rule.specs.Reading.{valueIn, checkRule}
 use Rattle.rule.specs.Writing.{ruleFor}
 use Rattle.order.specs.Key.{keysOf}
 use Rattle.route.specs.Route.{soundRoutes}
@@ -24,7 +25,7 @@ use Rattle.table.specs.Change.{holds, hasRoom}
 use Rattle.flowspec.specs.Input.{Announcement, Policy}
 use Rattle.flowspec.specs.Feasibility.{isFeasible}
 use Rattle.flowspec.specs.Told.{Told}
-use Rattle.flowspec.specs.Checks.{Check, oneToSeven, valueIn, checkRule, endsThere, isSound, entryIn, readChecks, writeChecks, compareChecks, judgeChecks, actionsChecks, announceChecks, withdrawChecks, lookupChecks}
+use Rattle.flowspec.specs.Checks.{Check, oneToSeven, endsThere, isSound, entryIn, readChecks, writeChecks, compareChecks, judgeChecks, actionsChecks, announceChecks, withdrawChecks, lookupChecks}
 
 -- A test holds.
 abbrev pub Yes : Bool → Type 0
@@ -48,8 +49,8 @@ OneToSeven answer exactly = (number place : ℕ) → 1 ≤ number → number ≤
 
 -- Reading one rule.
 pub record ReadNumbers (rule : List ℕ) (answer : Told) : Type 0 where
-  pub one-to-seven : OneToSeven answer (λ number place. checkRule rule ≡ Refused number place)
-  pub fifteen : (answer .number ≡ 15) ↔ (Accepts (checkRule rule) × No (endsThere rule))
+  pub one-to-seven : OneToSeven answer (λ number place. checkRule ipv4 rule ≡ Refused number place)
+  pub fifteen : (answer .number ≡ 15) ↔ (Accepts (checkRule ipv4 rule) × No (endsThere rule))
   pub zero : (answer .number ≡ 0) ↔ AllHold (readChecks rule)
 
 -- Writing one rule.
@@ -60,19 +61,19 @@ pub record WriteNumbers (value buffer : List ℕ) (answer : Told) : Type 0 where
 
 -- Comparing two rules.
 pub record CompareNumbers (first second : List ℕ) (answer : Told) : Type 0 where
-  pub one-to-seven : OneToSeven answer (λ number place. (checkRule first ≡ Refused number place)
-      ⊎ (Accepts (checkRule first) × (Yes (endsThere first) × (checkRule second ≡ Refused number place))))
-  pub fifteen : (answer .number ≡ 15) ↔ ((Accepts (checkRule first) × No (endsThere first))
-      ⊎ (Accepts (checkRule first) × (Yes (endsThere first) × (Accepts (checkRule second) × No (endsThere second)))))
+  pub one-to-seven : OneToSeven answer (λ number place. (checkRule ipv4 first ≡ Refused number place)
+      ⊎ (Accepts (checkRule ipv4 first) × (Yes (endsThere first) × (checkRule ipv4 second ≡ Refused number place))))
+  pub fifteen : (answer .number ≡ 15) ↔ ((Accepts (checkRule ipv4 first) × No (endsThere first))
+      ⊎ (Accepts (checkRule ipv4 first) × (Yes (endsThere first) × (Accepts (checkRule ipv4 second) × No (endsThere second)))))
   pub zero : (answer .number ≡ 0) ↔ AllHold (compareChecks first second)
 
 -- Judging one rule.
 pub record JudgeNumbers (policy : Policy) (rule : List ℕ) (originator : ℕ) (answer : Told) : Type 0 where
   pub nine : (answer .number ≡ 9) ↔ No (soundRoutes ipv4 (policy .routes))
-  pub one-to-seven : OneToSeven answer (λ number place. Yes (soundRoutes ipv4 (policy .routes)) × (checkRule rule ≡ Refused number place))
-  pub fifteen : (answer .number ≡ 15) ↔ (Yes (soundRoutes ipv4 (policy .routes)) × (Accepts (checkRule rule) × No (endsThere rule)))
+  pub one-to-seven : OneToSeven answer (λ number place. Yes (soundRoutes ipv4 (policy .routes)) × (checkRule ipv4 rule ≡ Refused number place))
+  pub fifteen : (answer .number ≡ 15) ↔ (Yes (soundRoutes ipv4 (policy .routes)) × (Accepts (checkRule ipv4 rule) × No (endsThere rule)))
   pub eight : (answer .number ≡ 8)
-      ↔ (Yes (soundRoutes ipv4 (policy .routes)) × (Accepts (checkRule rule) × (Yes (endsThere rule) × No (isFeasible policy (valueIn rule) originator))))
+      ↔ (Yes (soundRoutes ipv4 (policy .routes)) × (Accepts (checkRule ipv4 rule) × (Yes (endsThere rule) × No (isFeasible policy (valueIn rule) originator))))
   pub zero : (answer .number ≡ 0) ↔ AllHold (judgeChecks policy rule originator)
 
 -- Reading actions.
@@ -86,14 +87,14 @@ SoundBoth policy table then = Yes (soundTable ipv4 table) × (Yes (soundRoutes i
 
 -- One rule is read, and then.
 abbrev pub OneRule : List ℕ → Type 0 → Type 0
-OneRule rule then = Accepts (checkRule rule) × (Yes (endsThere rule) × then)
+OneRule rule then = Accepts (checkRule ipv4 rule) × (Yes (endsThere rule) × then)
 
 -- Announcing.
 pub record AnnounceNumbers (policy : Policy) (a : Announcement) (table : List ℕ) (answer : Told) : Type 0 where
   pub ten : (answer .number ≡ 10) ↔ No (soundTable ipv4 table)
   pub nine : (answer .number ≡ 9) ↔ (Yes (soundTable ipv4 table) × No (soundRoutes ipv4 (policy .routes)))
-  pub one-to-seven : OneToSeven answer (λ number place. SoundBoth policy table (checkRule (a .rule) ≡ Refused number place))
-  pub fifteen : (answer .number ≡ 15) ↔ SoundBoth policy table (Accepts (checkRule (a .rule)) × No (endsThere (a .rule)))
+  pub one-to-seven : OneToSeven answer (λ number place. SoundBoth policy table (checkRule ipv4 (a .rule) ≡ Refused number place))
+  pub fifteen : (answer .number ≡ 15) ↔ SoundBoth policy table (Accepts (checkRule ipv4 (a .rule)) × No (endsThere (a .rule)))
   pub thirteen : (answer .number ≡ 13) ↔ SoundBoth policy table (OneRule (a .rule) (No (isSound (actionsOf (a .communities)))))
   pub eight : (answer .number ≡ 8)
       ↔ SoundBoth policy table (OneRule (a .rule) (Yes (isSound (actionsOf (a .communities))) × No (isFeasible policy (valueIn (a .rule)) (a .originator))))
@@ -105,8 +106,8 @@ pub record AnnounceNumbers (policy : Policy) (a : Announcement) (table : List �
 -- Withdrawing.
 pub record WithdrawNumbers (rule table : List ℕ) (answer : Told) : Type 0 where
   pub ten : (answer .number ≡ 10) ↔ No (soundTable ipv4 table)
-  pub one-to-seven : OneToSeven answer (λ number place. Yes (soundTable ipv4 table) × (checkRule rule ≡ Refused number place))
-  pub fifteen : (answer .number ≡ 15) ↔ (Yes (soundTable ipv4 table) × (Accepts (checkRule rule) × No (endsThere rule)))
+  pub one-to-seven : OneToSeven answer (λ number place. Yes (soundTable ipv4 table) × (checkRule ipv4 rule ≡ Refused number place))
+  pub fifteen : (answer .number ≡ 15) ↔ (Yes (soundTable ipv4 table) × (Accepts (checkRule ipv4 rule) × No (endsThere rule)))
   pub fourteen : (answer .number ≡ 14)
       ↔ (Yes (soundTable ipv4 table) × OneRule rule (No (holds ipv4 table (keysOf ipv4 (plain ipv4 (valueIn rule))))))
   pub zero : (answer .number ≡ 0) ↔ AllHold (withdrawChecks rule table)
