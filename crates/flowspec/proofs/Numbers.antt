@@ -6,18 +6,17 @@ use mathlib.Core.List.{List, [], _∷_}
 use mathlib.Core.Logic.{_↔_, _⊎_, inl, inr, ⊎-elim}
 use Prim.Native.Nat.{ℕ, _<_, _≤_}
 use native.Mathlib.Omega.{arith}
-use lib.Dec.{ltb, eqb}
-use lib.ListN.{length}
-use borrow.Author.Tests.{le-ltb, ne-eqb, not-false}
-use Rattle.octets.proofs.Cases.{by-test, apart}
+use lib.Dec.{eqb}
+use borrow.Author.Tests.{ne-eqb, not-false}
+use Rattle.octets.proofs.Cases.{apart}
 use Rattle.rule.specs.declared.Checked.{Checked}
 use Rattle.rule.specs.declared.Checked.the-variants.{Accepted, Refused}
 use Rattle.rule.specs.declared.Reading.{Reading}
 use Rattle.rule.specs.declared.Writing.{Writing}
 use Rattle.rule.specs.Family.{ipv4}
 use Rattle.rule.specs.Value.{checkValue}
-use Rattle.rule.specs.Reading.{ruleEnd, valueIn, checkRule}
-use Rattle.rule.proofs.ValueLaws.{accepts, components-ind, was-refused}
+use Rattle.rule.specs.Reading.{checkRule}
+use Rattle.rule.proofs.RefusalsLaws.{Numbered, value-numbered, rule-numbered}
 use Rattle.action.specs.declared.Reading.{Reading as ActionsReading}
 use Rattle.packet.specs.Header.{isUnusable}
 use Rattle.flowspec.specs.declared.Comparison.{Comparison}
@@ -32,28 +31,7 @@ use Rattle.flowspec.specs.Numbers.{Yes, No, Accepts, OneToSeven, ReadNum
 use Rattle.flowspec.specs.Promise.{ReadsOne, WritesOne, ComparesTwo, JudgesOne, ReadsActions, Announces, Withdraws, LooksUp, LocatesFirst}
 use Rattle.flowspec.proofs.ChecksLaws.{number-at, value-at, all-hold}
 
--- a value is refused with a number from 1 to 7
-abbrev Numbered : Checked → Type 0
-Numbered Accepted = Unit {0}
-Numbered (Refused number place) = (1 ≤ number) × (number ≤ 7)
-
-value-numbered : (v : List ℕ) → Numbered (checkValue ipv4 v)
-unfolding checkValue
-value-numbered v =
-    by-test (ltb 4095 (length v)) (λ t. rw t (omega arith, omega arith))
-    (λ t. by-test (eqb (length v) 0) (λ u. rw (t, u) (omega arith, omega arith)) (λ u. rw (t, u, le-ltb (length v) 0 (omega arith)) walked))
-  where
-    walked : Numbered (accepts ipv4 v 0 0)
-    walked =
-        components-ind ipv4 v (λ at previous w. Numbered (w .ending)) (λ at previous e. tt)
-        (λ at previous number place e. let m = was-refused ipv4 v at previous number place e in (omega arith, omega arith))
-        (λ at previous kind next w e rest. rest) 0 0
-
-rule-numbered : (rule : List ℕ) → Numbered (checkRule ipv4 rule)
-rule-numbered rule =
-    by-test (ltb (length rule) (ruleEnd rule)) (λ t. rw t (omega arith, omega arith)) (λ t. rw t (value-numbered (valueIn rule)))
-
--- so that no other check has its number, and it is not 0
+-- a refusal of 1 to 7 has no other check's number, and not 0
 other : (c : Checked) → Numbered c → (n : ℕ) → 7 < n → eqb (oneToSeven c .number) n ≡ false
 other Accepted h n k = ne-eqb 0 n (λ e. omega arith)
 other (Refused number place) h n k = ne-eqb number n (λ e. omega arith)
@@ -68,10 +46,10 @@ far m n h k = ne-eqb m n (λ e. omega arith)
 
 module _ (rule : List ℕ) where
   apart-from : (n : ℕ) → 7 < n → eqb (oneToSeven (checkRule ipv4 rule) .number) n ≡ false
-  apart-from = other (checkRule ipv4 rule) (rule-numbered rule)
+  apart-from = other (checkRule ipv4 rule) (rule-numbered ipv4 rule)
 
   named : oneToSeven (checkRule ipv4 rule) .holds ≡ false → 1 ≤ oneToSeven (checkRule ipv4 rule) .number
-  named = given (checkRule ipv4 rule) (rule-numbered rule)
+  named = given (checkRule ipv4 rule) (rule-numbered ipv4 rule)
 
 -- ---- actions ----
 
@@ -98,7 +76,7 @@ read-numbers {rule} p =
 pub write-numbers : {value buffer : List ℕ} {answer : Writing} {exit : List ℕ} {kept : List (List ℕ)} → WritesOne value buffer answer exit kept
     → WriteNumbers value buffer (writingTold answer)
 write-numbers {value} {buffer} p =
-    let n = value-numbered value in
+    let n = value-numbered ipv4 value in
     rw (p .tells) (record {
       one-to-seven = λ number place h k. value-at _ number (λ e. omega arith) (checkValue ipv4 value) place (writeChecks value buffer) 0 (refl, (far 16 number k (omega arith), tt));
       sixteen = number-at _ 16 (λ e. omega arith) (writeChecks value buffer) 1 (other (checkValue ipv4 value) n 16 (omega arith), (refl, tt));
@@ -134,8 +112,8 @@ module _ (values : List ℕ) (d : Checked) (y : Bool) (right : Numbered d) where
 pub compare-numbers : {first second : List ℕ} {answer : Comparison} {kept : List (List ℕ)} → ComparesTwo first second answer kept
     → CompareNumbers first second (comparisonTold answer)
 compare-numbers {first} {second} p =
-    let left = rule-numbered first in
-    let right = rule-numbered second in
+    let left = rule-numbered ipv4 first in
+    let right = rule-numbered ipv4 second in
     rw (p .tells) (record {
       one-to-seven = both-seven (compareValues first second) (checkRule ipv4 second) (endsThere second) right (checkRule ipv4 first) (endsThere first) left;
       fifteen = both-fifteen (compareValues first second) (checkRule ipv4 second) (endsThere second) right (checkRule ipv4 first) (endsThere first) left;
