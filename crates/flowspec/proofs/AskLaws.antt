@@ -7,9 +7,9 @@ use native.Mathlib.Nat.{add-sub-cancel-left}
 use borrow.Author.Tests.{eq-eqb, ne-eqb}
 use Rattle.octets.proofs.Cases.{apart}
 use Rattle.octets.proofs.Facts.{Octets}
+use Rattle.rule.specs.declared.Family.{Family}
 use Rattle.rule.specs.declared.Reading.{Reading}
 use Rattle.rule.specs.declared.Reading.the-variants.{Rule, Refused as NotRead}
-use Rattle.rule.specs.Family.{ipv4}
 use Rattle.rule.specs.Reading.{valueOf, oneRule}
 use Rattle.rule.proofs.ReadingLaws.{ReadRule, one-read}
 use Rattle.action.specs.declared.Actions.{Actions}
@@ -18,7 +18,7 @@ use Rattle.action.specs.declared.Reading.the-variants.{Read, Unsound}
 use Rattle.action.specs.Actions.{actionsOf}
 use Rattle.table.proofs.EntryLaws.{octets-between}
 use Rattle.flowspec.specs.declared.Request.the-variants.{Announce, Refused}
-use Rattle.flowspec.specs.declared.Change.the-variants.{Done, Refused as NotChanged}
+use Rattle.flowspec.specs.declared.Change.the-variants.{Done, Refused as NotDone}
 use Rattle.flowspec.specs.Input.{Announcement, Policy}
 use Rattle.flowspec.specs.Feasibility.{readWithRoutes, isFeasible}
 use Rattle.flowspec.specs.Announce.{changeOf, askedBy, asked}
@@ -33,50 +33,50 @@ pub change-done : (number : ℕ) → number ≡ 0 → Done ≡ changeOf number
 unfolding changeOf
 change-done number h = rw (eq-eqb number 0 h)
 
-pub change-refused : (number : ℕ) → (number ≡ 0 → ⊥) → NotChanged number 0 ≡ changeOf number
+pub change-refused : (number : ℕ) → (number ≡ 0 → ⊥) → NotDone number 0 ≡ changeOf number
 unfolding changeOf
 change-refused number h = rw (ne-eqb number 0 h)
 
-module _ (policy : Policy) (a : Announcement) (reading : Reading) (read-is : reading ≡ readWithRoutes (policy .routes) (a .rule)) where
-  pub ask-refused : (number place : ℕ) → reading ≡ NotRead number place → Refused number place ≡ asked policy a
+module _ (family : Family) (policy : Policy) (a : Announcement) (reading : Reading) (read-is : reading ≡ readWithRoutes family (policy .routes) (a .rule)) where
+  pub ask-refused : (number place : ℕ) → reading ≡ NotRead number place → Refused number place ≡ asked family policy a
   unfolding asked
   ask-refused number place e = rw (← read-is, e)
 
   module _ (start size : ℕ) (e : reading ≡ Rule start size) (actions : ActionsReading) (acts : actions ≡ actionsOf (a .communities)) where
-    pub ask-actions : actions ≡ Unsound → Refused 13 0 ≡ asked policy a
+    pub ask-actions : actions ≡ Unsound → Refused 13 0 ≡ asked family policy a
     unfolding asked
     ask-actions h = rw (← read-is, e, ← acts, h)
 
     pub ask-announce : (read : Actions) (judged : Bool) → actions ≡ Read read
-        → judged ≡ isFeasible policy (valueOf (a .rule) start (start + size - start)) (a .originator)
-        → Announce start size read judged ≡ asked policy a
+        → judged ≡ isFeasible family policy (valueOf (a .rule) start (start + size - start)) (a .originator)
+        → Announce start size read judged ≡ asked family policy a
     unfolding asked
     ask-announce read judged h j = rw (← read-is, e, ← acts, h, j, add-sub-cancel-left start size)
 
 -- what an announcement that asks for an entry was read from, and how it was judged
-pub record Asked (policy : Policy) (a : Announcement) (start size : ℕ) (actions : Actions) (judged : Bool) : Type 0 where
-  pub read : oneRule ipv4 (a .rule) ≡ Rule start size
+pub record Asked (family : Family) (policy : Policy) (a : Announcement) (start size : ℕ) (actions : Actions) (judged : Bool) : Type 0 where
+  pub read : oneRule family (a .rule) ≡ Rule start size
   pub acts : actionsOf (a .communities) ≡ Read actions
-  pub is : judged ≡ isFeasible policy (valueOf (a .rule) start size) (a .originator)
+  pub is : judged ≡ isFeasible family policy (valueOf (a .rule) start size) (a .originator)
 
-module _ (policy : Policy) (a : Announcement) (start size : ℕ) (actions : Actions) (judged : Bool) where
-  pub asked-from : asked policy a ≡ Announce start size actions judged
-      → Asked policy a start size actions judged
+module _ (family : Family) (policy : Policy) (a : Announcement) (start size : ℕ) (actions : Actions) (judged : Bool) where
+  pub asked-from : asked family policy a ≡ Announce start size actions judged
+      → Asked family policy a start size actions judged
   unfolding asked
   asked-from e =
-      go (readWithRoutes (policy .routes) (a .rule)) refl (actionsOf (a .communities)) refl e
+      go (readWithRoutes family (policy .routes) (a .rule)) refl (actionsOf (a .communities)) refl e
     where
-      go : (r : Reading) → readWithRoutes (policy .routes) (a .rule) ≡ r → (acts : ActionsReading) → actionsOf (a .communities) ≡ acts
-          → askedBy policy a r acts ≡ Announce start size actions judged
-          → Asked policy a start size actions judged
+      go : (r : Reading) → readWithRoutes family (policy .routes) (a .rule) ≡ r → (acts : ActionsReading) → actionsOf (a .communities) ≡ acts
+          → askedBy family policy a r acts ≡ Announce start size actions judged
+          → Asked family policy a start size actions judged
       go (NotRead number place) f acts g z = apart (cc)
       go (Rule begin extent) f Unsound g z = apart (cc)
       go (Rule begin extent) f (Read read) g z =
           let starts : begin ≡ start = cc in
           let sizes : extent ≡ size = cc in
           let reads : read ≡ actions = cc in
-          let judges : isFeasible policy (valueOf (a .rule) begin extent) (a .originator) ≡ judged = cc in
-          record { read = with-routes (policy .routes) (a .rule) start size (f ∙ rw (starts, sizes)); acts = g ∙ rw reads; is = sym judges ∙ rw (starts, sizes) }
+          let judges : isFeasible family policy (valueOf (a .rule) begin extent) (a .originator) ≡ judged = cc in
+          record { read = with-routes family (policy .routes) (a .rule) start size (f ∙ rw (starts, sizes)); acts = g ∙ rw reads; is = sym judges ∙ rw (starts, sizes) }
 
-  pub asked-rule : asked policy a ≡ Announce start size actions judged → ReadRule ipv4 (a .rule) start size
-  asked-rule e = one-read ipv4 (a .rule) start size (asked-from e .read)
+  pub asked-rule : asked family policy a ≡ Announce start size actions judged → ReadRule family (a .rule) start size
+  asked-rule e = one-read family (a .rule) start size (asked-from e .read)

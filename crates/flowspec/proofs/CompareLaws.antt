@@ -1,5 +1,5 @@
 -- Comparing two rules: one law for each way in which the code comes to an answer. Assumes nothing.
-use mathlib.Core.Path.{_≡_, refl, sym, ap, _∙_}
+use mathlib.Core.Path.{_≡_, refl, ap, _∙_}
 use mathlib.Core.List.{List, [], _∷_}
 use Prim.Native.Nat.{ℕ, _+_, _-_, _≤_}
 use native.Mathlib.Omega.{arith}
@@ -10,10 +10,9 @@ use Rattle.octets.specs.declared.Order.{Order}
 use Rattle.rule.specs.declared.Family.{Family}
 use Rattle.rule.specs.declared.Reading.{Reading}
 use Rattle.rule.specs.declared.Reading.the-variants.{Rule, Refused as NotRead}
-use Rattle.rule.specs.Family.{ipv4}
 use Rattle.rule.specs.Value.{mostValue}
 use Rattle.rule.specs.Reading.{oneRule}
-use Rattle.rule.proofs.ReadingLaws.{ReadRule, one-read}
+use Rattle.rule.proofs.ReadingLaws.{ReadRule}
 use Rattle.rule.proofs.ValueLaws.{accepted-small}
 use Rattle.order.specs.Precedence.{precedence}
 use Rattle.flowspec.specs.declared.Comparison.{Comparison}
@@ -24,42 +23,30 @@ use Rattle.flowspec.specs.Promise.{ComparesTwo}
 use Rattle.flowspec.proofs.ToldLaws.{compare-tells}
 
 -- a promise from the equation for the answer
-kept : (a b : List ℕ) (answer : Comparison) → answer ≡ compareRules a b → ComparesTwo a b answer (a ∷ b ∷ [])
-kept a b answer e = record { is = e; tells = ap comparisonTold e ∙ compare-tells a b; keeps = refl }
+kept : (family : Family) (a b : List ℕ) (answer : Comparison) → answer ≡ compareRules family a b → ComparesTwo family a b answer (a ∷ b ∷ [])
+kept family a b answer e = record { is = e; tells = ap comparisonTold e ∙ compare-tells family a b; keeps = refl }
 
-module _ (a b : List ℕ) (family : Family) (four : family ≡ ipv4) (left right : Reading) (is : left ≡ oneRule family a) (other-is : right ≡ oneRule family b) where
-  first-is : oneRule ipv4 a ≡ left
-  first-is = rw (← four) (sym is)
-
-  second-is : oneRule ipv4 b ≡ right
-  second-is = rw (← four) (sym other-is)
-
-  pub compare-first-refused : (number place : ℕ) → left ≡ NotRead number place → ComparesTwo a b (Refused number place) (a ∷ b ∷ [])
+module _ (family chosen : Family) (chose : chosen ≡ family) (a b : List ℕ) (left right : Reading) (is : left ≡ oneRule chosen a) (other-is : right ≡ oneRule chosen b) where
+  pub compare-first-refused : (number place : ℕ) → left ≡ NotRead number place → ComparesTwo family a b (Refused number place) (a ∷ b ∷ [])
   unfolding compareRules
-  compare-first-refused number place e = kept a b _ (rw (first-is, e))
+  compare-first-refused number place e = rw (← chose) (kept chosen a b _ (rw (← is, e)))
 
   module _ (start size : ℕ) (read : left ≡ Rule start size) where
-    pub compare-second-refused : (number place : ℕ) → right ≡ NotRead number place → ComparesTwo a b (Refused number place) (a ∷ b ∷ [])
+    pub compare-second-refused : (number place : ℕ) → right ≡ NotRead number place → ComparesTwo family a b (Refused number place) (a ∷ b ∷ [])
     unfolding compareRules
-    compare-second-refused number place e = kept a b _ (rw (first-is, read, second-is, e))
-
-    pub first-read : ReadRule ipv4 a start size
-    first-read = one-read ipv4 a start size (first-is ∙ read)
+    compare-second-refused number place e = rw (← chose) (kept chosen a b _ (rw (← is, read, ← other-is, e)))
 
     module _ (begin extent : ℕ) (also : right ≡ Rule begin extent) where
-      pub second-read : ReadRule ipv4 b begin extent
-      second-read = one-read ipv4 b begin extent (second-is ∙ also)
-
       pub compare-both : (which : Order) (answer : Comparison)
-          → which ≡ ordered (precedence family (take (start + size - start) (drop start a)) (take (begin + extent - begin) (drop begin b)))
-          → answer ≡ comparisonOf which → ComparesTwo a b answer (a ∷ b ∷ [])
+          → which ≡ ordered (precedence chosen (take (start + size - start) (drop start a)) (take (begin + extent - begin) (drop begin b)))
+          → answer ≡ comparisonOf which → ComparesTwo family a b answer (a ∷ b ∷ [])
       unfolding compareRules
       compare-both which answer e f =
-          let g = rw (four, add-sub-cancel-left start size, add-sub-cancel-left begin extent) at e in
-          kept a b answer (f ∙ ap comparisonOf g ∙ rw (first-is, read, second-is, also))
+          let g = rw (add-sub-cancel-left start size, add-sub-cancel-left begin extent) at e in
+          rw (← chose) (kept chosen a b answer (f ∙ ap comparisonOf g ∙ rw (← is, read, ← other-is, also)))
 
 -- a value that was read has at most 4,095 octets
-pub value-small : (s : List ℕ) (start size : ℕ) → ReadRule ipv4 s start size → length (take (start + size - start) (drop start s)) ≤ mostValue
-value-small s start size r =
-    let h = accepted-small ipv4 (take size (drop start s)) (r .accepted) in
+pub value-small : (family : Family) (s : List ℕ) (start size : ℕ) → ReadRule family s start size → length (take (start + size - start) (drop start s)) ≤ mostValue
+value-small family s start size r =
+    let h = accepted-small family (take size (drop start s)) (r .accepted) in
     rw (add-sub-cancel-left start size) (omega arith)

@@ -8,11 +8,11 @@ use Rattle.octets.specs.Order.{ordered}
 use Rattle.octets.proofs.Cases.{apart}
 use Rattle.octets.proofs.Facts.{Octets}
 use Rattle.octets.proofs.OrderLaws.{swap}
+use Rattle.rule.specs.declared.Family.{Family}
 use Rattle.rule.specs.declared.Reading.{Reading}
 use Rattle.rule.specs.declared.Reading.the-variants.{Rule, Refused as NotRead}
-use Rattle.rule.specs.Family.{ipv4}
+use Rattle.rule.specs.Family.{Fits}
 use Rattle.rule.specs.Reading.{valueOf, oneRule}
-use Rattle.rule.proofs.FamilyLaws.{ipv4-fits}
 use Rattle.rule.proofs.ReadingLaws.{one-read}
 use Rattle.order.specs.Precedence.{precedence}
 use Rattle.order.proofs.KeyLaws.{equal-ties, tie-equal, precedence-flip, precedence-trans}
@@ -23,10 +23,10 @@ use Rattle.flowspec.specs.Promise.{ComparesTwo}
 use Rattle.flowspec.proofs.AskLaws.{octets-value}
 
 -- two accepted rules, and which of their values comes first
-record Compared (a b : List ℕ) (o : Ordering) : Type 0 where
-  pub first : IsRule a
-  pub second : IsRule b
-  pub is : precedence ipv4 (valueOf a (first .start) (first .size)) (valueOf b (second .start) (second .size)) ≡ o
+record Compared (family : Family) (a b : List ℕ) (o : Ordering) : Type 0 where
+  pub first : IsRule family a
+  pub second : IsRule family b
+  pub is : precedence family (valueOf a (first .start) (first .size)) (valueOf b (second .start) (second .size)) ≡ o
 
 -- no answer stands for two outcomes
 one-outcome : (o p : Ordering) → comparisonOf (ordered o) ≡ comparisonOf (ordered p) → o ≡ p
@@ -45,13 +45,13 @@ no-refusal Ordering·lt number place e = apart (cc)
 no-refusal Ordering·eq number place e = apart (cc)
 no-refusal Ordering·gt number place e = apart (cc)
 
-module _ (a b : List ℕ) (o : Ordering) where
+module _ (family : Family) (a b : List ℕ) (o : Ordering) where
   -- rules are compared by their values' precedence where both are accepted, and only there
-  was-compared : compareRules a b ≡ comparisonOf (ordered o) → Compared a b o
+  was-compared : compareRules family a b ≡ comparisonOf (ordered o) → Compared family a b o
   unfolding compareRules
-  was-compared e = go (oneRule ipv4 a) refl (oneRule ipv4 b) refl e
+  was-compared e = go (oneRule family a) refl (oneRule family b) refl e
     where
-      go : (x : Reading) → oneRule ipv4 a ≡ x → (y : Reading) → oneRule ipv4 b ≡ y → compareRead a x b y ≡ comparisonOf (ordered o) → Compared a b o
+      go : (x : Reading) → oneRule family a ≡ x → (y : Reading) → oneRule family b ≡ y → compareRead family a x b y ≡ comparisonOf (ordered o) → Compared family a b o
       go (NotRead number place) f y g h = no-refusal o number place h
       go (Rule start size) f (NotRead number place) g h = no-refusal o number place h
       go (Rule start size) f (Rule begin extent) g h =
@@ -61,76 +61,76 @@ module _ (a b : List ℕ) (o : Ordering) where
             is = one-outcome _ o h;
           }
 
-  compared : Compared a b o → compareRules a b ≡ comparisonOf (ordered o)
+  compared : Compared family a b o → compareRules family a b ≡ comparisonOf (ordered o)
   unfolding compareRules
   compared c = rw (c .first .read, c .second .read, c .is)
 
 -- the rule that octets are is one
-one-value : (s : List ℕ) (p q : IsRule s) → valueOf s (p .start) (p .size) ≡ valueOf s (q .start) (q .size)
-one-value s p q =
+one-value : (family : Family) (s : List ℕ) (p q : IsRule family s) → valueOf s (p .start) (p .size) ≡ valueOf s (q .start) (q .size)
+one-value family s p q =
     let same = sym (p .read) ∙ q .read in
     let starts : p .start ≡ q .start = cc in
     let sizes : p .size ≡ q .size = cc in
     rw (starts, sizes)
 
 -- the value of a rule is octets
-value-octets : (s : List ℕ) → Octets s → (p : IsRule s) → Octets (valueOf s (p .start) (p .size))
-value-octets s o p = octets-value s (p .start) (p .size) o
+value-octets : (family : Family) (s : List ℕ) → Octets s → (p : IsRule family s) → Octets (valueOf s (p .start) (p .size))
+value-octets family s o p = octets-value s (p .start) (p .size) o
 
-turned : (a b : List ℕ) → Octets a → Octets b → (x : Ordering) → Compared a b x → Compared b a (swap x)
-turned a b o p x c =
+turned : (family : Family) → Fits family → (a b : List ℕ) → Octets a → Octets b → (x : Ordering) → Compared family a b x → Compared family b a (swap x)
+turned family fits a b o p x c =
     record {
       first = c .second;
       second = c .first;
-      is = precedence-flip ipv4 ipv4-fits _ _ (value-octets a o (c .first)) (value-octets b p (c .second)) ∙ ap swap (c .is);
+      is = precedence-flip family fits _ _ (value-octets family a o (c .first)) (value-octets family b p (c .second)) ∙ ap swap (c .is);
     }
 
-turn : (a b : List ℕ) → Octets a → Octets b → (answer other : Comparison) (kept held : List (List ℕ)) → ComparesTwo a b answer kept
-    → ComparesTwo b a other held → (x : Ordering) → answer ≡ comparisonOf (ordered x) → other ≡ comparisonOf (ordered (swap x))
-turn a b o p answer other kept held compares back x e =
-    back .is ∙ compared b a (swap x) (turned a b o p x (was-compared a b x (sym (compares .is) ∙ e)))
+turn : (family : Family) → Fits family → (a b : List ℕ) → Octets a → Octets b → (answer other : Comparison) (kept held : List (List ℕ)) → ComparesTwo family a b answer kept
+    → ComparesTwo family b a other held → (x : Ordering) → answer ≡ comparisonOf (ordered x) → other ≡ comparisonOf (ordered (swap x))
+turn family fits a b o p answer other kept held compares back x e =
+    back .is ∙ compared family b a (swap x) (turned family fits a b o p x (was-compared family a b x (sym (compares .is) ∙ e)))
 
-module _ (a b : List ℕ) (o : Octets a) (p : Octets b) where
-  module _ (answer : Comparison) (kept : List (List ℕ)) (compares : ComparesTwo a b answer kept) where
+module _ (family : Family) (fits : Fits family) (a b : List ℕ) (o : Octets a) (p : Octets b) where
+  module _ (answer : Comparison) (kept : List (List ℕ)) (compares : ComparesTwo family a b answer kept) where
     -- **Tie.** 01: "A tie occurs exactly between equal plain spellings."
-    pub tie-exactly : (answer ≡ Same) ↔ SameRule a b
+    pub tie-exactly : (answer ≡ Same) ↔ SameRule family a b
     tie-exactly = (
       λ e.
-          let c = was-compared a b Ordering·eq (sym (compares .is) ∙ e) in
+          let c = was-compared family a b Ordering·eq (sym (compares .is) ∙ e) in
           record {
             first = c .first;
             second = c .second;
-            equal = tie-equal ipv4 ipv4-fits _ _ (value-octets a o (c .first)) (value-octets b p (c .second)) (one-read ipv4 a _ _ (c .first .read) .accepted) (one-read ipv4 b _ _ (c .second .read) .accepted) (c .is);
+            equal = tie-equal family fits _ _ (value-octets family a o (c .first)) (value-octets family b p (c .second)) (one-read family a _ _ (c .first .read) .accepted) (one-read family b _ _ (c .second .read) .accepted) (c .is);
           },
       λ s.
           compares .is
-          ∙ compared a b Ordering·eq (record {
+          ∙ compared family a b Ordering·eq (record {
             first = s .first;
             second = s .second;
-            is = equal-ties ipv4 ipv4-fits _ _ (value-octets a o (s .first)) (value-octets b p (s .second)) (s .equal);
+            is = equal-ties family fits _ _ (value-octets family a o (s .first)) (value-octets family b p (s .second)) (s .equal);
           }),
     )
 
     -- **The other way round** gives the other answer: first and second change places, and a tie stays one.
-    module _ (other : Comparison) (held : List (List ℕ)) (back : ComparesTwo b a other held) where
+    module _ (other : Comparison) (held : List (List ℕ)) (back : ComparesTwo family b a other held) where
       pub turned-first : (answer ≡ First) ↔ (other ≡ Second)
-      turned-first = (turn a b o p answer other kept held compares back Ordering·lt, turn b a p o other answer held kept back compares Ordering·gt)
+      turned-first = (turn family fits a b o p answer other kept held compares back Ordering·lt, turn family fits b a p o other answer held kept back compares Ordering·gt)
 
       pub turned-second : (answer ≡ Second) ↔ (other ≡ First)
-      turned-second = (turn a b o p answer other kept held compares back Ordering·gt, turn b a p o other answer held kept back compares Ordering·lt)
+      turned-second = (turn family fits a b o p answer other kept held compares back Ordering·gt, turn family fits b a p o other answer held kept back compares Ordering·lt)
 
       pub turned-same : (answer ≡ Same) ↔ (other ≡ Same)
-      turned-same = (turn a b o p answer other kept held compares back Ordering·eq, turn b a p o other answer held kept back compares Ordering·eq)
+      turned-same = (turn family fits a b o p answer other kept held compares back Ordering·eq, turn family fits b a p o other answer held kept back compares Ordering·eq)
 
 -- **What comes before what comes before a rule** comes before that rule.
-pub first-of-three : (a b c : List ℕ) → Octets a → Octets b → Octets c → (x y z : Comparison) (k l m : List (List ℕ))
-    → ComparesTwo a b x k → ComparesTwo b c y l → ComparesTwo a c z m → x ≡ First → y ≡ First → z ≡ First
-first-of-three a b c o p q x y z k l m before after outer e f =
-    let u = was-compared a b Ordering·lt (sym (before .is) ∙ e) in
-    let v = was-compared b c Ordering·lt (sym (after .is) ∙ f) in
+pub first-of-three : (family : Family) → Fits family → (a b c : List ℕ) → Octets a → Octets b → Octets c → (x y z : Comparison) (k l m : List (List ℕ))
+    → ComparesTwo family a b x k → ComparesTwo family b c y l → ComparesTwo family a c z m → x ≡ First → y ≡ First → z ≡ First
+first-of-three family fits a b c o p q x y z k l m before after outer e f =
+    let u = was-compared family a b Ordering·lt (sym (before .is) ∙ e) in
+    let v = was-compared family b c Ordering·lt (sym (after .is) ∙ f) in
     outer .is
-    ∙ compared a c Ordering·lt (record {
+    ∙ compared family a c Ordering·lt (record {
       first = u .first;
       second = v .second;
-      is = precedence-trans ipv4 ipv4-fits _ _ _ (value-octets a o (u .first)) (value-octets b p (v .first)) (value-octets c q (v .second)) (rw (one-value b (v .first) (u .second)) (u .is)) (v .is);
+      is = precedence-trans family fits _ _ _ (value-octets family a o (u .first)) (value-octets family b p (v .first)) (value-octets family c q (v .second)) (rw (one-value family b (v .first) (u .second)) (u .is)) (v .is);
     })

@@ -9,7 +9,6 @@ use Rattle.octets.proofs.Cases.{by-test, apart}
 use Rattle.rule.specs.declared.Family.{Family}
 use Rattle.rule.specs.declared.Reading.{Reading}
 use Rattle.rule.specs.declared.Reading.the-variants.{Rule, Refused as NotRead}
-use Rattle.rule.specs.Family.{ipv4}
 use Rattle.rule.specs.Reading.{valueOf, oneRule}
 use Rattle.rule.proofs.ReadingLaws.{ReadRule, one-read}
 use Rattle.route.specs.declared.Destination.{Destination}
@@ -25,43 +24,48 @@ use Rattle.flowspec.specs.Promise.{JudgesOne}
 use Rattle.flowspec.proofs.ToldLaws.{judge-tells}
 
 -- reading a rule once the routes are found sound
-module _ (words rule : List ℕ) where
-  pub with-unsound : (sound : Bool) (family : Family) → family ≡ ipv4 → sound ≡ soundRoutes family words → not sound ≡ true → NotRead 9 0 ≡ readWithRoutes words rule
+module _ (family : Family) (words rule : List ℕ) where
+  pub with-unsound : (sound : Bool) → sound ≡ soundRoutes family words → not sound ≡ true → NotRead 9 0 ≡ readWithRoutes family words rule
   unfolding readWithRoutes
-  with-unsound sound family four is h = let unsound = rw four at (sym is ∙ not-true sound h) in rw unsound
+  with-unsound sound is h = rw (← is, not-true sound h)
 
-  pub with-sound : (sound : Bool) (family : Family) (reading : Reading) → family ≡ ipv4 → sound ≡ soundRoutes family words → not sound ≡ false
-      → reading ≡ oneRule family rule → reading ≡ readWithRoutes words rule
+  pub with-sound : (sound : Bool) (reading : Reading) → sound ≡ soundRoutes family words → not sound ≡ false → reading ≡ oneRule family rule
+      → reading ≡ readWithRoutes family words rule
   unfolding readWithRoutes
-  with-sound sound family reading four is h read = let sounds = rw four at (sym is ∙ not-false sound h) in read ∙ rw (sounds, four)
+  with-sound sound reading is h read = read ∙ rw (← is, not-false sound h)
 
   -- a rule that was so read is one that was read
-  pub with-routes : (start size : ℕ) → readWithRoutes words rule ≡ Rule start size → oneRule ipv4 rule ≡ Rule start size
+  pub with-routes : (start size : ℕ) → readWithRoutes family words rule ≡ Rule start size → oneRule family rule ≡ Rule start size
   unfolding readWithRoutes
-  with-routes start size e = by-test (soundRoutes ipv4 words) (λ h. rw h at e) (λ h. let z : NotRead 9 0 ≡ Rule start size = rw h at e in apart (cc))
+  with-routes start size e = by-test (soundRoutes family words) (λ h. rw h at e) (λ h. let z : NotRead 9 0 ≡ Rule start size = rw h at e in apart (cc))
 
-  pub rule-there : (reading : Reading) (start size : ℕ) → reading ≡ readWithRoutes words rule → reading ≡ Rule start size → ReadRule ipv4 rule start size
-  rule-there reading start size is e = one-read ipv4 rule start size (with-routes start size (sym is ∙ e))
+  pub rule-there : (reading : Reading) (start size : ℕ) → reading ≡ readWithRoutes family words rule → reading ≡ Rule start size → ReadRule family rule start size
+  rule-there reading start size is e = one-read family rule start size (with-routes start size (sym is ∙ e))
 
 -- judging a value
-pub value-judged : (policy : Policy) (value : List ℕ) (originator : ℕ) (family : Family) (destination : Destination) (feasibly : Bool) → family ≡ ipv4
+pub value-judged : (family : Family) (policy : Policy) (value : List ℕ) (originator : ℕ) (destination : Destination) (feasibly : Bool)
     → destinationIn destination ≡ destinationOf family value
     → feasibly ≡ feasible (family .width) (policy .allowsNoDestination) (destinationIn destination) originator (routesOf family (policy .routes))
-    → feasibly ≡ isFeasible policy value originator
+    → feasibly ≡ isFeasible family policy value originator
 unfolding isFeasible
-value-judged policy value originator family destination feasibly four is says = says ∙ rw (is, four)
+value-judged family policy value originator destination feasibly is says = says ∙ rw is
 
-module _ (policy : Policy) (rule : List ℕ) (originator : ℕ) (reading : Reading) (read : reading ≡ readWithRoutes (policy .routes) rule) where
-  -- a promise from the equation for the answer
-  kept : (answer : Feasibility) → answer ≡ judgement policy rule originator → JudgesOne policy rule originator answer (policy .routes ∷ rule ∷ [])
-  kept answer e = record { is = e; tells = ap feasibilityTold e ∙ judge-tells policy rule originator; keeps = refl }
+-- a promise from the equation for the answer
+kept : (family : Family) (policy : Policy) (rule : List ℕ) (originator : ℕ) (answer : Feasibility) → answer ≡ judgement family policy rule originator
+    → JudgesOne family policy rule originator answer (policy .routes ∷ rule ∷ [])
+kept family policy rule originator answer e =
+    record { is = e; tells = ap feasibilityTold e ∙ judge-tells family policy rule originator; keeps = refl }
 
-  pub judge-refused : (number place : ℕ) → reading ≡ NotRead number place → JudgesOne policy rule originator (Refused number place) (policy .routes ∷ rule ∷ [])
+module _ (family chosen : Family) (chose : chosen ≡ family) (policy : Policy) (rule : List ℕ) (originator : ℕ) (reading : Reading)
+    (read : reading ≡ readWithRoutes chosen (policy .routes) rule) where
+  pub judge-refused : (number place : ℕ) → reading ≡ NotRead number place
+      → JudgesOne family policy rule originator (Refused number place) (policy .routes ∷ rule ∷ [])
   unfolding judgement
-  judge-refused number place e = kept _ (rw (← read, e))
+  judge-refused number place e = rw (← chose) (kept chosen policy rule originator _ (rw (← read, e)))
 
   pub judge-read : (start size : ℕ) (feasibly : Bool) (answer : Feasibility) → reading ≡ Rule start size
-      → feasibly ≡ isFeasible policy (valueOf rule start (start + size - start)) originator → answer ≡ feasibilityOf feasibly
-      → JudgesOne policy rule originator answer (policy .routes ∷ rule ∷ [])
+      → feasibly ≡ isFeasible chosen policy (valueOf rule start (start + size - start)) originator → answer ≡ feasibilityOf feasibly
+      → JudgesOne family policy rule originator answer (policy .routes ∷ rule ∷ [])
   unfolding judgement
-  judge-read start size feasibly answer e f a = kept answer (a ∙ rw (← read, e, f, add-sub-cancel-left start size))
+  judge-read start size feasibly answer e f a =
+      rw (← chose) (kept chosen policy rule originator answer (a ∙ rw (← read, e, f, add-sub-cancel-left start size)))

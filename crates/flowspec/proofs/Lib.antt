@@ -1,4 +1,5 @@
 -- The laws of this crate.
+pub mod FamiliesLaws
 pub mod ToldLaws
 pub mod ChecksLaws
 pub mod CompareLaws

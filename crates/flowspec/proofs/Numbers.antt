@@ -1,19 +1,20 @@
 -- **Each number is given exactly when 01's table says**, of the calls by their promises: which checks of a call's list held, and which did not, is
 -- read off its number. Assumes nothing.
 use mathlib.Core.Path.{_≡_, refl}
-use mathlib.Core.Bool.{Bool, true, false}
+use mathlib.Core.Bool.{Bool, true, false, _||_}
 use mathlib.Core.List.{List, [], _∷_}
 use mathlib.Core.Logic.{_↔_, _⊎_, inl, inr, ⊎-elim}
 use Prim.Native.Nat.{ℕ, _<_, _≤_}
 use native.Mathlib.Omega.{arith}
-use lib.Dec.{eqb}
+use lib.Dec.{ltb, eqb}
+use lib.ListN.{length}
 use borrow.Author.Tests.{ne-eqb, not-false}
-use Rattle.octets.proofs.Cases.{apart}
+use Rattle.octets.proofs.Cases.{by-test, apart}
+use Rattle.rule.specs.declared.Family.{Family}
 use Rattle.rule.specs.declared.Checked.{Checked}
 use Rattle.rule.specs.declared.Checked.the-variants.{Accepted, Refused}
 use Rattle.rule.specs.declared.Reading.{Reading}
 use Rattle.rule.specs.declared.Writing.{Writing}
-use Rattle.rule.specs.Family.{ipv4}
 use Rattle.rule.specs.Value.{checkValue}
 use Rattle.rule.specs.Reading.{checkRule}
 use Rattle.rule.proofs.RefusalsLaws.{Numbered, value-numbered, rule-numbered}
@@ -31,7 +32,29 @@ use Rattle.flowspec.specs.Numbers.{Yes, No, Accepts, OneToSeven, ReadNum
 use Rattle.flowspec.specs.Promise.{ReadsOne, WritesOne, ComparesTwo, JudgesOne, ReadsActions, Announces, Withdraws, LooksUp, LocatesFirst}
 use Rattle.flowspec.proofs.ChecksLaws.{number-at, value-at, all-hold}
 
--- a refusal of 1 to 7 has no other check's number, and not 0
+-- a value is refused with a number from 1 to 7
+abbrev Numbered : Checked → Type 0
+Numbered Accepted = Unit {0}
+Numbered (Refused number place) = (1 ≤ number) × (number ≤ 7)
+
+value-numbered : (family : Family) (v : List ℕ) → Numbered (checkValue family v)
+unfolding checkValue
+value-numbered family v =
+    by-test (ltb 4095 (length v)) (λ t. rw t (omega arith, omega arith))
+    (λ t. by-test (eqb (length v) 0 || eqb (length v) (family .head)) (λ u. rw (t, u) (omega arith, omega arith))
+    (λ u. by-test (ltb (length v) (family .head)) (λ w. rw (t, u, w) (omega arith, omega arith)) (λ w. rw (t, u, w) walked)))
+  where
+    walked : Numbered (accepts family v (family .head) 0)
+    walked =
+        components-ind family v (λ at previous w. Numbered (w .ending)) (λ at previous e. tt)
+        (λ at previous number place e. let m = was-refused family v at previous number place e in (omega arith, omega arith))
+        (λ at previous kind next w e rest. rest) (family .head) 0
+
+rule-numbered : (family : Family) (rule : List ℕ) → Numbered (checkRule family rule)
+rule-numbered family rule =
+    by-test (ltb (length rule) (ruleEnd rule)) (λ t. rw t (omega arith, omega arith)) (λ t. rw t (value-numbered family (valueIn rule)))
+
+-- so that no other check has its number, and it is not 0
 other : (c : Checked) → Numbered c → (n : ℕ) → 7 < n → eqb (oneToSeven c .number) n ≡ false
 other Accepted h n k = ne-eqb 0 n (λ e. omega arith)
 other (Refused number place) h n k = ne-eqb number n (λ e. omega arith)
@@ -44,12 +67,12 @@ given (Refused number place) h e = h .0
 far : (m n : ℕ) → n ≤ 7 → 7 < m → eqb m n ≡ false
 far m n h k = ne-eqb m n (λ e. omega arith)
 
-module _ (rule : List ℕ) where
-  apart-from : (n : ℕ) → 7 < n → eqb (oneToSeven (checkRule ipv4 rule) .number) n ≡ false
-  apart-from = other (checkRule ipv4 rule) (rule-numbered ipv4 rule)
+module _ (family : Family) (rule : List ℕ) where
+  apart-from : (n : ℕ) → 7 < n → eqb (oneToSeven (checkRule family rule) .number) n ≡ false
+  apart-from = other (checkRule family rule) (rule-numbered family rule)
 
-  named : oneToSeven (checkRule ipv4 rule) .holds ≡ false → 1 ≤ oneToSeven (checkRule ipv4 rule) .number
-  named = given (checkRule ipv4 rule) (rule-numbered ipv4 rule)
+  named : oneToSeven (checkRule family rule) .holds ≡ false → 1 ≤ oneToSeven (checkRule family rule) .number
+  named = given (checkRule family rule) (rule-numbered family rule)
 
 -- ---- actions ----
 
@@ -63,24 +86,24 @@ actions-numbers {communities} p =
 
 -- ---- reading ----
 
-pub read-numbers : {rule : List ℕ} {answer : Reading} {kept : List (List ℕ)} → ReadsOne rule answer kept → ReadNumbers rule (readingTold answer)
-read-numbers {rule} p =
+pub read-numbers : {family : Family} {rule : List ℕ} {answer : Reading} {kept : List (List ℕ)} → ReadsOne family rule answer kept → ReadNumbers family rule (readingTold answer)
+read-numbers {family} {rule} p =
     rw (p .tells) (record {
-      one-to-seven = λ number place h k. value-at _ number (λ e. omega arith) (checkRule ipv4 rule) place (readChecks rule) 0 (refl, (far 15 number k (omega arith), tt));
-      fifteen = number-at _ 15 (λ e. omega arith) (readChecks rule) 1 (apart-from rule 15 (omega arith), (refl, tt));
-      zero = all-hold _ (readChecks rule) (named rule, ((λ h. omega arith), tt));
+      one-to-seven = λ number place h k. value-at _ number (λ e. omega arith) (checkRule family rule) place (readChecks family rule) 0 (refl, (far 15 number k (omega arith), tt));
+      fifteen = number-at _ 15 (λ e. omega arith) (readChecks family rule) 1 (apart-from family rule 15 (omega arith), (refl, tt));
+      zero = all-hold _ (readChecks family rule) (named family rule, ((λ h. omega arith), tt));
     })
 
 -- ---- writing ----
 
-pub write-numbers : {value buffer : List ℕ} {answer : Writing} {exit : List ℕ} {kept : List (List ℕ)} → WritesOne value buffer answer exit kept
-    → WriteNumbers value buffer (writingTold answer)
-write-numbers {value} {buffer} p =
-    let n = value-numbered ipv4 value in
+pub write-numbers : {family : Family} {value buffer : List ℕ} {answer : Writing} {exit : List ℕ} {kept : List (List ℕ)} → WritesOne family value buffer answer exit kept
+    → WriteNumbers family value buffer (writingTold answer)
+write-numbers {family} {value} {buffer} p =
+    let n = value-numbered family value in
     rw (p .tells) (record {
-      one-to-seven = λ number place h k. value-at _ number (λ e. omega arith) (checkValue ipv4 value) place (writeChecks value buffer) 0 (refl, (far 16 number k (omega arith), tt));
-      sixteen = number-at _ 16 (λ e. omega arith) (writeChecks value buffer) 1 (other (checkValue ipv4 value) n 16 (omega arith), (refl, tt));
-      zero = all-hold _ (writeChecks value buffer) (given (checkValue ipv4 value) n, ((λ h. omega arith), tt));
+      one-to-seven = λ number place h k. value-at _ number (λ e. omega arith) (checkValue family value) place (writeChecks family value buffer) 0 (refl, (far 16 number k (omega arith), tt));
+      sixteen = number-at _ 16 (λ e. omega arith) (writeChecks family value buffer) 1 (other (checkValue family value) n 16 (omega arith), (refl, tt));
+      zero = all-hold _ (writeChecks family value buffer) (given (checkValue family value) n, ((λ h. omega arith), tt));
     })
 
 -- ---- comparing ----
@@ -109,44 +132,44 @@ module _ (values : List ℕ) (d : Checked) (y : Bool) (right : Numbered d) where
   both-fifteen (Refused n p) x left =
       ((λ e. absurd (omega arith)), ⊎-elim (λ b. let z : false ≡ true = b .0 in apart (cc)) (λ b. let z : false ≡ true = b .0 in apart (cc)))
 
-pub compare-numbers : {first second : List ℕ} {answer : Comparison} {kept : List (List ℕ)} → ComparesTwo first second answer kept
-    → CompareNumbers first second (comparisonTold answer)
-compare-numbers {first} {second} p =
-    let left = rule-numbered ipv4 first in
-    let right = rule-numbered ipv4 second in
+pub compare-numbers : {family : Family} {first second : List ℕ} {answer : Comparison} {kept : List (List ℕ)} → ComparesTwo family first second answer kept
+    → CompareNumbers family first second (comparisonTold answer)
+compare-numbers {family} {first} {second} p =
+    let left = rule-numbered family first in
+    let right = rule-numbered family second in
     rw (p .tells) (record {
-      one-to-seven = both-seven (compareValues first second) (checkRule ipv4 second) (endsThere second) right (checkRule ipv4 first) (endsThere first) left;
-      fifteen = both-fifteen (compareValues first second) (checkRule ipv4 second) (endsThere second) right (checkRule ipv4 first) (endsThere first) left;
-      zero = all-hold _ (compareChecks first second) (named first, ((λ h. omega arith), (named second, ((λ h. omega arith), tt))));
+      one-to-seven = both-seven (compareValues family first second) (checkRule family second) (endsThere second) right (checkRule family first) (endsThere first) left;
+      fifteen = both-fifteen (compareValues family first second) (checkRule family second) (endsThere second) right (checkRule family first) (endsThere first) left;
+      zero = all-hold _ (compareChecks family first second) (named family first, ((λ h. omega arith), (named family second, ((λ h. omega arith), tt))));
     })
 
 -- ---- judging ----
 
-pub judge-numbers : {policy : Policy} {rule : List ℕ} {originator : ℕ} {answer : Feasibility} {kept : List (List ℕ)}
-    → JudgesOne policy rule originator answer kept → JudgeNumbers policy rule originator (feasibilityTold answer)
-judge-numbers {policy} {rule} {originator} p =
-    let cs = judgeChecks policy rule originator in
-    let fifteen = apart-from rule 15 (omega arith) in
+pub judge-numbers : {family : Family} {policy : Policy} {rule : List ℕ} {originator : ℕ} {answer : Feasibility} {kept : List (List ℕ)}
+    → JudgesOne family policy rule originator answer kept → JudgeNumbers family policy rule originator (feasibilityTold answer)
+judge-numbers {family} {policy} {rule} {originator} p =
+    let cs = judgeChecks family policy rule originator in
+    let fifteen = apart-from family rule 15 (omega arith) in
     rw (p .tells) (record {
-      nine = number-at _ 9 (λ e. omega arith) cs 0 (refl, (apart-from rule 9 (omega arith), (refl, (refl, tt))));
+      nine = number-at _ 9 (λ e. omega arith) cs 0 (refl, (apart-from family rule 9 (omega arith), (refl, (refl, tt))));
       one-to-seven = λ number place h k.
-          value-at _ number (λ e. omega arith) (checkRule ipv4 rule) place cs 1 (far 9 number k (omega arith), (refl, (far 15 number k (omega arith), (far 8 number k (omega arith), tt))));
+          value-at _ number (λ e. omega arith) (checkRule family rule) place cs 1 (far 9 number k (omega arith), (refl, (far 15 number k (omega arith), (far 8 number k (omega arith), tt))));
       fifteen = number-at _ 15 (λ e. omega arith) cs 2 (refl, (fifteen, (refl, (refl, tt))));
-      eight = number-at _ 8 (λ e. omega arith) cs 3 (refl, (apart-from rule 8 (omega arith), (refl, (refl, tt))));
-      zero = all-hold _ cs ((λ h. omega arith), (named rule, ((λ h. omega arith), ((λ h. omega arith), tt))));
+      eight = number-at _ 8 (λ e. omega arith) cs 3 (refl, (apart-from family rule 8 (omega arith), (refl, (refl, tt))));
+      zero = all-hold _ cs ((λ h. omega arith), (named family rule, ((λ h. omega arith), ((λ h. omega arith), tt))));
     })
 
 -- ---- announcing ----
 
-pub announce-numbers : {policy : Policy} {a : Announcement} {table : List ℕ} {answer : Change} {exit : List ℕ} {kept : List (List ℕ)}
-    → Announces policy a table answer exit kept → AnnounceNumbers policy a table (changeTold answer)
-announce-numbers {policy} {a} {table} p =
-    let cs = announceChecks policy a table in
+pub announce-numbers : {family : Family} {policy : Policy} {a : Announcement} {table : List ℕ} {answer : Change} {exit : List ℕ} {kept : List (List ℕ)}
+    → Announces family policy a table answer exit kept → AnnounceNumbers family policy a table (changeTold answer)
+announce-numbers {family} {policy} {a} {table} p =
+    let cs = announceChecks family policy a table in
     rw (p .tells) (record {
-      ten = number-at _ 10 (λ e. omega arith) cs 0 (refl, (refl, (apart-from (a .rule) 10 (omega arith), (refl, (refl, (refl, (refl, tt)))))));
-      nine = number-at _ 9 (λ e. omega arith) cs 1 (refl, (refl, (apart-from (a .rule) 9 (omega arith), (refl, (refl, (refl, (refl, tt)))))));
+      ten = number-at _ 10 (λ e. omega arith) cs 0 (refl, (refl, (apart-from family (a .rule) 10 (omega arith), (refl, (refl, (refl, (refl, tt)))))));
+      nine = number-at _ 9 (λ e. omega arith) cs 1 (refl, (refl, (apart-from family (a .rule) 9 (omega arith), (refl, (refl, (refl, (refl, tt)))))));
       one-to-seven = λ number place h k.
-          value-at _ number (λ e. omega arith) (checkRule ipv4 (a .rule)) place cs 2 (
+          value-at _ number (λ e. omega arith) (checkRule family (a .rule)) place cs 2 (
             far 10 number k (omega arith),
             (
               far 9 number k (omega arith),
@@ -159,44 +182,44 @@ announce-numbers {policy} {a} {table} p =
               ),
             ),
           );
-      fifteen = number-at _ 15 (λ e. omega arith) cs 3 (refl, (refl, (apart-from (a .rule) 15 (omega arith), (refl, (refl, (refl, (refl, tt)))))));
-      thirteen = number-at _ 13 (λ e. omega arith) cs 4 (refl, (refl, (apart-from (a .rule) 13 (omega arith), (refl, (refl, (refl, (refl, tt)))))));
-      eight = number-at _ 8 (λ e. omega arith) cs 5 (refl, (refl, (apart-from (a .rule) 8 (omega arith), (refl, (refl, (refl, (refl, tt)))))));
-      eleven = number-at _ 11 (λ e. omega arith) cs 6 (refl, (refl, (apart-from (a .rule) 11 (omega arith), (refl, (refl, (refl, (refl, tt)))))));
-      zero = all-hold _ cs ((λ h. omega arith), ((λ h. omega arith), (named (a .rule), ((λ h. omega arith), ((λ h. omega arith), ((λ h. omega arith), ((λ h. omega arith), tt)))))));
+      fifteen = number-at _ 15 (λ e. omega arith) cs 3 (refl, (refl, (apart-from family (a .rule) 15 (omega arith), (refl, (refl, (refl, (refl, tt)))))));
+      thirteen = number-at _ 13 (λ e. omega arith) cs 4 (refl, (refl, (apart-from family (a .rule) 13 (omega arith), (refl, (refl, (refl, (refl, tt)))))));
+      eight = number-at _ 8 (λ e. omega arith) cs 5 (refl, (refl, (apart-from family (a .rule) 8 (omega arith), (refl, (refl, (refl, (refl, tt)))))));
+      eleven = number-at _ 11 (λ e. omega arith) cs 6 (refl, (refl, (apart-from family (a .rule) 11 (omega arith), (refl, (refl, (refl, (refl, tt)))))));
+      zero = all-hold _ cs ((λ h. omega arith), ((λ h. omega arith), (named family (a .rule), ((λ h. omega arith), ((λ h. omega arith), ((λ h. omega arith), ((λ h. omega arith), tt)))))));
     })
 
 -- ---- withdrawing ----
 
-pub withdraw-numbers : {rule table : List ℕ} {answer : Change} {exit : List ℕ} {kept : List (List ℕ)} → Withdraws rule table answer exit kept
-    → WithdrawNumbers rule table (changeTold answer)
-withdraw-numbers {rule} {table} p =
-    let cs = withdrawChecks rule table in
+pub withdraw-numbers : {family : Family} {rule table : List ℕ} {answer : Change} {exit : List ℕ} {kept : List (List ℕ)} → Withdraws family rule table answer exit kept
+    → WithdrawNumbers family rule table (changeTold answer)
+withdraw-numbers {family} {rule} {table} p =
+    let cs = withdrawChecks family rule table in
     rw (p .tells) (record {
-      ten = number-at _ 10 (λ e. omega arith) cs 0 (refl, (apart-from rule 10 (omega arith), (refl, (refl, tt))));
+      ten = number-at _ 10 (λ e. omega arith) cs 0 (refl, (apart-from family rule 10 (omega arith), (refl, (refl, tt))));
       one-to-seven = λ number place h k.
-          value-at _ number (λ e. omega arith) (checkRule ipv4 rule) place cs 1 (far 10 number k (omega arith), (refl, (far 15 number k (omega arith), (far 14 number k (omega arith), tt))));
-      fifteen = number-at _ 15 (λ e. omega arith) cs 2 (refl, (apart-from rule 15 (omega arith), (refl, (refl, tt))));
-      fourteen = number-at _ 14 (λ e. omega arith) cs 3 (refl, (apart-from rule 14 (omega arith), (refl, (refl, tt))));
-      zero = all-hold _ cs ((λ h. omega arith), (named rule, ((λ h. omega arith), ((λ h. omega arith), tt))));
+          value-at _ number (λ e. omega arith) (checkRule family rule) place cs 1 (far 10 number k (omega arith), (refl, (far 15 number k (omega arith), (far 14 number k (omega arith), tt))));
+      fifteen = number-at _ 15 (λ e. omega arith) cs 2 (refl, (apart-from family rule 15 (omega arith), (refl, (refl, tt))));
+      fourteen = number-at _ 14 (λ e. omega arith) cs 3 (refl, (apart-from family rule 14 (omega arith), (refl, (refl, tt))));
+      zero = all-hold _ cs ((λ h. omega arith), (named family rule, ((λ h. omega arith), ((λ h. omega arith), tt))));
     })
 
 -- ---- looking up ----
 
-lookup-numbers-of : (table packet values : List ℕ) → LookupNumbers table packet (told (lookupChecks table packet) values)
-lookup-numbers-of table packet values =
-    let cs = lookupChecks table packet in
+lookup-numbers-of : (family : Family) (table packet values : List ℕ) → LookupNumbers family table packet (told (lookupChecks family table packet) values)
+lookup-numbers-of family table packet values =
+    let cs = lookupChecks family table packet in
     let unusable = number-at values 12 (λ e. omega arith) cs 1 (refl, (refl, tt)) in
     record {
       ten = number-at values 10 (λ e. omega arith) cs 0 (refl, (refl, tt));
-      twelve = ((λ e. (unusable .0 e .0, not-false (isUnusable ipv4 packet) (unusable .0 e .1))), (λ b. unusable .1 (b .0, rw (b .1))));
+      twelve = ((λ e. (unusable .0 e .0, not-false (isUnusable family packet) (unusable .0 e .1))), (λ b. unusable .1 (b .0, rw (b .1))));
       zero = all-hold values cs ((λ h. omega arith), ((λ h. omega arith), tt));
     }
 
-pub lookup-numbers : {table packet : List ℕ} {answer : Looked} {kept : List (List ℕ)} → LooksUp table packet answer kept
-    → LookupNumbers table packet (lookupTold answer)
-lookup-numbers {table} {packet} p = rw (p .tells) (lookup-numbers-of table packet (lookupValues table packet))
+pub lookup-numbers : {family : Family} {table packet : List ℕ} {answer : Looked} {kept : List (List ℕ)} → LooksUp family table packet answer kept
+    → LookupNumbers family table packet (lookupTold answer)
+lookup-numbers {family} {table} {packet} p = rw (p .tells) (lookup-numbers-of family table packet (lookupValues family table packet))
 
-pub first-match-numbers : {table packet : List ℕ} {answer : MatchPlace} {kept : List (List ℕ)} → LocatesFirst table packet answer kept
-    → LookupNumbers table packet (matchPlaceTold answer)
-first-match-numbers {table} {packet} p = rw (p .tells) (lookup-numbers-of table packet (firstMatchValues table packet))
+pub first-match-numbers : {family : Family} {table packet : List ℕ} {answer : MatchPlace} {kept : List (List ℕ)} → LocatesFirst family table packet answer kept
+    → LookupNumbers family table packet (matchPlaceTold answer)
+first-match-numbers {family} {table} {packet} p = rw (p .tells) (lookup-numbers-of family table packet (firstMatchValues family table packet))

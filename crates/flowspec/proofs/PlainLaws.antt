@@ -8,12 +8,12 @@ use borrow.Author.Tests.{eqb-true}
 use Rattle.octets.specs.Test.{Each}
 use Rattle.octets.proofs.Cases.{by-test}
 use Rattle.octets.proofs.Facts.{Octets}
-use Rattle.rule.specs.Family.{ipv4}
+use Rattle.rule.specs.declared.Family.{Family}
+use Rattle.rule.specs.Family.{Fits}
 use Rattle.rule.specs.Shape.{shapeOf}
 use Rattle.rule.specs.Value.{Component, components}
 use Rattle.rule.specs.Plain.{bodyOf, plain}
 use Rattle.rule.specs.PlainComponent.{plainComponent}
-use Rattle.rule.proofs.FamilyLaws.{ipv4-fits}
 use Rattle.rule.proofs.SpellingLaws.{components-plain}
 use Rattle.rule.proofs.ComponentsLaws.{SoundComponent, each-octets, each-sound}
 use Rattle.route.specs.Route.{routesOf}
@@ -24,25 +24,25 @@ use Rattle.flowspec.specs.Input.{Policy}
 use Rattle.flowspec.specs.Feasibility.{isFeasible}
 
 -- the destination in the plain spelling differs past its length at most
-destination-alike : (ps : List Component) → Each (λ p. Octets (p .body)) ps → Each (SoundComponent ipv4) ps
-    → AlikeTo (ipv4 .width) (destinationAmong ipv4 (map (plainComponent ipv4) ps)) (destinationAmong ipv4 ps)
+destination-alike : (family : Family) → Fits family → (ps : List Component) → Each (λ p. Octets (p .body)) ps → Each (SoundComponent family) ps
+    → AlikeTo (family .width) (destinationAmong family (map (plainComponent family) ps)) (destinationAmong family ps)
 unfolding destinationAmong destinationFor bodyOf shapeOf
-destination-alike [] o s = tt
-destination-alike (p ∷ ps) o s =
-    by-test (eqb (p .kind) 1) (λ t. let e = eqb-true (p .kind) 1 t in rw e (pattern-plain ipv4 ipv4-fits (p .body) (o .0) (s .0 .prefix (rw e refl))))
-    (λ t. rw t (destination-alike ps (o .1) (s .1)))
+destination-alike family fits [] o s = tt
+destination-alike family fits (p ∷ ps) o s =
+    by-test (eqb (p .kind) 1) (λ t. let e = eqb-true (p .kind) 1 t in rw e (pattern-plain family fits (p .body) (o .0) (s .0 .prefix (rw e refl))))
+    (λ t. rw t (destination-alike family fits ps (o .1) (s .1)))
 
 -- **a rule is feasible where its plain spelling is**, whatever octets its value is
-pub feasible-plain : (policy : Policy) (v : List ℕ) (originator : ℕ) → Octets v → isFeasible policy (plain ipv4 v) originator ≡ isFeasible policy v originator
+pub feasible-plain : (family : Family) → Fits family → (policy : Policy) (v : List ℕ) (originator : ℕ) → Octets v → isFeasible family policy (plain family v) originator ≡ isFeasible family policy v originator
 unfolding isFeasible destinationOf
-feasible-plain policy v originator o =
-    rw (components-plain ipv4 v o)
-    (destinations-alike (ipv4 .width) (policy .allowsNoDestination) _ _ originator (routesOf ipv4 (policy .routes))
-    (destination-alike (components ipv4 v) (each-octets ipv4 v o) (each-sound ipv4 v)))
+feasible-plain family fits policy v originator o =
+    rw (components-plain family v o)
+    (destinations-alike (family .width) (policy .allowsNoDestination) _ _ originator (routesOf family (policy .routes))
+    (destination-alike family fits (components family v) (each-octets family v o) (each-sound family v)))
 
 -- values of one plain spelling, which are one rule, are judged alike
-pub feasible-alone : (policy : Policy) (v w : List ℕ) (originator : ℕ) → Octets v → Octets w → plain ipv4 v ≡ plain ipv4 w
-    → isFeasible policy v originator ≡ isFeasible policy w originator
-feasible-alone policy v w originator o q e =
-    sym (feasible-plain policy v originator o) ∙ ap (λ (x : List ℕ). isFeasible policy x originator) e
-    ∙ feasible-plain policy w originator q
+pub feasible-alone : (family : Family) → Fits family → (policy : Policy) (v w : List ℕ) (originator : ℕ) → Octets v → Octets w → plain family v ≡ plain family w
+    → isFeasible family policy v originator ≡ isFeasible family policy w originator
+feasible-alone family fits policy v w originator o q e =
+    sym (feasible-plain family fits policy v originator o) ∙ ap (λ (x : List ℕ). isFeasible family policy x originator) e
+    ∙ feasible-plain family fits policy w originator q

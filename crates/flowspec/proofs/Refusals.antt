@@ -13,16 +13,16 @@ use Rattle.octets.proofs.Facts.{Octets}
 use Rattle.sorted.specs.Table.{lookup}
 use Rattle.sorted.proofs.SplitLaws.{front, rear, skip, front-rear, held-split, remove-split}
 use Rattle.sorted.proofs.MemberLaws.{every-in, found-in, in-found}
+use Rattle.rule.specs.declared.Family.{Family}
 use Rattle.rule.specs.declared.Checked.the-variants.{Accepted}
 use Rattle.rule.specs.declared.Reading.{Reading}
 use Rattle.rule.specs.declared.Reading.the-variants.{Rule, Refused as NotRead}
-use Rattle.rule.specs.Family.{ipv4}
+use Rattle.rule.specs.Family.{Fits}
 use Rattle.rule.specs.Plain.{plain}
 use Rattle.rule.specs.Value.{checkValue}
 use Rattle.rule.specs.Reading.{fieldSize, fieldLength, valueOf, valueIn, checkRule, oneRule}
 use Rattle.rule.proofs.ClearedLaws.{octets-plain, plain-again}
 use Rattle.rule.proofs.SpellingLaws.{check-plain}
-use Rattle.rule.proofs.FamilyLaws.{ipv4-fits}
 use Rattle.rule.proofs.ReadingLaws.{one-read, one-refused}
 use Rattle.order.specs.Key.{RuleKey, keysOf, keyOrder}
 use Rattle.order.proofs.KeyLaws.{key-order, keys-only}
@@ -57,46 +57,46 @@ Keeps t o = (number place : ℕ) → o .answer ≡ Refused number place → o .t
 abbrev KeepsButAt8 : List ℕ → Outcome → Type 0
 KeepsButAt8 t o = (number place : ℕ) → o .answer ≡ Refused number place → (number ≡ 8 → ⊥) → o .table ≡ t
 
-changed : (t : List ℕ) (e : Entry) (feasible : Bool) → KeepsButAt8 t (outcome (announced ipv4 t e feasible))
+changed : (family : Family) (t : List ℕ) (e : Entry) (feasible : Bool) → KeepsButAt8 t (outcome (announced family t e feasible))
 unfolding changeOf
-changed t e true number place h n =
-    by-test (hasRoom ipv4 t e) (λ r. let z : Done ≡ Refused number place = rw r at h in apart (cc)) (λ r. rw r)
-changed t e false number place h n =
+changed family t e true number place h n =
+    by-test (hasRoom family t e) (λ r. let z : Done ≡ Refused number place = rw r at h in apart (cc)) (λ r. rw r)
+changed family t e false number place h n =
     let z : Refused 8 0 ≡ Refused number place = h in
     let eight : number ≡ 8 = cc in
     absurd (n eight)
 
-withdrew : (t : List ℕ) (k : RuleKey) → Keeps t (outcome (withdrawn ipv4 t k))
+withdrew : (family : Family) (t : List ℕ) (k : RuleKey) → Keeps t (outcome (withdrawn family t k))
 unfolding changeOf withdrawn
-withdrew t k number place h =
-    by-test (holds ipv4 t k) (λ r. let z : Done ≡ Refused number place = rw r at h in apart (cc)) (λ r. rw r)
+withdrew family t k number place h =
+    by-test (holds family t k) (λ r. let z : Done ≡ Refused number place = rw r at h in apart (cc)) (λ r. rw r)
 
-announce-keeps : (policy : Policy) (a : Announcement) (t : List ℕ) → KeepsButAt8 t (announcing policy a t)
+announce-keeps : (family : Family) (policy : Policy) (a : Announcement) (t : List ℕ) → KeepsButAt8 t (announcing family policy a t)
 unfolding announcing
-announce-keeps policy a t =
-    by-test (soundTable ipv4 t) (λ s. rw s (go (asked policy a))) (λ s. rw s (λ number place h n. refl))
+announce-keeps family policy a t =
+    by-test (soundTable family t) (λ s. rw s (go (asked family policy a))) (λ s. rw s (λ number place h n. refl))
   where
-    go : (r : Request) → KeepsButAt8 t (announcedBy a t r)
-    go (Announce start size actions feasible) = changed t (announcedEntry a start size actions) feasible
+    go : (r : Request) → KeepsButAt8 t (announcedBy family a t r)
+    go (Announce start size actions feasible) = changed family t (announcedEntry family a start size actions) feasible
     go (NotAsked number place) = λ m p h n. refl
 
-withdraw-keeps : (rule t : List ℕ) → Keeps t (withdrawing rule t)
+withdraw-keeps : (family : Family) (rule t : List ℕ) → Keeps t (withdrawing family rule t)
 unfolding withdrawing
-withdraw-keeps rule t = by-test (soundTable ipv4 t) (λ s. rw s (go (oneRule ipv4 rule))) (λ s. rw s (λ number place h. refl))
+withdraw-keeps family rule t = by-test (soundTable family t) (λ s. rw s (go (oneRule family rule))) (λ s. rw s (λ number place h. refl))
   where
-    go : (r : Reading) → Keeps t (withdrawnBy t rule r)
-    go (Rule start size) = withdrew t (keysOf ipv4 (plain ipv4 (valueOf rule start size)))
+    go : (r : Reading) → Keeps t (withdrawnBy family t rule r)
+    go (Rule start size) = withdrew family t (keysOf family (plain family (valueOf rule start size)))
     go (NotRead number place) = λ m p h. refl
 
 -- **No refusal but 8 changes an octet**, of the calls by their promises.
-pub refused-announcement : (policy : Policy) (a : Announcement) (t : List ℕ) (answer : Change) (exit : List ℕ) (kept : List (List ℕ))
-    → Announces policy a t answer exit kept → (number place : ℕ) → answer ≡ Refused number place → (number ≡ 8 → ⊥) → exit ≡ t
-refused-announcement policy a t answer exit kept p number place e n =
-    p .leaves ∙ announce-keeps policy a t number place (sym (p .is) ∙ e) n
+pub refused-announcement : (family : Family) (policy : Policy) (a : Announcement) (t : List ℕ) (answer : Change) (exit : List ℕ) (kept : List (List ℕ))
+    → Announces family policy a t answer exit kept → (number place : ℕ) → answer ≡ Refused number place → (number ≡ 8 → ⊥) → exit ≡ t
+refused-announcement family policy a t answer exit kept p number place e n =
+    p .leaves ∙ announce-keeps family policy a t number place (sym (p .is) ∙ e) n
 
-pub refused-withdrawal : (rule t : List ℕ) (answer : Change) (exit : List ℕ) (kept : List (List ℕ)) → Withdraws rule t answer exit kept
+pub refused-withdrawal : (family : Family) (rule t : List ℕ) (answer : Change) (exit : List ℕ) (kept : List (List ℕ)) → Withdraws family rule t answer exit kept
     → (number place : ℕ) → answer ≡ Refused number place → exit ≡ t
-refused-withdrawal rule t answer exit kept p number place e = p .leaves ∙ withdraw-keeps rule t number place (sym (p .is) ∙ e)
+refused-withdrawal family rule t answer exit kept p number place e = p .leaves ∙ withdraw-keeps family rule t number place (sym (p .is) ∙ e)
 
 -- ---- 8 ----
 
@@ -115,76 +115,76 @@ pub record Without (t value exit : List ℕ) : Type 0 where
   pub is : exit ≡ tableOf (length t) (before ++ behind)
 
 -- what taking a value's rule out of a table leaves
-module _ (t : List ℕ) (octets : Octets t) (sound : soundTable ipv4 t ≡ true) (v : List ℕ) (o : Octets v) (ok : checkValue ipv4 v ≡ Accepted) where
+module _ (family : Family) (fits : Fits family) (t : List ℕ) (octets : Octets t) (sound : soundTable family t ≡ true) (v : List ℕ) (o : Octets v) (ok : checkValue family v ≡ Accepted) where
   abbrev key : RuleKey
-  key = keysOf ipv4 (plain ipv4 v)
+  key = keysOf family (plain family v)
 
-  taken-out : (NotHeld t (plain ipv4 v) × (removed ipv4 t key ≡ t)) ⊎ Without t (plain ipv4 v) (removed ipv4 t key)
+  taken-out : (NotHeld t (plain family v) × (removed family t key ≡ t)) ⊎ Without t (plain family v) (removed family t key)
   unfolding holds removed
-  taken-out = go (lookup keyOrder (entryKey ipv4) key (entries t)) refl
+  taken-out = go (lookup keyOrder (entryKey family) key (entries t)) refl
     where
-      here : Encodes ipv4 t (entries t)
-      here = encoded ipv4 t octets sound
+      here : Encodes family t (entries t)
+      here = encoded family t octets sound
 
-      absent : lookup keyOrder (entryKey ipv4) key (entries t) ≡ none → NotHeld t (plain ipv4 v)
+      absent : lookup keyOrder (entryKey family) key (entries t) ≡ none → NotHeld t (plain family v)
       absent e x m q =
-          let f = in-found keyOrder (entryKey ipv4) key-order x (entries t) (here .rising) m in
+          let f = in-found keyOrder (entryKey family) key-order x (entries t) (here .rising) m in
           let z : some x ≡ none = sym f ∙ rw q e in
           apart (cc)
 
-      go : (l : Option Entry) → lookup keyOrder (entryKey ipv4) key (entries t) ≡ l
-          → (NotHeld t (plain ipv4 v) × (removed ipv4 t key ≡ t)) ⊎ Without t (plain ipv4 v) (removed ipv4 t key)
-      go none e = inl (absent e, removed-none ipv4 t octets sound key (rw e))
+      go : (l : Option Entry) → lookup keyOrder (entryKey family) key (entries t) ≡ l
+          → (NotHeld t (plain family v) × (removed family t key ≡ t)) ⊎ Without t (plain family v) (removed family t key)
+      go none e = inl (absent e, removed-none family t octets sound key (rw e))
       go (some y) e =
-          let found = found-in keyOrder (entryKey ipv4) key-order key y (entries t) e in
-          let old = is-possible ipv4 y (every-in (possible ipv4) (entries t) (here .each) y (found .0)) .value in
-          let split = held-split keyOrder (entryKey ipv4) key (entries t) y e in
-          let all : entries t ≡ front keyOrder (entryKey ipv4) key (entries t) ++ y ∷ skip keyOrder (entryKey ipv4) key (rear keyOrder (entryKey ipv4) key (entries t))
-          = sym (rw (← split) (front-rear keyOrder (entryKey ipv4) key (entries t))) in
-          let same = keys-only ipv4 ipv4-fits (y .value) (plain ipv4 v) (value-octets ipv4 t (entries t) here key y e octets) (octets-plain ipv4 v o) (old .accepted) (check-plain ipv4 v o ∙ ok) (found .1) in
+          let found = found-in keyOrder (entryKey family) key-order key y (entries t) e in
+          let old = is-possible family y (every-in (possible family) (entries t) (here .each) y (found .0)) .value in
+          let split = held-split keyOrder (entryKey family) key (entries t) y e in
+          let all : entries t ≡ front keyOrder (entryKey family) key (entries t) ++ y ∷ skip keyOrder (entryKey family) key (rear keyOrder (entryKey family) key (entries t))
+          = sym (rw (← split) (front-rear keyOrder (entryKey family) key (entries t))) in
+          let same = keys-only family fits (y .value) (plain family v) (value-octets family t (entries t) here key y e octets) (octets-plain family v o) (old .accepted) (check-plain family v o ∙ ok) (found .1) in
           inr (record {
-            before = front keyOrder (entryKey ipv4) key (entries t);
+            before = front keyOrder (entryKey family) key (entries t);
             held = y;
-            behind = skip keyOrder (entryKey ipv4) key (rear keyOrder (entryKey ipv4) key (entries t));
-            equal = sym (old .spelled) ∙ same ∙ plain-again ipv4 v o;
+            behind = skip keyOrder (entryKey family) key (rear keyOrder (entryKey family) key (entries t));
+            equal = sym (old .spelled) ∙ same ∙ plain-again family v o;
             had = all;
             was = here .is ∙ ap (tableOf (length t)) all;
-            is = ap (tableOf (length t)) (remove-split keyOrder (entryKey ipv4) key (entries t));
+            is = ap (tableOf (length t)) (remove-split keyOrder (entryKey family) key (entries t));
           })
 
 -- a rule that is accepted and ends there is read
-one-rule-is : (rule : List ℕ) → Accepts (checkRule ipv4 rule) → Yes (endsThere rule) → oneRule ipv4 rule ≡ Rule (fieldSize rule) (fieldLength rule)
-one-rule-is rule accepts ends = go (oneRule ipv4 rule) refl
+one-rule-is : (family : Family) (rule : List ℕ) → Accepts (checkRule family rule) → Yes (endsThere rule) → oneRule family rule ≡ Rule (fieldSize rule) (fieldLength rule)
+one-rule-is family rule accepts ends = go (oneRule family rule) refl
   where
-    go : (r : Reading) → oneRule ipv4 rule ≡ r → oneRule ipv4 rule ≡ Rule (fieldSize rule) (fieldLength rule)
-    go (Rule start size) e = let r = one-read ipv4 rule start size e in e ∙ rw (r .field, r .tells)
+    go : (r : Reading) → oneRule family rule ≡ r → oneRule family rule ≡ Rule (fieldSize rule) (fieldLength rule)
+    go (Rule start size) e = let r = one-read family rule start size e in e ∙ rw (r .field, r .tells)
     go (NotRead number place) e =
-        let first = rw e at (read-first rule [] []) in
+        let first = rw e at (read-first family rule [] []) in
         let told : done [] ≡ refused number place 0 = rw (accepts, ends) at first in
         let z : 0 ≡ number = ap (λ (x : Told). x .number) told in
-        let listed = one-refused ipv4 rule number place e in
+        let listed = one-refused family rule number place e in
         absurd (omega arith)
 
-module _ (policy : Policy) (a : Announcement) (t : List ℕ) where
+module _ (family : Family) (policy : Policy) (a : Announcement) (t : List ℕ) where
   -- what 8 leaves is the table without the rule
-  eight-leaves : SoundBoth policy t (OneRule (a .rule) (Yes (isSound (actionsOf (a .communities))) × No (isFeasible policy (valueIn (a .rule)) (a .originator))))
-      → announcing policy a t .table ≡ removed ipv4 t (keysOf ipv4 (plain ipv4 (valueIn (a .rule))))
+  eight-leaves : SoundBoth family policy t (OneRule family (a .rule) (Yes (isSound (actionsOf (a .communities))) × No (isFeasible family policy (valueIn (a .rule)) (a .originator))))
+      → announcing family policy a t .table ≡ removed family t (keysOf family (plain family (valueIn (a .rule))))
   unfolding announcing asked readWithRoutes
   eight-leaves (sound, (routes, (accepts, (ends, (acts, not))))) =
-      rw (sound, routes, one-rule-is (a .rule) accepts ends) (go (actionsOf (a .communities)) acts)
+      rw (sound, routes, one-rule-is family (a .rule) accepts ends) (go (actionsOf (a .communities)) acts)
     where
       go : (c : ActionsReading) → isSound c ≡ true
-          → announcedBy a t (askedBy policy a (Rule (fieldSize (a .rule)) (fieldLength (a .rule))) c) .table ≡ removed ipv4 t (keysOf ipv4 (plain ipv4 (valueIn (a .rule))))
+          → announcedBy family a t (askedBy family policy a (Rule (fieldSize (a .rule)) (fieldLength (a .rule))) c) .table ≡ removed family t (keysOf family (plain family (valueIn (a .rule))))
       go (Read actions) e = rw not
       go Unsound e = apart (cc)
 
   -- **8 changes nothing else.** 01: "Refusals change nothing, except that 8 removes a held equal rule": a rule that is not held leaves the table as
   -- it was, and a held one leaves it exactly without that record.
-  pub eight-removes : Octets t → Octets (a .rule) → (answer : Change) (exit : List ℕ) (kept : List (List ℕ)) → Announces policy a t answer exit kept
+  pub eight-removes : Fits family → Octets t → Octets (a .rule) → (answer : Change) (exit : List ℕ) (kept : List (List ℕ)) → Announces family policy a t answer exit kept
       → changeTold answer .number ≡ 8
-      → (NotHeld t (plain ipv4 (valueIn (a .rule))) × (exit ≡ t)) ⊎ Without t (plain ipv4 (valueIn (a .rule))) exit
-  eight-removes octets o answer exit kept p e =
+      → (NotHeld t (plain family (valueIn (a .rule))) × (exit ≡ t)) ⊎ Without t (plain family (valueIn (a .rule))) exit
+  eight-removes fits octets o answer exit kept p e =
       let passed = announce-numbers p .eight .0 e in
-      let rule = one-rule-is (a .rule) (passed .1 .1 .0) (passed .1 .1 .1 .0) in
-      let accepted = one-read ipv4 (a .rule) (fieldSize (a .rule)) (fieldLength (a .rule)) rule .accepted in
-      rw (p .leaves, eight-leaves passed) (taken-out t octets (passed .0) (valueIn (a .rule)) (octets-value (a .rule) (fieldSize (a .rule)) (fieldLength (a .rule)) o) accepted)
+      let rule = one-rule-is family (a .rule) (passed .1 .1 .0) (passed .1 .1 .1 .0) in
+      let accepted = one-read family (a .rule) (fieldSize (a .rule)) (fieldLength (a .rule)) rule .accepted in
+      rw (p .leaves, eight-leaves passed) (taken-out family fits t octets (passed .0) (valueIn (a .rule)) (octets-value (a .rule) (fieldSize (a .rule)) (fieldLength (a .rule)) o) accepted)

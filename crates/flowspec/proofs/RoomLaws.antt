@@ -7,11 +7,11 @@ use mathlib.Core.List.{List}
 use Prim.Native.Nat.{ℕ}
 use Rattle.octets.proofs.Cases.{by-test, apart}
 use Rattle.octets.proofs.Facts.{Octets}
+use Rattle.rule.specs.declared.Family.{Family}
 use Rattle.rule.specs.declared.Reading.the-variants.{Rule}
-use Rattle.rule.specs.Family.{ipv4}
+use Rattle.rule.specs.Family.{Fits}
 use Rattle.rule.specs.Plain.{plain}
 use Rattle.rule.specs.Reading.{valueOf, oneRule}
-use Rattle.rule.proofs.FamilyLaws.{ipv4-fits}
 use Rattle.rule.proofs.ReadingLaws.{one-read}
 use Rattle.rule.proofs.ClearedLaws.{octets-plain}
 use Rattle.order.specs.Key.{keysOf}
@@ -35,26 +35,26 @@ use Rattle.flowspec.proofs.AskLaws.{octets-value}
 abbrev Not11 : Change → Type 0
 Not11 answer = (place : ℕ) → answer ≡ Refused 11 place → ⊥
 
-module _ (policy : Policy) (a : Announcement) (t : List ℕ) (o : Octets t) (octets : Octets (a .rule))
-    (start size : ℕ) (read : oneRule ipv4 (a .rule) ≡ Rule start size) (held : holds ipv4 t (keysOf ipv4 (plain ipv4 (valueOf (a .rule) start size))) ≡ true) where
-  pub held-not-11 : Not11 (announcing policy a t .answer)
+module _ (family : Family) (fits : Fits family) (policy : Policy) (a : Announcement) (t : List ℕ) (o : Octets t) (octets : Octets (a .rule))
+    (start size : ℕ) (read : oneRule family (a .rule) ≡ Rule start size) (held : holds family t (keysOf family (plain family (valueOf (a .rule) start size))) ≡ true) where
+  pub held-not-11 : Not11 (announcing family policy a t .answer)
   unfolding announcing asked readWithRoutes changeOf
   held-not-11 =
-      by-test (soundTable ipv4 t)
-      (λ sound. rw sound (by-test (soundRoutes ipv4 (policy .routes)) (λ r. rw (readWithRoutes, r, read) (go sound (actionsOf (a .communities)))) (λ r. rw (readWithRoutes, r) (λ place e. apart (cc)))))
+      by-test (soundTable family t)
+      (λ sound. rw sound (by-test (soundRoutes family (policy .routes)) (λ r. rw (readWithRoutes, r, read) (go sound (actionsOf (a .communities)))) (λ r. rw (readWithRoutes, r) (λ place e. apart (cc)))))
       (λ sound. rw sound (λ place e. apart (cc)))
     where
-      go : soundTable ipv4 t ≡ true → (acts : ActionsReading) → Not11 (announcedBy a t (askedBy policy a (Rule start size) acts) .answer)
+      go : soundTable family t ≡ true → (acts : ActionsReading) → Not11 (announcedBy family a t (askedBy family policy a (Rule start size) acts) .answer)
       go sound Unsound = λ place e. apart (cc)
       go sound (Read actions) =
           let v = octets-value (a .rule) start size octets in
-          let done = held-is-done ipv4 t o sound (announcedEntry a start size actions) ipv4-fits
-          (octets-plain ipv4 (valueOf (a .rule) start size) v) (plain-held ipv4 (valueOf (a .rule) start size) v (one-read ipv4 (a .rule) start size read .accepted)) held in
-          by-test (isFeasible policy (valueOf (a .rule) start size) (a .originator))
+          let done = held-is-done family t o sound (announcedEntry family a start size actions) fits
+          (octets-plain family (valueOf (a .rule) start size) v) (plain-held family (valueOf (a .rule) start size) v (one-read family (a .rule) start size read .accepted)) held in
+          by-test (isFeasible family policy (valueOf (a .rule) start size) (a .originator))
           (λ f. rw (f, done) (λ place e. apart (cc)))
           (λ f. rw f (λ place e. apart (cc)))
 
   -- the same of the call, by its promise
-  pub held-announcement : (answer : Change) (exit : List ℕ) (kept : List (List ℕ)) → Announces policy a t answer exit kept
+  pub held-announcement : (answer : Change) (exit : List ℕ) (kept : List (List ℕ)) → Announces family policy a t answer exit kept
       → Not11 answer
   held-announcement answer exit kept promise place e = held-not-11 place (sym (promise .is) ∙ e)

@@ -1,7 +1,7 @@
 -- What each answer says is what 01's checks come to, in their order: one law for each call. Assumes nothing.
 use mathlib.Core.Path.{_≡_, refl, sym, ap, _∙_}
 use mathlib.Core.List.{List, [], _∷_}
-use Prim.Native.Nat.{ℕ, _-_, _≤_, Ordering, Ordering·lt, Ordering·eq, Ordering·gt}
+use Prim.Native.Nat.{ℕ, _≤_, Ordering, Ordering·lt, Ordering·eq, Ordering·gt}
 use native.Mathlib.Omega.{arith}
 use lib.Dec.{leb, ltb, eqb}
 use lib.ListN.{length}
@@ -9,11 +9,11 @@ use borrow.Author.Tests.{le-leb, lt-leb, ltb-true, ltb-false, eqb-true, eqb-fals
 use Rattle.octets.specs.Order.{ordered}
 use Rattle.octets.proofs.Cases.{by-test}
 use Rattle.sorted.specs.Table.{byOrder}
+use Rattle.rule.specs.declared.Family.{Family}
 use Rattle.rule.specs.declared.Checked.{Checked}
 use Rattle.rule.specs.declared.Checked.the-variants.{Accepted, Refused as RefusedValue}
 use Rattle.rule.specs.declared.Reading.{Reading}
 use Rattle.rule.specs.declared.Reading.the-variants.{Rule, Refused as NotRead}
-use Rattle.rule.specs.Family.{ipv4}
 use Rattle.rule.specs.Plain.{plain}
 use Rattle.rule.specs.Value.{checkValue}
 use Rattle.rule.specs.Reading.{fieldSize, fieldLength, readAs, ruleEnd, valueIn, checkRule, alone, firstRule, oneRule}
@@ -38,10 +38,10 @@ use Rattle.flowspec.specs.declared.Looked.the-variants.{Judged}
 use Rattle.flowspec.specs.Compare.{comparisonOf, compareRead, compareRules}
 use Rattle.flowspec.specs.Input.{Announcement, Policy}
 use Rattle.flowspec.specs.Feasibility.{readWithRoutes, isFeasible, judgeRead, judgement}
-use Rattle.flowspec.specs.Announce.{changeOf, askedBy, asked, entryFor, announcedBy, announcing, withdrawnBy, withdrawing}
-use Rattle.flowspec.specs.Look.{seen, noHead, lookingUp, firstMatch, matchPlace}
+use Rattle.flowspec.specs.Announce.{changeOf, askedBy, asked, announcedEntry, announcedBy, announcing, withdrawnBy, withdrawing}
+use Rattle.flowspec.specs.Look.{seen, lookingUp, firstMatch, matchPlace}
 use Rattle.flowspec.specs.Told.{Told, done, refused, readingTold, writingTold, comparisonTold, feasibilityTold, actionsTold, changeTold, verdictTold, lookupTold, matchPlaceTold}
-use Rattle.flowspec.specs.Checks.{judgeChecks, announceChecks, Check, check, oneToSeven, told, endsThere, readChecks, readValues, writeChecks, writeValues, compareChecks, compareValues, actionsChecks, actionsValues, withdrawChecks, lookupChecks, lookupValues, firstMatchValues, isSound, actionsIn}
+use Rattle.flowspec.specs.Checks.{judgeChecks, announceChecks, Check, check, oneToSeven, told, ruleEnd, valueIn, checkRule, endsThere, readChecks, readValues, writeChecks, writeValues, compareChecks, compareValues, actionsChecks, actionsValues, withdrawChecks, lookupChecks, lookupValues, firstMatchValues, isSound, actionsRead}
 
 -- ---- reading ----
 
@@ -51,13 +51,13 @@ afterReading (Rule start size) many next = next
 afterReading (NotRead number place) many next = refused number place many
 
 -- 1 to 7 and 15 are the refusals of reading, whatever is checked next
-module _ (rule : List ℕ) (cs : List Check) (values : List ℕ) where
-  pub read-first : told (oneToSeven (checkRule ipv4 rule) ∷ check (endsThere rule) 15 ∷ cs) values
-      ≡ afterReading (oneRule ipv4 rule) (length values) (told cs values)
+module _ (family : Family) (rule : List ℕ) (cs : List Check) (values : List ℕ) where
+  pub read-first : told (oneToSeven (checkRule family rule) ∷ check (endsThere rule) 15 ∷ cs) values
+      ≡ afterReading (oneRule family rule) (length values) (told cs values)
   unfolding oneRule firstRule
   read-first =
       by-test (ltb (length rule) (ruleEnd rule)) (λ t. rw t)
-      (λ t. let h = ltb-false (length rule) (ruleEnd rule) t in rw t (go (omega arith) (checkValue ipv4 (valueIn rule))))
+      (λ t. let h = ltb-false (length rule) (ruleEnd rule) t in rw t (go (omega arith) (checkValue family (valueIn rule))))
     where
       go : ruleEnd rule ≤ length rule → (c : Checked) → told (oneToSeven c ∷ check (endsThere rule) 15 ∷ cs) values
           ≡ afterReading (alone (length rule) (readAs (fieldSize rule) (fieldLength rule) c)) (length values) (told cs values)
@@ -68,134 +68,134 @@ module _ (rule : List ℕ) (cs : List Check) (values : List ℕ) where
       go fits (RefusedValue number place) = refl
 
 -- a rule that was read starts behind its length field, and is as long as that tells
-read-value : (rule : List ℕ) (start size : ℕ) → oneRule ipv4 rule ≡ Rule start size → (start ≡ fieldSize rule) × (size ≡ fieldLength rule)
-read-value rule start size e = let r = one-read ipv4 rule start size e in (r .field, r .tells)
+read-value : (family : Family) (rule : List ℕ) (start size : ℕ) → oneRule family rule ≡ Rule start size → (start ≡ fieldSize rule) × (size ≡ fieldLength rule)
+read-value family rule start size e = let r = one-read family rule start size e in (r .field, r .tells)
 
-pub read-tells : (rule : List ℕ) → readingTold (oneRule ipv4 rule) ≡ told (readChecks rule) (readValues rule)
-read-tells rule = go (oneRule ipv4 rule) refl ∙ sym (read-first rule [] (readValues rule))
+pub read-tells : (family : Family) (rule : List ℕ) → readingTold (oneRule family rule) ≡ told (readChecks family rule) (readValues rule)
+read-tells family rule = go (oneRule family rule) refl ∙ sym (read-first family rule [] (readValues rule))
   where
-    go : (r : Reading) → oneRule ipv4 rule ≡ r → readingTold r ≡ afterReading r 2 (done (readValues rule))
-    go (Rule start size) e = let v = read-value rule start size e in rw (v .0, v .1)
+    go : (r : Reading) → oneRule family rule ≡ r → readingTold r ≡ afterReading r 2 (done (readValues rule))
+    go (Rule start size) e = let v = read-value family rule start size e in rw (v .0, v .1)
     go (NotRead number place) e = refl
 
 -- ---- writing ----
 
-pub write-tells : (value buffer : List ℕ) → writingTold (writing ipv4 value (length buffer)) ≡ told (writeChecks value buffer) (writeValues value)
+pub write-tells : (family : Family) (value buffer : List ℕ) → writingTold (writing family value (length buffer)) ≡ told (writeChecks family value buffer) (writeValues family value)
 unfolding writing
-write-tells value buffer = go (checkValue ipv4 value)
+write-tells family value buffer = go (checkValue family value)
   where
-    go : (c : Checked) → writingTold (intoRoom ipv4 value (length buffer) c)
-        ≡ told (oneToSeven c ∷ check (leb (length (ruleFor ipv4 value)) (length buffer)) 16 ∷ []) (writeValues value)
+    go : (c : Checked) → writingTold (intoRoom family value (length buffer) c)
+        ≡ told (oneToSeven c ∷ check (leb (length (ruleFor family value)) (length buffer)) 16 ∷ []) (writeValues family value)
     go Accepted =
-        by-test (ltb (length buffer) (length (ruleFor ipv4 value)))
-        (λ t. rw (t, lt-leb (length (ruleFor ipv4 value)) (length buffer) (ltb-true (length buffer) (length (ruleFor ipv4 value)) t)))
-        (λ t. rw (t, le-leb (length (ruleFor ipv4 value)) (length buffer) (ltb-false (length buffer) (length (ruleFor ipv4 value)) t)))
+        by-test (ltb (length buffer) (length (ruleFor family value)))
+        (λ t. rw (t, lt-leb (length (ruleFor family value)) (length buffer) (ltb-true (length buffer) (length (ruleFor family value)) t)))
+        (λ t. rw (t, le-leb (length (ruleFor family value)) (length buffer) (ltb-false (length buffer) (length (ruleFor family value)) t)))
     go (RefusedValue number place) = refl
 
 -- ---- comparing ----
 
-pub compare-tells : (a b : List ℕ) → comparisonTold (compareRules a b) ≡ told (compareChecks a b) (compareValues a b)
+pub compare-tells : (family : Family) (a b : List ℕ) → comparisonTold (compareRules family a b) ≡ told (compareChecks family a b) (compareValues family a b)
 unfolding compareRules
-compare-tells a b =
-    go (oneRule ipv4 a) refl (oneRule ipv4 b) refl
-    ∙ sym (read-first a (oneToSeven (checkRule ipv4 b) ∷ check (endsThere b) 15 ∷ []) (compareValues a b)
-    ∙ ap (afterReading (oneRule ipv4 a) 1) (read-first b [] (compareValues a b)))
+compare-tells family a b =
+    go (oneRule family a) refl (oneRule family b) refl
+    ∙ sym (read-first family a (oneToSeven (checkRule family b) ∷ check (endsThere b) 15 ∷ []) (compareValues family a b)
+    ∙ ap (afterReading (oneRule family a) 1) (read-first family b [] (compareValues family a b)))
   where
     order : (o : Ordering) → comparisonTold (comparisonOf (ordered o)) ≡ done (byOrder o 1 3 2 ∷ [])
     order Ordering·lt = refl
     order Ordering·eq = refl
     order Ordering·gt = refl
 
-    go : (r : Reading) → oneRule ipv4 a ≡ r → (q : Reading) → oneRule ipv4 b ≡ q
-        → comparisonTold (compareRead a r b q) ≡ afterReading r 1 (afterReading q 1 (done (compareValues a b)))
+    go : (r : Reading) → oneRule family a ≡ r → (q : Reading) → oneRule family b ≡ q
+        → comparisonTold (compareRead family a r b q) ≡ afterReading r 1 (afterReading q 1 (done (compareValues family a b)))
     go (NotRead number place) e q f = refl
     go (Rule start size) e (NotRead number place) f = refl
     go (Rule start size) e (Rule begin extent) f =
-        let v = read-value a start size e in
-        let w = read-value b begin extent f in
-        rw (v .0, v .1, w .0, w .1) (order (precedence ipv4 (valueIn a) (valueIn b)))
+        let v = read-value family a start size e in
+        let w = read-value family b begin extent f in
+        rw (v .0, v .1, w .0, w .1) (order (precedence family (valueIn a) (valueIn b)))
 
 -- ---- actions ----
 
 pub actions-tells : (communities : List ℕ) → actionsTold (actionsOf communities) ≡ told (actionsChecks communities) (actionsValues communities)
 actions-tells communities = go (actionsOf communities)
   where
-    go : (a : ActionsReading) → actionsTold a ≡ told (check (isSound a) 13 ∷ []) (valuesOf (actionsIn a))
+    go : (a : ActionsReading) → actionsTold a ≡ told (check (isSound a) 13 ∷ []) (valuesOf (actionsRead a))
     go (Read actions) = refl
     go Unsound = refl
 
 -- ---- judging ----
 
-pub judge-tells : (policy : Policy) (rule : List ℕ) (originator : ℕ)
-    → feasibilityTold (judgement policy rule originator) ≡ told (judgeChecks policy rule originator) []
+pub judge-tells : (family : Family) (policy : Policy) (rule : List ℕ) (originator : ℕ)
+    → feasibilityTold (judgement family policy rule originator) ≡ told (judgeChecks family policy rule originator) []
 unfolding judgement readWithRoutes
-judge-tells policy rule originator =
-    by-test (soundRoutes ipv4 (policy .routes))
-    (λ s. rw s (go (oneRule ipv4 rule) refl ∙ sym (read-first rule (check (isFeasible policy (valueIn rule) originator) 8 ∷ []) [])))
+judge-tells family policy rule originator =
+    by-test (soundRoutes family (policy .routes))
+    (λ s. rw s (go (oneRule family rule) refl ∙ sym (read-first family rule (check (isFeasible family policy (valueIn rule) originator) 8 ∷ []) [])))
     (λ s. rw s)
   where
-    go : (r : Reading) → oneRule ipv4 rule ≡ r → feasibilityTold (judgeRead policy rule originator r)
-        ≡ afterReading r 0 (told (check (isFeasible policy (valueIn rule) originator) 8 ∷ []) [])
+    go : (r : Reading) → oneRule family rule ≡ r → feasibilityTold (judgeRead family policy rule originator r)
+        ≡ afterReading r 0 (told (check (isFeasible family policy (valueIn rule) originator) 8 ∷ []) [])
     go (NotRead number place) e = refl
     go (Rule start size) e =
-        let v = read-value rule start size e in
-        rw (v .0, v .1) (by-test (isFeasible policy (valueIn rule) originator) (λ h. rw h) (λ h. rw h))
+        let v = read-value family rule start size e in
+        rw (v .0, v .1) (by-test (isFeasible family policy (valueIn rule) originator) (λ h. rw h) (λ h. rw h))
 
 -- ---- announcing ----
 
-module _ (policy : Policy) (a : Announcement) (t : List ℕ) where
+module _ (family : Family) (policy : Policy) (a : Announcement) (t : List ℕ) where
   -- what is checked behind the rule
   abbrev behindRule : ActionsReading → List Check
   behindRule c =
       check (isSound c) 13
-      ∷ check (isFeasible policy (valueIn (a .rule)) (a .originator)) 8
-      ∷ check (hasRoom ipv4 t (entryFor (a .originator) (actionsIn c) (valueIn (a .rule)))) 11
+      ∷ check (isFeasible family policy (valueIn (a .rule)) (a .originator)) 8
+      ∷ check (hasRoom family t (announcedEntry family a (fieldSize (a .rule)) (fieldLength (a .rule)) (actionsRead c))) 11
       ∷ []
 
-  pub announce-tells : changeTold (announcing policy a t .answer) ≡ told (announceChecks policy a t) []
+  pub announce-tells : changeTold (announcing family policy a t .answer) ≡ told (announceChecks family policy a t) []
   unfolding announcing asked readWithRoutes changeOf
   announce-tells =
-      by-test (soundTable ipv4 t)
-      (λ s. by-test (soundRoutes ipv4 (policy .routes))
-      (λ r. rw (s, r) (go (oneRule ipv4 (a .rule)) refl (actionsOf (a .communities)) ∙ sym (read-first (a .rule) (behindRule (actionsOf (a .communities))) [])))
+      by-test (soundTable family t)
+      (λ s. by-test (soundRoutes family (policy .routes))
+      (λ r. rw (s, r) (go (oneRule family (a .rule)) refl (actionsOf (a .communities)) ∙ sym (read-first family (a .rule) (behindRule (actionsOf (a .communities))) [])))
       (λ r. rw (s, r)))
       (λ s. rw s)
     where
-      go : (r : Reading) → oneRule ipv4 (a .rule) ≡ r → (c : ActionsReading)
-          → changeTold (announcedBy a t (askedBy policy a r c) .answer) ≡ afterReading r 0 (told (behindRule c) [])
+      go : (r : Reading) → oneRule family (a .rule) ≡ r → (c : ActionsReading)
+          → changeTold (announcedBy family a t (askedBy family policy a r c) .answer) ≡ afterReading r 0 (told (behindRule c) [])
       go (NotRead number place) e c = refl
       go (Rule start size) e Unsound = refl
       go (Rule start size) e (Read actions) =
-          let v = read-value (a .rule) start size e in
+          let v = read-value family (a .rule) start size e in
           rw (v .0, v .1)
-          (by-test (isFeasible policy (valueIn (a .rule)) (a .originator))
-          (λ f. by-test (hasRoom ipv4 t (entryFor (a .originator) actions (valueIn (a .rule)))) (λ h. rw (f, h)) (λ h. rw (f, h)))
+          (by-test (isFeasible family policy (valueIn (a .rule)) (a .originator))
+          (λ f. by-test (hasRoom family t (announcedEntry family a (fieldSize (a .rule)) (fieldLength (a .rule)) actions)) (λ h. rw (f, h)) (λ h. rw (f, h)))
           (λ f. rw f))
 
 -- ---- withdrawing ----
 
-pub withdraw-tells : (rule t : List ℕ) → changeTold (withdrawing rule t .answer) ≡ told (withdrawChecks rule t) []
+pub withdraw-tells : (family : Family) (rule t : List ℕ) → changeTold (withdrawing family rule t .answer) ≡ told (withdrawChecks family rule t) []
 unfolding withdrawing withdrawn changeOf
-withdraw-tells rule t =
-    by-test (soundTable ipv4 t)
-    (λ s. rw s (go (oneRule ipv4 rule) refl
-    ∙ sym (read-first rule (check (holds ipv4 t (keysOf ipv4 (plain ipv4 (valueIn rule)))) 14 ∷ []) [])))
+withdraw-tells family rule t =
+    by-test (soundTable family t)
+    (λ s. rw s (go (oneRule family rule) refl
+    ∙ sym (read-first family rule (check (holds family t (keysOf family (plain family (valueIn rule)))) 14 ∷ []) [])))
     (λ s. rw s)
   where
-    go : (r : Reading) → oneRule ipv4 rule ≡ r → changeTold (withdrawnBy t rule r .answer)
-        ≡ afterReading r 0 (told (check (holds ipv4 t (keysOf ipv4 (plain ipv4 (valueIn rule)))) 14 ∷ []) [])
+    go : (r : Reading) → oneRule family rule ≡ r → changeTold (withdrawnBy family t rule r .answer)
+        ≡ afterReading r 0 (told (check (holds family t (keysOf family (plain family (valueIn rule)))) 14 ∷ []) [])
     go (NotRead number place) e = refl
     go (Rule start size) e =
-        let v = read-value rule start size e in
-        rw (v .0, v .1) (by-test (holds ipv4 t (keysOf ipv4 (plain ipv4 (valueIn rule)))) (λ h. rw h) (λ h. rw h))
+        let v = read-value family rule start size e in
+        rw (v .0, v .1) (by-test (holds family t (keysOf family (plain family (valueIn rule)))) (λ h. rw h) (λ h. rw h))
 
 -- ---- looking up ----
 
-pub lookup-tells : (t packet : List ℕ) → lookupTold (lookingUp t packet) ≡ told (lookupChecks t packet) (lookupValues t packet)
+pub lookup-tells : (family : Family) (t packet : List ℕ) → lookupTold (lookingUp family t packet) ≡ told (lookupChecks family t packet) (lookupValues family t packet)
 unfolding lookingUp seen packetOf verdictFor verdictOf mergedOnto flagsOf
-lookup-tells t packet =
-    by-test (soundTable ipv4 t)
-    (λ s. by-test (isUnusable ipv4 packet) (λ u. rw (s, u)) (λ u. rw (s, u) (go (collected (hit ipv4 noHead (fieldsOf ipv4 packet)) (entries t)))))
+lookup-tells family t packet =
+    by-test (soundTable family t)
+    (λ s. by-test (isUnusable family packet) (λ u. rw (s, u)) (λ u. rw (s, u) (go (collected (hit family (fieldsOf family packet)) (entries t)))))
     (λ s. rw s)
   where
     go : (rules : List Entry) → lookupTold (Judged (verdictOf (mergedOnto noActions rules) (length rules)))
@@ -203,13 +203,13 @@ lookup-tells t packet =
     go [] = refl
     go (e ∷ es) = rw (ne-eqb (length (e ∷ es)) 0 (λ z. omega arith))
 
-pub locate-tells : (t packet : List ℕ) → matchPlaceTold (matchPlace t packet) ≡ told (lookupChecks t packet) (firstMatchValues t packet)
+pub locate-tells : (family : Family) (t packet : List ℕ) → matchPlaceTold (matchPlace family t packet) ≡ told (lookupChecks family t packet) (firstMatchValues family t packet)
 unfolding matchPlace lookingUp firstMatch seen packetOf
-locate-tells t packet =
-    by-test (soundTable ipv4 t)
-    (λ s. by-test (isUnusable ipv4 packet) (λ u. rw (s, u)) (λ u. rw (s, u) (go (verdictFor ipv4 noHead (fieldsOf ipv4 packet) (entries t)))))
+locate-tells family t packet =
+    by-test (soundTable family t)
+    (λ s. by-test (isUnusable family packet) (λ u. rw (s, u)) (λ u. rw (s, u) (go (verdictFor family (fieldsOf family packet) (entries t)))))
     (λ s. rw s)
   where
-    go : (v : Verdict) → _≡_ {A = Told} (record { number = verdictTold v .number; place = 0; values = firstMatchValues t packet }) (done (firstMatchValues t packet))
+    go : (v : Verdict) → _≡_ {A = Told} (record { number = verdictTold v .number; place = 0; values = firstMatchValues family t packet }) (done (firstMatchValues family t packet))
     go Unmatched = refl
     go (Matched actions count) = refl

@@ -5,14 +5,12 @@ use Prim.Native.Nat.{ℕ}
 use lib.ListN.{length}
 use Rattle.rule.specs.declared.Family.{Family}
 use Rattle.rule.specs.declared.Writing.{Writing}
-use Rattle.rule.specs.Family.{ipv4}
 use Rattle.rule.specs.Writing.{writing, afterWriting}
 use Rattle.flowspec.specs.Told.{writingTold}
 use Rattle.flowspec.specs.Promise.{WritesOne}
 use Rattle.flowspec.proofs.ToldLaws.{write-tells}
 
-pub writes : (value buffer : List ℕ) (family : Family) → family ≡ ipv4 → (answer : Writing) (exit : List ℕ)
-    → (answer ≡ writing family value (length buffer)) × (exit ≡ afterWriting family value buffer) → WritesOne value buffer answer exit (value ∷ [])
-writes value buffer family four answer exit h =
-    let e : answer ≡ writing ipv4 value (length buffer) = rw (← four) (h .0) in
-    record { is = e; tells = ap writingTold e ∙ write-tells value buffer; leaves = rw (← four) (h .1); keeps = refl }
+pub writes : (family chosen : Family) → chosen ≡ family → (value buffer : List ℕ) (answer : Writing) (exit : List ℕ)
+    → (answer ≡ writing chosen value (length buffer)) × (exit ≡ afterWriting chosen value buffer) → WritesOne family value buffer answer exit (value ∷ [])
+writes family chosen chose value buffer answer exit h =
+    rw (← chose) (record { is = h .0; tells = ap writingTold (h .0) ∙ write-tells chosen value buffer; leaves = h .1; keeps = refl })

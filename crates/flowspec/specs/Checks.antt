@@ -1,14 +1,14 @@
 -- 01's table of refusals as lists: what each call checks, in the order in which 01 names the numbers, and what a call says that goes
 -- through such a list. The first check that does not hold refuses the call.
-use Prim.Native.Nat.{ℕ, _-_}
+use Prim.Native.Nat.{ℕ, _+_}
 use mathlib.Core.Bool.{Bool, true, false, cond, not}
 use mathlib.Core.List.{List, [], _∷_}
 use lib.Dec.{leb}
 use lib.ListN.{length}
 use Rattle.sorted.specs.Table.{byOrder}
+use Rattle.rule.specs.declared.Family.{Family}
 use Rattle.rule.specs.declared.Checked.{Checked}
 use Rattle.rule.specs.declared.Checked.the-variants.{Accepted, Refused}
-use Rattle.rule.specs.Family.{ipv4}
 use Rattle.rule.specs.Plain.{plain}
 use Rattle.rule.specs.Value.{checkValue}
 use Rattle.rule.specs.Reading.{fieldSize, fieldLength, ruleEnd, valueIn, checkRule}
@@ -23,16 +23,14 @@ use Rattle.route.specs.Route.{soundRoutes}
 use Rattle.packet.specs.Header.{isUnusable}
 use Rattle.packet.specs.Packet.{fieldsOf}
 use Rattle.entry.specs.Entry.{Entry}
-use Rattle.table.specs.declared.Place.{Place}
 use Rattle.table.specs.Walk.{entries}
 use Rattle.table.specs.Sound.{soundTable}
 use Rattle.lookup.specs.Lookup.{hit, collected, mergedOnto, firstPlace}
 use Rattle.table.specs.Change.{holds, hasRoom}
 use Rattle.flowspec.specs.Input.{Announcement, Policy}
 use Rattle.flowspec.specs.Feasibility.{isFeasible}
-use Rattle.flowspec.specs.Announce.{entryFor}
-use Rattle.flowspec.specs.Told.{Told, done, refused}
-use Rattle.flowspec.specs.Look.{noHead}
+use Rattle.flowspec.specs.Announce.{announcedEntry}
+use Rattle.flowspec.specs.Told.{Told, done, refused, placeValues}
 
 -- A check: whether it holds, and the number and the place of the refusal where it does not.
 pub record Check : Type 0 where
@@ -55,38 +53,50 @@ abbrev pub told : List Check → List ℕ → Told
 told [] values = done values
 told (c ∷ cs) values = cond (c .holds) (told cs values) (refused (c .number) (c .place) (length values))
 
+-- Where the rule ends that octets begin with: behind its length field and its value.
+abbrev pub ruleEnd : List ℕ → ℕ
+ruleEnd rule = fieldSize rule + fieldLength rule
+
+-- The value of that rule.
+abbrev pub valueIn : List ℕ → List ℕ
+valueIn rule = valueOf rule (fieldSize rule) (fieldLength rule)
+
+-- 1 where the "length field or value runs past the bytes", then the refusals of the value.
+abbrev pub checkRule : Family → List ℕ → Checked
+checkRule family rule = cond (ltb (length rule) (ruleEnd rule)) (Refused 1 0) (checkValue family (valueIn rule))
+
 -- No "bytes after the one rule".
 abbrev pub endsThere : List ℕ → Bool
 endsThere rule = leb (length rule) (ruleEnd rule)
 
 -- 01: "reading one rule 1 to 7, 15".
-abbrev pub readChecks : List ℕ → List Check
-readChecks rule = oneToSeven (checkRule ipv4 rule) ∷ check (endsThere rule) 15 ∷ []
+abbrev pub readChecks : Family → List ℕ → List Check
+readChecks family rule = oneToSeven (checkRule family rule) ∷ check (endsThere rule) 15 ∷ []
 
 -- 01: "Reading one rule answers the start and length of its value".
 abbrev pub readValues : List ℕ → List ℕ
 readValues rule = fieldSize rule ∷ fieldLength rule ∷ []
 
 -- 01: "writer (takes a value) 1 to 7, 16".
-abbrev pub writeChecks : List ℕ → List ℕ → List Check
-writeChecks value buffer = oneToSeven (checkValue ipv4 value) ∷ check (leb (length (ruleFor ipv4 value)) (length buffer)) 16 ∷ []
+abbrev pub writeChecks : Family → List ℕ → List ℕ → List Check
+writeChecks family value buffer = oneToSeven (checkValue family value) ∷ check (leb (length (ruleFor family value)) (length buffer)) 16 ∷ []
 
 -- 01: "answers how many octets it wrote".
-abbrev pub writeValues : List ℕ → List ℕ
-writeValues value = length (ruleFor ipv4 value) ∷ []
+abbrev pub writeValues : Family → List ℕ → List ℕ
+writeValues family value = length (ruleFor family value) ∷ []
 
 -- 01: "comparing the same, first rule before second".
-abbrev pub compareChecks : List ℕ → List ℕ → List Check
-compareChecks first second =
-    oneToSeven (checkRule ipv4 first)
+abbrev pub compareChecks : Family → List ℕ → List ℕ → List Check
+compareChecks family first second =
+    oneToSeven (checkRule family first)
     ∷ check (endsThere first) 15
-    ∷ oneToSeven (checkRule ipv4 second)
+    ∷ oneToSeven (checkRule family second)
     ∷ check (endsThere second) 15
     ∷ []
 
 -- 1 where the first rule comes first, 3 where they are the same rule, 2 where the second comes first.
-abbrev pub compareValues : List ℕ → List ℕ → List ℕ
-compareValues first second = byOrder (precedence ipv4 (valueIn first) (valueIn second)) 1 3 2 ∷ []
+abbrev pub compareValues : Family → List ℕ → List ℕ → List ℕ
+compareValues family first second = byOrder (precedence family (valueIn first) (valueIn second)) 1 3 2 ∷ []
 
 -- Whether communities are sound.
 abbrev pub isSound : ActionsReading → Bool
@@ -94,9 +104,9 @@ isSound (Read actions) = true
 isSound Unsound = false
 
 -- The actions that communities ask for, none where they are unsound.
-abbrev pub actionsIn : ActionsReading → Actions
-actionsIn (Read actions) = actions
-actionsIn Unsound = noActions
+abbrev pub actionsRead : ActionsReading → Actions
+actionsRead (Read actions) = actions
+actionsRead Unsound = noActions
 
 -- 01: "actions 13".
 abbrev pub actionsChecks : List ℕ → List Check
@@ -104,56 +114,55 @@ actionsChecks communities = check (isSound (actionsOf communities)) 13 ∷ []
 
 -- The values of the actions, in the order of a record.
 abbrev pub actionsValues : List ℕ → List ℕ
-actionsValues communities = valuesOf (actionsIn (actionsOf communities))
+actionsValues communities = valuesOf (actionsRead (actionsOf communities))
 
 -- 01: "feasibility alone 9, 1 to 7, 15, 8".
-abbrev pub judgeChecks : Policy → List ℕ → ℕ → List Check
-judgeChecks policy rule originator =
-    check (soundRoutes ipv4 (policy .routes)) 9
-    ∷ oneToSeven (checkRule ipv4 rule)
+abbrev pub judgeChecks : Family → Policy → List ℕ → ℕ → List Check
+judgeChecks family policy rule originator =
+    check (soundRoutes family (policy .routes)) 9
+    ∷ oneToSeven (checkRule family rule)
     ∷ check (endsThere rule) 15
-    ∷ check (isFeasible policy (valueIn rule) originator) 8
+    ∷ check (isFeasible family policy (valueIn rule) originator) 8
     ∷ []
 
 -- The entry that an announcement asks for.
-abbrev pub entryIn : Announcement → Entry
-entryIn a = entryFor (a .originator) (actionsIn (actionsOf (a .communities))) (valueIn (a .rule))
+abbrev pub entryIn : Family → Announcement → Entry
+entryIn family a =
+    announcedEntry family a (fieldSize (a .rule)) (fieldLength (a .rule)) (actionsRead (actionsOf (a .communities)))
 
 -- 01: "Announce checks 10, 9, 1 to 7, 15, 13, 8, 11".
-abbrev pub announceChecks : Policy → Announcement → List ℕ → List Check
-announceChecks policy a table =
-    check (soundTable ipv4 table) 10
-    ∷ check (soundRoutes ipv4 (policy .routes)) 9
-    ∷ oneToSeven (checkRule ipv4 (a .rule))
+abbrev pub announceChecks : Family → Policy → Announcement → List ℕ → List Check
+announceChecks family policy a table =
+    check (soundTable family table) 10
+    ∷ check (soundRoutes family (policy .routes)) 9
+    ∷ oneToSeven (checkRule family (a .rule))
     ∷ check (endsThere (a .rule)) 15
     ∷ check (isSound (actionsOf (a .communities))) 13
-    ∷ check (isFeasible policy (valueIn (a .rule)) (a .originator)) 8
-    ∷ check (hasRoom ipv4 table (entryIn a)) 11
+    ∷ check (isFeasible family policy (valueIn (a .rule)) (a .originator)) 8
+    ∷ check (hasRoom family table (entryIn family a)) 11
     ∷ []
 
 -- 01: "withdraw 10, 1 to 7, 15, 14".
-abbrev pub withdrawChecks : List ℕ → List ℕ → List Check
-withdrawChecks rule table =
-    check (soundTable ipv4 table) 10
-    ∷ oneToSeven (checkRule ipv4 rule)
+abbrev pub withdrawChecks : Family → List ℕ → List ℕ → List Check
+withdrawChecks family rule table =
+    check (soundTable family table) 10
+    ∷ oneToSeven (checkRule family rule)
     ∷ check (endsThere rule) 15
-    ∷ check (holds ipv4 table (keysOf ipv4 (plain ipv4 (valueIn rule)))) 14
+    ∷ check (holds family table (keysOf family (plain family (valueIn rule)))) 14
     ∷ []
 
 -- 01: "lookup 10, 12".
-abbrev pub lookupChecks : List ℕ → List ℕ → List Check
-lookupChecks table packet = check (soundTable ipv4 table) 10 ∷ check (not (isUnusable ipv4 packet)) 12 ∷ []
+abbrev pub lookupChecks : Family → List ℕ → List ℕ → List Check
+lookupChecks family table packet = check (soundTable family table) 10 ∷ check (not (isUnusable family packet)) 12 ∷ []
 
 -- 01: "matched with the merged actions and the count collected": the count, then the values of the actions; each is 0 where no rule matches.
-abbrev pub lookupValues : List ℕ → List ℕ → List ℕ
-lookupValues table packet =
-    let rules = collected (hit ipv4 noHead (fieldsOf ipv4 packet)) (entries table) in
+abbrev pub lookupValues : Family → List ℕ → List ℕ → List ℕ
+lookupValues family table packet =
+    let rules = collected (hit family (fieldsOf family packet)) (entries table) in
     length rules ∷ valuesOf (mergedOnto noActions rules)
 
--- A place in a table by its start and length.
-abbrev pub placeValues : Place → List ℕ
-placeValues place = place .start ∷ (place .end - place .start) ∷ []
-
 -- Where the first match's record stands, 0 and 0 where there is none.
-abbrev pub firstMatchValues : List ℕ → List ℕ → List ℕ
-firstMatchValues table packet = placeValues (firstPlace (hit ipv4 noHead (fieldsOf ipv4 packet)) 0 (entries table))
+abbrev pub firstMatchValues : Family → List ℕ → List ℕ → List ℕ
+firstMatchValues family table packet =
+    let found = firstPlace (hit family (fieldsOf family packet)) 0 (entries table) in
+    placeValues (found .start) (found .end)

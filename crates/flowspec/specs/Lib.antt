@@ -1,4 +1,5 @@
 -- The definitions of this crate, in the order in which to read them.
+pub mod Families
 pub mod Compare
 pub mod Input
 pub mod Feasibility

@@ -9,9 +9,9 @@ use mathlib.Core.Logic.{_↔_, _⊎_}
 use lib.Dec.{leb}
 use lib.ListN.{length}
 use Rattle.octets.specs.Test.{Each}
+use Rattle.rule.specs.declared.Family.{Family}
 use Rattle.rule.specs.declared.Checked.{Checked}
 use Rattle.rule.specs.declared.Checked.the-variants.{Refused}
-use Rattle.rule.specs.Family.{ipv4}
 use Rattle.rule.specs.Plain.{plain}
 use Rattle.rule.specs.Value.{checkValue}
 use Rattle.rule.specs.Reading.{valueIn, checkRule}
@@ -48,33 +48,33 @@ abbrev pub OneToSeven : Told → (ℕ → ℕ → Type 0) → Type 0
 OneToSeven answer exactly = (number place : ℕ) → 1 ≤ number → number ≤ 7 → ((answer .number ≡ number) × (answer .place ≡ place)) ↔ exactly number place
 
 -- Reading one rule.
-pub record ReadNumbers (rule : List ℕ) (answer : Told) : Type 0 where
-  pub one-to-seven : OneToSeven answer (λ number place. checkRule ipv4 rule ≡ Refused number place)
-  pub fifteen : (answer .number ≡ 15) ↔ (Accepts (checkRule ipv4 rule) × No (endsThere rule))
-  pub zero : (answer .number ≡ 0) ↔ AllHold (readChecks rule)
+pub record ReadNumbers (family : Family) (rule : List ℕ) (answer : Told) : Type 0 where
+  pub one-to-seven : OneToSeven answer (λ number place. checkRule family rule ≡ Refused number place)
+  pub fifteen : (answer .number ≡ 15) ↔ (Accepts (checkRule family rule) × No (endsThere rule))
+  pub zero : (answer .number ≡ 0) ↔ AllHold (readChecks family rule)
 
 -- Writing one rule.
-pub record WriteNumbers (value buffer : List ℕ) (answer : Told) : Type 0 where
-  pub one-to-seven : OneToSeven answer (λ number place. checkValue ipv4 value ≡ Refused number place)
-  pub sixteen : (answer .number ≡ 16) ↔ (Accepts (checkValue ipv4 value) × No (leb (length (ruleFor ipv4 value)) (length buffer)))
-  pub zero : (answer .number ≡ 0) ↔ AllHold (writeChecks value buffer)
+pub record WriteNumbers (family : Family) (value buffer : List ℕ) (answer : Told) : Type 0 where
+  pub one-to-seven : OneToSeven answer (λ number place. checkValue family value ≡ Refused number place)
+  pub sixteen : (answer .number ≡ 16) ↔ (Accepts (checkValue family value) × No (leb (length (ruleFor family value)) (length buffer)))
+  pub zero : (answer .number ≡ 0) ↔ AllHold (writeChecks family value buffer)
 
 -- Comparing two rules.
-pub record CompareNumbers (first second : List ℕ) (answer : Told) : Type 0 where
-  pub one-to-seven : OneToSeven answer (λ number place. (checkRule ipv4 first ≡ Refused number place)
-      ⊎ (Accepts (checkRule ipv4 first) × (Yes (endsThere first) × (checkRule ipv4 second ≡ Refused number place))))
-  pub fifteen : (answer .number ≡ 15) ↔ ((Accepts (checkRule ipv4 first) × No (endsThere first))
-      ⊎ (Accepts (checkRule ipv4 first) × (Yes (endsThere first) × (Accepts (checkRule ipv4 second) × No (endsThere second)))))
-  pub zero : (answer .number ≡ 0) ↔ AllHold (compareChecks first second)
+pub record CompareNumbers (family : Family) (first second : List ℕ) (answer : Told) : Type 0 where
+  pub one-to-seven : OneToSeven answer (λ number place. (checkRule family first ≡ Refused number place)
+      ⊎ (Accepts (checkRule family first) × (Yes (endsThere first) × (checkRule family second ≡ Refused number place))))
+  pub fifteen : (answer .number ≡ 15) ↔ ((Accepts (checkRule family first) × No (endsThere first))
+      ⊎ (Accepts (checkRule family first) × (Yes (endsThere first) × (Accepts (checkRule family second) × No (endsThere second)))))
+  pub zero : (answer .number ≡ 0) ↔ AllHold (compareChecks family first second)
 
 -- Judging one rule.
-pub record JudgeNumbers (policy : Policy) (rule : List ℕ) (originator : ℕ) (answer : Told) : Type 0 where
-  pub nine : (answer .number ≡ 9) ↔ No (soundRoutes ipv4 (policy .routes))
-  pub one-to-seven : OneToSeven answer (λ number place. Yes (soundRoutes ipv4 (policy .routes)) × (checkRule ipv4 rule ≡ Refused number place))
-  pub fifteen : (answer .number ≡ 15) ↔ (Yes (soundRoutes ipv4 (policy .routes)) × (Accepts (checkRule ipv4 rule) × No (endsThere rule)))
+pub record JudgeNumbers (family : Family) (policy : Policy) (rule : List ℕ) (originator : ℕ) (answer : Told) : Type 0 where
+  pub nine : (answer .number ≡ 9) ↔ No (soundRoutes family (policy .routes))
+  pub one-to-seven : OneToSeven answer (λ number place. Yes (soundRoutes family (policy .routes)) × (checkRule family rule ≡ Refused number place))
+  pub fifteen : (answer .number ≡ 15) ↔ (Yes (soundRoutes family (policy .routes)) × (Accepts (checkRule family rule) × No (endsThere rule)))
   pub eight : (answer .number ≡ 8)
-      ↔ (Yes (soundRoutes ipv4 (policy .routes)) × (Accepts (checkRule ipv4 rule) × (Yes (endsThere rule) × No (isFeasible policy (valueIn rule) originator))))
-  pub zero : (answer .number ≡ 0) ↔ AllHold (judgeChecks policy rule originator)
+      ↔ (Yes (soundRoutes family (policy .routes)) × (Accepts (checkRule family rule) × (Yes (endsThere rule) × No (isFeasible family policy (valueIn rule) originator))))
+  pub zero : (answer .number ≡ 0) ↔ AllHold (judgeChecks family policy rule originator)
 
 -- Reading actions.
 pub record ActionsNumbers (communities : List ℕ) (answer : Told) : Type 0 where
@@ -82,38 +82,38 @@ pub record ActionsNumbers (communities : List ℕ) (answer : Told) : Type 0 wher
   pub zero : (answer .number ≡ 0) ↔ AllHold (actionsChecks communities)
 
 -- Table and routes are sound, and then.
-abbrev pub SoundBoth : Policy → List ℕ → Type 0 → Type 0
-SoundBoth policy table then = Yes (soundTable ipv4 table) × (Yes (soundRoutes ipv4 (policy .routes)) × then)
+abbrev pub SoundBoth : Family → Policy → List ℕ → Type 0 → Type 0
+SoundBoth family policy table then = Yes (soundTable family table) × (Yes (soundRoutes family (policy .routes)) × then)
 
 -- One rule is read, and then.
-abbrev pub OneRule : List ℕ → Type 0 → Type 0
-OneRule rule then = Accepts (checkRule ipv4 rule) × (Yes (endsThere rule) × then)
+abbrev pub OneRule : Family → List ℕ → Type 0 → Type 0
+OneRule family rule then = Accepts (checkRule family rule) × (Yes (endsThere rule) × then)
 
 -- Announcing.
-pub record AnnounceNumbers (policy : Policy) (a : Announcement) (table : List ℕ) (answer : Told) : Type 0 where
-  pub ten : (answer .number ≡ 10) ↔ No (soundTable ipv4 table)
-  pub nine : (answer .number ≡ 9) ↔ (Yes (soundTable ipv4 table) × No (soundRoutes ipv4 (policy .routes)))
-  pub one-to-seven : OneToSeven answer (λ number place. SoundBoth policy table (checkRule ipv4 (a .rule) ≡ Refused number place))
-  pub fifteen : (answer .number ≡ 15) ↔ SoundBoth policy table (Accepts (checkRule ipv4 (a .rule)) × No (endsThere (a .rule)))
-  pub thirteen : (answer .number ≡ 13) ↔ SoundBoth policy table (OneRule (a .rule) (No (isSound (actionsOf (a .communities)))))
+pub record AnnounceNumbers (family : Family) (policy : Policy) (a : Announcement) (table : List ℕ) (answer : Told) : Type 0 where
+  pub ten : (answer .number ≡ 10) ↔ No (soundTable family table)
+  pub nine : (answer .number ≡ 9) ↔ (Yes (soundTable family table) × No (soundRoutes family (policy .routes)))
+  pub one-to-seven : OneToSeven answer (λ number place. SoundBoth family policy table (checkRule family (a .rule) ≡ Refused number place))
+  pub fifteen : (answer .number ≡ 15) ↔ SoundBoth family policy table (Accepts (checkRule family (a .rule)) × No (endsThere (a .rule)))
+  pub thirteen : (answer .number ≡ 13) ↔ SoundBoth family policy table (OneRule family (a .rule) (No (isSound (actionsOf (a .communities)))))
   pub eight : (answer .number ≡ 8)
-      ↔ SoundBoth policy table (OneRule (a .rule) (Yes (isSound (actionsOf (a .communities))) × No (isFeasible policy (valueIn (a .rule)) (a .originator))))
+      ↔ SoundBoth family policy table (OneRule family (a .rule) (Yes (isSound (actionsOf (a .communities))) × No (isFeasible family policy (valueIn (a .rule)) (a .originator))))
   pub eleven : (answer .number ≡ 11)
-      ↔ SoundBoth policy table (OneRule (a .rule) (Yes (isSound (actionsOf (a .communities)))
-      × (Yes (isFeasible policy (valueIn (a .rule)) (a .originator)) × No (hasRoom ipv4 table (entryIn a)))))
-  pub zero : (answer .number ≡ 0) ↔ AllHold (announceChecks policy a table)
+      ↔ SoundBoth family policy table (OneRule family (a .rule) (Yes (isSound (actionsOf (a .communities)))
+      × (Yes (isFeasible family policy (valueIn (a .rule)) (a .originator)) × No (hasRoom family table (entryIn family a)))))
+  pub zero : (answer .number ≡ 0) ↔ AllHold (announceChecks family policy a table)
 
 -- Withdrawing.
-pub record WithdrawNumbers (rule table : List ℕ) (answer : Told) : Type 0 where
-  pub ten : (answer .number ≡ 10) ↔ No (soundTable ipv4 table)
-  pub one-to-seven : OneToSeven answer (λ number place. Yes (soundTable ipv4 table) × (checkRule ipv4 rule ≡ Refused number place))
-  pub fifteen : (answer .number ≡ 15) ↔ (Yes (soundTable ipv4 table) × (Accepts (checkRule ipv4 rule) × No (endsThere rule)))
+pub record WithdrawNumbers (family : Family) (rule table : List ℕ) (answer : Told) : Type 0 where
+  pub ten : (answer .number ≡ 10) ↔ No (soundTable family table)
+  pub one-to-seven : OneToSeven answer (λ number place. Yes (soundTable family table) × (checkRule family rule ≡ Refused number place))
+  pub fifteen : (answer .number ≡ 15) ↔ (Yes (soundTable family table) × (Accepts (checkRule family rule) × No (endsThere rule)))
   pub fourteen : (answer .number ≡ 14)
-      ↔ (Yes (soundTable ipv4 table) × OneRule rule (No (holds ipv4 table (keysOf ipv4 (plain ipv4 (valueIn rule))))))
-  pub zero : (answer .number ≡ 0) ↔ AllHold (withdrawChecks rule table)
+      ↔ (Yes (soundTable family table) × OneRule family rule (No (holds family table (keysOf family (plain family (valueIn rule))))))
+  pub zero : (answer .number ≡ 0) ↔ AllHold (withdrawChecks family rule table)
 
 -- Looking up, and finding the first match.
-pub record LookupNumbers (table packet : List ℕ) (answer : Told) : Type 0 where
-  pub ten : (answer .number ≡ 10) ↔ No (soundTable ipv4 table)
-  pub twelve : (answer .number ≡ 12) ↔ (Yes (soundTable ipv4 table) × Yes (isUnusable ipv4 packet))
-  pub zero : (answer .number ≡ 0) ↔ AllHold (lookupChecks table packet)
+pub record LookupNumbers (family : Family) (table packet : List ℕ) (answer : Told) : Type 0 where
+  pub ten : (answer .number ≡ 10) ↔ No (soundTable family table)
+  pub twelve : (answer .number ≡ 12) ↔ (Yes (soundTable family table) × Yes (isUnusable family packet))
+  pub zero : (answer .number ≡ 0) ↔ AllHold (lookupChecks family table packet)

@@ -1,14 +1,15 @@
--- What each public call promises, whatever octets it is lent: its answer (`is`), the number, place and values of that answer (`tells`), by the
--- list of 01's checks that the call goes through (Checks.antt), what each buffer lent to be changed holds at exit (`leaves`), and that what is
--- lent to be read alone is as it was (`keeps`; `kept` is what those slices hold at exit). `FirstMatches` has no `tells`: its answer is octets, and
--- `begins` says where they stand. No call has a `requires`. That no second result satisfies a promise is shown in proofs/Unique.antt.
+-- What each public call promises, for whatever family of addresses (Families.antt has what it decides, `family` here) and whatever octets it is
+-- lent: its answer (`is`), the number, place and values of that answer (`tells`), by the list of 01's checks that the call goes through
+-- (Checks.antt), what each buffer lent to be changed holds at exit (`leaves`), and that what is lent to be read alone is as it was (`keeps`; `kept`
+-- is what those slices hold at exit). `FirstMatches` has no `tells`: its answer is octets, and `begins` says where they stand. No call has a
+-- `requires`. That no second result satisfies a promise is shown in proofs/Unique.antt.
 use Prim.Native.Nat.{ℕ, _+_, _≤_}
 use mathlib.Core.Path.{_≡_}
 use mathlib.Core.List.{List, [], _∷_}
 use lib.ListN.{length}
+use Rattle.rule.specs.declared.Family.{Family}
 use Rattle.rule.specs.declared.Reading.{Reading}
 use Rattle.rule.specs.declared.Writing.{Writing}
-use Rattle.rule.specs.Family.{ipv4}
 use Rattle.rule.specs.Reading.{oneRule}
 use Rattle.rule.specs.Writing.{writing, afterWriting}
 use Rattle.flowspec.specs.declared.Comparison.{Comparison}
@@ -28,29 +29,29 @@ use Rattle.flowspec.specs.Told.{readingTold, writingTold, comparisonTold
 use Rattle.flowspec.specs.Checks.{told, readChecks, readValues, writeChecks, writeValues, compareChecks, compareValues, judgeChecks, actionsChecks, actionsValues, announceChecks, withdrawChecks, lookupChecks, lookupValues, firstMatchValues}
 
 -- Reading one rule: refusals 1 to 7, then 15.
-pub record ReadsOne (rule : List ℕ) (answer : Reading) (kept : List (List ℕ)) : Type 0 where
-  pub is : answer ≡ oneRule ipv4 rule
-  pub tells : readingTold answer ≡ told (readChecks rule) (readValues rule)
+pub record ReadsOne (family : Family) (rule : List ℕ) (answer : Reading) (kept : List (List ℕ)) : Type 0 where
+  pub is : answer ≡ oneRule family rule
+  pub tells : readingTold answer ≡ told (readChecks family rule) (readValues rule)
   pub keeps : kept ≡ rule ∷ []
 
 -- Writing one rule from a value: refusals 1 to 7, then 16; on success the front of the buffer is filled and the rest kept, and a
 -- refusal changes no octet.
-pub record WritesOne (value buffer : List ℕ) (answer : Writing) (exit : List ℕ) (kept : List (List ℕ)) : Type 0 where
-  pub is : answer ≡ writing ipv4 value (length buffer)
-  pub tells : writingTold answer ≡ told (writeChecks value buffer) (writeValues value)
-  pub leaves : exit ≡ afterWriting ipv4 value buffer
+pub record WritesOne (family : Family) (value buffer : List ℕ) (answer : Writing) (exit : List ℕ) (kept : List (List ℕ)) : Type 0 where
+  pub is : answer ≡ writing family value (length buffer)
+  pub tells : writingTold answer ≡ told (writeChecks family value buffer) (writeValues family value)
+  pub leaves : exit ≡ afterWriting family value buffer
   pub keeps : kept ≡ value ∷ []
 
 -- Comparing two rules: refusals 1 to 7 and 15 of the first, then of the second.
-pub record ComparesTwo (first second : List ℕ) (answer : Comparison) (kept : List (List ℕ)) : Type 0 where
-  pub is : answer ≡ compareRules first second
-  pub tells : comparisonTold answer ≡ told (compareChecks first second) (compareValues first second)
+pub record ComparesTwo (family : Family) (first second : List ℕ) (answer : Comparison) (kept : List (List ℕ)) : Type 0 where
+  pub is : answer ≡ compareRules family first second
+  pub tells : comparisonTold answer ≡ told (compareChecks family first second) (compareValues family first second)
   pub keeps : kept ≡ first ∷ second ∷ []
 
 -- Judging one rule: refusals 9, 1 to 7, 15, 8.
-pub record JudgesOne (policy : Policy) (rule : List ℕ) (originator : ℕ) (answer : Feasibility) (kept : List (List ℕ)) : Type 0 where
-  pub is : answer ≡ judgement policy rule originator
-  pub tells : feasibilityTold answer ≡ told (judgeChecks policy rule originator) []
+pub record JudgesOne (family : Family) (policy : Policy) (rule : List ℕ) (originator : ℕ) (answer : Feasibility) (kept : List (List ℕ)) : Type 0 where
+  pub is : answer ≡ judgement family policy rule originator
+  pub tells : feasibilityTold answer ≡ told (judgeChecks family policy rule originator) []
   pub keeps : kept ≡ policy .routes ∷ rule ∷ []
 
 -- Reading actions: refusal 13.
@@ -61,37 +62,37 @@ pub record ReadsActions (communities : List ℕ) (answer : ActionsReading) (kept
 
 -- Announcing: refusals 10, 9, 1 to 7, 15, 13, 8, 11. The table at exit is the outcome's: changed where done and, at 8, where the rule was
 -- held; every other refusal changes no octet.
-pub record Announces (policy : Policy) (announcement : Announcement) (table : List ℕ) (answer : Change) (exit : List ℕ) (kept : List (List ℕ)) : Type 0 where
-  pub is : answer ≡ announcing policy announcement table .answer
-  pub tells : changeTold answer ≡ told (announceChecks policy announcement table) []
-  pub leaves : exit ≡ announcing policy announcement table .table
+pub record Announces (family : Family) (policy : Policy) (announcement : Announcement) (table : List ℕ) (answer : Change) (exit : List ℕ) (kept : List (List ℕ)) : Type 0 where
+  pub is : answer ≡ announcing family policy announcement table .answer
+  pub tells : changeTold answer ≡ told (announceChecks family policy announcement table) []
+  pub leaves : exit ≡ announcing family policy announcement table .table
   pub keeps : kept ≡ policy .routes ∷ announcement .rule ∷ announcement .communities ∷ []
 
 -- Withdrawing: refusals 10, 1 to 7, 15, 14, none of which changes an octet.
-pub record Withdraws (rule table : List ℕ) (answer : Change) (exit : List ℕ) (kept : List (List ℕ)) : Type 0 where
-  pub is : answer ≡ withdrawing rule table .answer
-  pub tells : changeTold answer ≡ told (withdrawChecks rule table) []
-  pub leaves : exit ≡ withdrawing rule table .table
+pub record Withdraws (family : Family) (rule table : List ℕ) (answer : Change) (exit : List ℕ) (kept : List (List ℕ)) : Type 0 where
+  pub is : answer ≡ withdrawing family rule table .answer
+  pub tells : changeTold answer ≡ told (withdrawChecks family rule table) []
+  pub leaves : exit ≡ withdrawing family rule table .table
   pub keeps : kept ≡ rule ∷ []
 
 -- Looking up: refusals 10, 12.
-pub record LooksUp (table packet : List ℕ) (answer : Looked) (kept : List (List ℕ)) : Type 0 where
-  pub is : answer ≡ lookingUp table packet
-  pub tells : lookupTold answer ≡ told (lookupChecks table packet) (lookupValues table packet)
+pub record LooksUp (family : Family) (table packet : List ℕ) (answer : Looked) (kept : List (List ℕ)) : Type 0 where
+  pub is : answer ≡ lookingUp family table packet
+  pub tells : lookupTold answer ≡ told (lookupChecks family table packet) (lookupValues family table packet)
   pub keeps : kept ≡ table ∷ packet ∷ []
 
 -- The first match's place with the lookup's number, refusals 10, 12: a part of the table, 0 and 0 where nothing matches or the lookup is
 -- refused.
-pub record LocatesFirst (table packet : List ℕ) (answer : MatchPlace) (kept : List (List ℕ)) : Type 0 where
-  pub is : answer ≡ matchPlace table packet
-  pub tells : matchPlaceTold answer ≡ told (lookupChecks table packet) (firstMatchValues table packet)
+pub record LocatesFirst (family : Family) (table packet : List ℕ) (answer : MatchPlace) (kept : List (List ℕ)) : Type 0 where
+  pub is : answer ≡ matchPlace family table packet
+  pub tells : matchPlaceTold answer ≡ told (lookupChecks family table packet) (firstMatchValues family table packet)
   pub ordered : answer .start ≤ answer .end
   pub inside : answer .end ≤ length table
   pub keeps : kept ≡ table ∷ packet ∷ []
 
 -- The first match's record: the table's octets at its place, and none where nothing matches or the lookup is refused. `lent` and `stands`
 -- are where the table and the part stand in memory, a block and a place in it: the part begins in the table, at its place there.
-pub record FirstMatches (table packet : List ℕ) (lent : ℕ × ℕ) (part : List ℕ) (stands : ℕ × ℕ) (kept : List (List ℕ)) : Type 0 where
-  pub is : part ≡ between table (firstMatch table packet .start) (firstMatch table packet .end)
-  pub begins : stands ≡ (lent .0, firstMatch table packet .start + lent .1)
+pub record FirstMatches (family : Family) (table packet : List ℕ) (lent : ℕ × ℕ) (part : List ℕ) (stands : ℕ × ℕ) (kept : List (List ℕ)) : Type 0 where
+  pub is : part ≡ between table (firstMatch family table packet .start) (firstMatch family table packet .end)
+  pub begins : stands ≡ (lent .0, firstMatch family table packet .start + lent .1)
   pub keeps : kept ≡ table ∷ packet ∷ []

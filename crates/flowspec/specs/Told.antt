@@ -17,7 +17,7 @@ use Rattle.flowspec.specs.declared.Comparison.the-variants.{First, Secon
 use Rattle.flowspec.specs.declared.Feasibility.{Feasibility}
 use Rattle.flowspec.specs.declared.Feasibility.the-variants.{Feasible, Refused as NotFeasible}
 use Rattle.flowspec.specs.declared.Change.{Change}
-use Rattle.flowspec.specs.declared.Change.the-variants.{Done, Refused as NotChanged}
+use Rattle.flowspec.specs.declared.Change.the-variants.{Done, Refused as NotDone}
 use Rattle.flowspec.specs.declared.Looked.{Looked}
 use Rattle.flowspec.specs.declared.Looked.the-variants.{Judged, Refused as NotLookedUp}
 use Rattle.flowspec.specs.declared.MatchPlace.{MatchPlace}
@@ -66,7 +66,7 @@ actionsTold Unsound = refused 13 0 5
 -- No value: what announcing and withdrawing leave is the table.
 abbrev pub changeTold : Change → Told
 changeTold Done = done []
-changeTold (NotChanged number place) = refused number place 0
+changeTold (NotDone number place) = refused number place 0
 
 -- The count, then flags, DSCP, byte rate, packet rate and redirect community of the merged actions, in which T is never set; each is 0 where
 -- no rule matches.
@@ -79,6 +79,10 @@ abbrev pub lookupTold : Looked → Told
 lookupTold (Judged verdict) = verdictTold verdict
 lookupTold (NotLookedUp number place) = refused number place 6
 
--- The start and length of the first match's record in the table, 0 and 0 where there is none.
+-- A part of a table, by its start and length.
+abbrev pub placeValues : ℕ → ℕ → List ℕ
+placeValues start end = start ∷ (end - start) ∷ []
+
+-- The first match's record in the table, 0 and 0 where there is none.
 abbrev pub matchPlaceTold : MatchPlace → Told
-matchPlaceTold found = record { number = found .number; place = 0; values = found .start ∷ (found .end - found .start) ∷ [] }
+matchPlaceTold found = record { number = found .number; place = 0; values = placeValues (found .start) (found .end) }

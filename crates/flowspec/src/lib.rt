@@ -1,7 +1,10 @@
 // The door: every public call of the flow-rule part, each with its promise (specs/Promise.antt). No call has a `requires`: whatever
-// octets it is lent, it answers; which number and place of 01's table an answer says is in specs/Told.antt.
+// octets it is lent, it answers; which number and place of 01's table an answer says is in specs/Told.antt. A call is told the family
+// of its addresses; behind it stands what that family decides, a struct of numbers, so that nothing there asks which family it is.
 ghost use mathlib.Core.Path.{_≡_};
 ghost use mathlib.Core.List.{[], _∷_};
+ghost use Rattle.rule.specs.Family.{Fits};
+ghost use Rattle.flowspec.specs.Families.{familyOf};
 ghost use Rattle.flowspec.specs.Compare.{comparisonOf};
 ghost use Rattle.flowspec.specs.Feasibility.{readWithRoutes, isFeasible, feasibilityOf};
 ghost use Rattle.flowspec.specs.Input.{announcementOf, policyOf};
@@ -14,9 +17,15 @@ use lookup::Verdict;
 use octets::Order;
 use packet::Packet;
 use packet::Sight;
+use rule::Family;
 use rule::Reading;
 use rule::Writing;
 use table::Soundness;
+
+// The families of addresses whose rules are known (RFC 4760's address family).
+pub enum AddressFamily {
+    Ipv4,
+}
 
 // Which of two rules comes first, that they are the same rule, or a refusal.
 pub enum Comparison {
@@ -72,18 +81,27 @@ pub struct MatchPlace {
     pub end: usize,
 }
 
-// Reads one rule: where its value starts and how long it is.
-pub fn read_rule(rule: &[u8]) -> Reading
-    ensures { λ r. ⌜ ReadsOne (now (rule .entry)) r (now (rule .exit) ∷ []) ⌝ }
+// What a family of addresses decides.
+pub fn family_of(which: AddressFamily) -> Family
+    ensures { λ r. ⌜ r ≡ familyOf which ⌝ }
 {
-    rule::one_rule(rule::ipv4(), rule)
+    match which {
+        AddressFamily::Ipv4 => rule::ipv4(),
+    }
+}
+
+// Reads one rule: where its value starts and how long it is.
+pub fn read_rule(family: AddressFamily, rule: &[u8]) -> Reading
+    ensures { λ r. ⌜ ReadsOne (familyOf family) (now (rule .entry)) r (now (rule .exit) ∷ []) ⌝ }
+{
+    rule::one_rule(family_of(family), rule)
 }
 
 // Writes one rule from its value, in its plain spelling, to the front of a buffer: how many octets were written.
-pub fn write_rule(value: &[u8], buffer: &mut [u8]) -> Writing
-    ensures { λ r. ⌜ WritesOne (now (value .entry)) (now (buffer .entry)) r (now (buffer .exit)) (now (value .exit) ∷ []) ⌝ }
+pub fn write_rule(family: AddressFamily, value: &[u8], buffer: &mut [u8]) -> Writing
+    ensures { λ r. ⌜ WritesOne (familyOf family) (now (value .entry)) (now (buffer .entry)) r (now (buffer .exit)) (now (value .exit) ∷ []) ⌝ }
 {
-    rule::write_rule(rule::ipv4(), value, buffer)
+    rule::write_rule(family_of(family), value, buffer)
 }
 
 // What an order of two values means for their rules.
@@ -98,10 +116,10 @@ fn comparison_of(which: Order) -> Comparison
 }
 
 // Compares two rules by their precedence.
-pub fn compare_rules(first: &[u8], second: &[u8]) -> Comparison
-    ensures { λ r. ⌜ ComparesTwo (now (first .entry)) (now (second .entry)) r (now (first .exit) ∷ now (second .exit) ∷ []) ⌝ }
+pub fn compare_rules(family: AddressFamily, first: &[u8], second: &[u8]) -> Comparison
+    ensures { λ r. ⌜ ComparesTwo (familyOf family) (now (first .entry)) (now (second .entry)) r (now (first .exit) ∷ now (second .exit) ∷ []) ⌝ }
 {
-    let family = rule::ipv4();
+    let family = family_of(family);
     let left = rule::one_rule(family, first);
     let right = rule::one_rule(family, second);
     match left {
@@ -110,10 +128,10 @@ pub fn compare_rules(first: &[u8], second: &[u8]) -> Comparison
             Reading::Refused { number, place } => Comparison::Refused { number, place },
             Reading::Rule {
                 start: begin,
-                size: length,
+                size: span,
             } => {
                 let end = start + size;
-                let stop = begin + length;
+                let stop = begin + span;
                 comparison_of(order::compare_values(
                     family,
                     &first[start..end],
@@ -125,10 +143,10 @@ pub fn compare_rules(first: &[u8], second: &[u8]) -> Comparison
 }
 
 // Reads one rule, once the routes that it is to be judged by are found sound.
-fn read_with_routes(routes: &[u32], rule: &[u8]) -> Reading
-    ensures { λ r. ⌜ r ≡ readWithRoutes (now (routes .entry)) (now (rule .entry)) ⌝ }
+fn read_with_routes(family: Family, routes: &[u32], rule: &[u8]) -> Reading
+    requires { ⌜ Fits family ⌝ }
+    ensures { λ r. ⌜ r ≡ readWithRoutes family (now (routes .entry)) (now (rule .entry)) ⌝ }
 {
-    let family = rule::ipv4();
     if !route::sound_routes(family, routes) {
         return Reading::Refused {
             number: 9,
@@ -139,10 +157,16 @@ fn read_with_routes(routes: &[u32], rule: &[u8]) -> Reading
 }
 
 // Whether an accepted value is feasible for an originator by the lent routes.
-fn is_feasible(allows_no_destination: bool, routes: &[u32], value: &[u8], originator: u32) -> bool
-    ensures { λ r. ⌜ r ≡ isFeasible (policyOf (now (routes .entry)) «allows_no_destination») (now (value .entry)) originator ⌝ }
+fn is_feasible(
+    family: Family,
+    allows_no_destination: bool,
+    routes: &[u32],
+    value: &[u8],
+    originator: u32,
+) -> bool
+    requires { ⌜ Fits family ⌝ }
+    ensures { λ r. ⌜ r ≡ isFeasible family (policyOf (now (routes .entry)) «allows_no_destination») (now (value .entry)) originator ⌝ }
 {
-    let family = rule::ipv4();
     let destination = route::destination_of(family, value);
     route::is_feasible(
         family,
@@ -168,18 +192,21 @@ fn feasibility_of(feasible: bool) -> Feasibility
 
 // Judges whether a rule is feasible for an originator by the lent routes.
 pub fn judge_rule(
+    family: AddressFamily,
     allows_no_destination: bool,
     routes: &[u32],
     rule: &[u8],
     originator: u32,
 ) -> Feasibility
-    ensures { λ r. ⌜ JudgesOne (policyOf (now (routes .entry)) «allows_no_destination») (now (rule .entry)) originator r (now (routes .exit) ∷ now (rule .exit) ∷ []) ⌝ }
+    ensures { λ r. ⌜ JudgesOne (familyOf family) (policyOf (now (routes .entry)) «allows_no_destination») (now (rule .entry)) originator r (now (routes .exit) ∷ now (rule .exit) ∷ []) ⌝ }
 {
-    match read_with_routes(routes, rule) {
+    let family = family_of(family);
+    match read_with_routes(family, routes, rule) {
         Reading::Refused { number, place } => Feasibility::Refused { number, place },
         Reading::Rule { start, size } => {
             let end = start + size;
             feasibility_of(is_feasible(
+                family,
                 allows_no_destination,
                 routes,
                 &rule[start..end],
@@ -198,15 +225,17 @@ pub fn read_actions(communities: &[u8]) -> action::Reading
 
 // Reads and judges an announcement, in the order in which 01 has the checks.
 fn ask(
+    family: Family,
     allows_no_destination: bool,
     routes: &[u32],
     rule: &[u8],
     originator: u32,
     communities: &[u8],
 ) -> Request
-    ensures { λ r. ⌜ r ≡ asked (policyOf (now (routes .entry)) «allows_no_destination») (announcementOf (now (rule .entry)) originator (now (communities .entry))) ⌝ }
+    requires { ⌜ Fits family ⌝ }
+    ensures { λ r. ⌜ r ≡ asked family (policyOf (now (routes .entry)) «allows_no_destination») (announcementOf (now (rule .entry)) originator (now (communities .entry))) ⌝ }
 {
-    match read_with_routes(routes, rule) {
+    match read_with_routes(family, routes, rule) {
         Reading::Refused { number, place } => Request::Refused { number, place },
         Reading::Rule { start, size } => match action::actions_of(communities) {
             action::Reading::Unsound => Request::Refused {
@@ -216,6 +245,7 @@ fn ask(
             action::Reading::Read(actions) => {
                 let end = start + size;
                 let feasible = is_feasible(
+                    family,
                     allows_no_destination,
                     routes,
                     &rule[start..end],
@@ -244,6 +274,7 @@ fn change_of(number: u8) -> Change
 
 // Announces a rule with its actions to a table.
 pub fn announce(
+    family: AddressFamily,
     table: &mut [u8],
     allows_no_destination: bool,
     routes: &[u32],
@@ -251,15 +282,16 @@ pub fn announce(
     originator: u32,
     communities: &[u8],
 ) -> Change
-    ensures { λ r. ⌜ Announces (policyOf (now (routes .entry)) «allows_no_destination») (announcementOf (now (rule .entry)) originator (now (communities .entry))) (now (table .entry)) r (now (table .exit)) (now (routes .exit) ∷ now (rule .exit) ∷ now (communities .exit) ∷ []) ⌝ }
+    ensures { λ r. ⌜ Announces (familyOf family) (policyOf (now (routes .entry)) «allows_no_destination») (announcementOf (now (rule .entry)) originator (now (communities .entry))) (now (table .entry)) r (now (table .exit)) (now (routes .exit) ∷ now (rule .exit) ∷ now (communities .exit) ∷ []) ⌝ }
 {
-    let family = rule::ipv4();
+    let family = family_of(family);
     match table::sound_table(family, table) {
         Soundness::Unsound => Change::Refused {
             number: 10,
             place: 0,
         },
         Soundness::Sound(used) => match ask(
+            family,
             allows_no_destination,
             routes,
             rule,
@@ -293,10 +325,10 @@ pub fn announce(
 }
 
 // Withdraws a rule from a table.
-pub fn withdraw(table: &mut [u8], rule: &[u8]) -> Change
-    ensures { λ r. ⌜ Withdraws (now (rule .entry)) (now (table .entry)) r (now (table .exit)) (now (rule .exit) ∷ []) ⌝ }
+pub fn withdraw(family: AddressFamily, table: &mut [u8], rule: &[u8]) -> Change
+    ensures { λ r. ⌜ Withdraws (familyOf family) (now (rule .entry)) (now (table .entry)) r (now (table .exit)) (now (rule .exit) ∷ []) ⌝ }
 {
-    let family = rule::ipv4();
+    let family = family_of(family);
     match table::sound_table(family, table) {
         Soundness::Unsound => Change::Refused {
             number: 10,
@@ -314,10 +346,10 @@ pub fn withdraw(table: &mut [u8], rule: &[u8]) -> Change
 }
 
 // Checks a table, and sees a packet.
-fn see(table: &[u8], packet: &[u8]) -> Seen
-    ensures { λ r. ⌜ r ≡ seen (now (table .entry)) (now (packet .entry)) ⌝ }
+fn see(family: Family, table: &[u8], packet: &[u8]) -> Seen
+    requires { ⌜ Fits family ⌝ }
+    ensures { λ r. ⌜ r ≡ seen family (now (table .entry)) (now (packet .entry)) ⌝ }
 {
-    let family = rule::ipv4();
     match table::sound_table(family, table) {
         Soundness::Unsound => Seen::Refused(10),
         Soundness::Sound(_) => match packet::packet_of(family, packet) {
@@ -327,29 +359,30 @@ fn see(table: &[u8], packet: &[u8]) -> Seen
     }
 }
 
-// Looks a packet up in a table, under no head.
-pub fn lookup(table: &[u8], packet: &[u8]) -> Looked
-    ensures { λ r. ⌜ LooksUp (now (table .entry)) (now (packet .entry)) r (now (table .exit) ∷ now (packet .exit) ∷ []) ⌝ }
+// Looks a packet up in a table.
+pub fn lookup(family: AddressFamily, table: &[u8], packet: &[u8]) -> Looked
+    ensures { λ r. ⌜ LooksUp (familyOf family) (now (table .entry)) (now (packet .entry)) r (now (table .exit) ∷ now (packet .exit) ∷ []) ⌝ }
 {
-    match see(table, packet) {
+    let family = family_of(family);
+    match see(family, table, packet) {
         Seen::Refused(number) => Looked::Refused { number, place: 0 },
-        Seen::Shows(sight) => Looked::Judged(lookup::look_up(rule::ipv4(), b"", table, sight)),
+        Seen::Shows(sight) => Looked::Judged(table::look_up(family, table, sight)),
     }
 }
 
-// Where the first match's record stands in a table, under no head, with the lookup's number; 0 and 0 where nothing matches or the lookup is
-// refused.
-pub fn first_match_place(table: &[u8], packet: &[u8]) -> MatchPlace
-    ensures { λ r. ⌜ LocatesFirst (now (table .entry)) (now (packet .entry)) r (now (table .exit) ∷ now (packet .exit) ∷ []) ⌝ }
+// Where the first match's record stands in a table, with the lookup's number; 0 and 0 where nothing matches or the lookup is refused.
+pub fn first_match_place(family: AddressFamily, table: &[u8], packet: &[u8]) -> MatchPlace
+    ensures { λ r. ⌜ LocatesFirst (familyOf family) (now (table .entry)) (now (packet .entry)) r (now (table .exit) ∷ now (packet .exit) ∷ []) ⌝ }
 {
-    match see(table, packet) {
+    let family = family_of(family);
+    match see(family, table, packet) {
         Seen::Refused(number) => MatchPlace {
             number,
             start: 0,
             end: 0,
         },
         Seen::Shows(sight) => {
-            let place = lookup::first_place(rule::ipv4(), b"", table, sight);
+            let place = table::first_place(family, table, sight);
             MatchPlace {
                 number: 0,
                 start: place.start,
@@ -360,10 +393,10 @@ pub fn first_match_place(table: &[u8], packet: &[u8]) -> MatchPlace
 }
 
 // The first match's record, as a part of the table.
-pub fn first_match<'a>(table: &'a [u8], packet: &[u8]) -> &'a [u8]
-    ensures { λ r. ⌜ FirstMatches (now (table .entry)) (now (packet .entry)) (table .entry .ptr) (now r) (r .ptr) (now (table .exit) ∷ now (packet .exit) ∷ []) ⌝ }
+pub fn first_match<'a>(family: AddressFamily, table: &'a [u8], packet: &[u8]) -> &'a [u8]
+    ensures { λ r. ⌜ FirstMatches (familyOf family) (now (table .entry)) (now (packet .entry)) (table .entry .ptr) (now r) (r .ptr) (now (table .exit) ∷ now (packet .exit) ∷ []) ⌝ }
 {
-    let place = first_match_place(table, packet);
+    let place = first_match_place(family, table, packet);
     let start = place.start;
     let end = place.end;
     &table[start..end]

@@ -1,19 +1,21 @@
 -- One law for each return: the checks come in 01's order, and what is asked is done to the table.
 use native.Mathlib.Omega.{arith}
-use Rattle.rule.specs.Family.{ipv4}
 use Rattle.rule.proofs.ReadingLaws.{ReadRule}
-use Rattle.flowspec.proofs.TableLaws.{four-fits, announce-unsound, announce-refused, announce-rule, announce-requires, announce-done}
+use Rattle.flowspec.proofs.TableLaws.{announce-unsound, announce-refused, announce-rule, announce-requires, announce-done}
+use Rattle.flowspec.proofs.FamiliesLaws.{chosen-fits}
 use borrow.Author.Needs.{needs}
 use Rattle.flowspec.proofs.announce.Statement.{statement}
 use Rattle.flowspec.proofs.announce.Tie as tie
 
-rule-read : (c : tie.After-known-told3) → ReadRule ipv4 (c .before .before .before .before .before .before .before .before .before .before .before .before .before .before .args .rule .now) (c .before .start .given .0 .0) (c .before .start .given .0 .1 .0)
+rule-read : (c : tie.After-known-told3) → ReadRule (c .before .before .before .before .before .before .before .before .before .family-of .result) (c .before .before .before .before .before .before .before .before .before .before .before .before .before .before .args .rule .now) (c .before .start .given .0 .0) (c .before .start .given .0 .1 .0)
 rule-read c =
-    announce-rule _ _ (c .before .before .before .before .before .before .before .before .before .before .before .before .before .before .args .table .now) _ (c .before .before .before .before .before .before .before .before .before .ipv4 .ensures) _ (c .before .before .before .before .before .before .before .sound-table .ensures)
-    _ (c .before .before .before .before .before .used .given .1) _ (c .before .before .before .ask .ensures) _ _ _ _ (c .before .start .given .1)
+    announce-rule _ _ (c .before .before .before .before .before .before .before .before .before .family-of .ensures) _ _ _ _ (c .before .before .before .before .before .before .before .sound-table .ensures) _ (c .before .before .before .before .before .used .given .1) _ (c .before .before .before .ask .ensures) _ _ _ _ (c .before .start .given .1)
 
 sound-table-requires : tie.Need-sound-table-requires
-sound-table-requires c κs = four-fits _ (c .before .ipv4 .ensures)
+sound-table-requires c κs = search (chosen-fits, needs)
+
+ask-requires : tie.Need-ask-requires
+ask-requires c κs = search (chosen-fits, needs)
 
 add-end : tie.Need-add-end
 add-end c = omega (arith, rule-read c, c .before .before .before .before .before .before .before .before .before .before .before .before .before .before)
@@ -23,17 +25,17 @@ part-announce-value-end c = omega (arith, rule-read (c .before))
 
 announce-value-requires : tie.Need-announce-value-requires
 announce-value-requires c κs = let k = c .before .before in
-    announce-requires _ _ _ _ (k .before .before .before .before .before .before .before .before .before .ipv4 .ensures) _ (k .before .before .before .before .before .before .before .sound-table .ensures) _ (k .before .before .before .before .before .used .given .1) _ (k .before .before .before .ask .ensures) _ _ _ _ (k .before .start .given .1)
+    announce-requires _ _ (k .before .before .before .before .before .before .before .before .before .family-of .ensures) _ _ _ _ (k .before .before .before .before .before .before .before .sound-table .ensures) _ (k .before .before .before .before .before .used .given .1) _ (k .before .before .before .ask .ensures) _ _ _ _ (k .before .start .given .1) (search (chosen-fits, needs))
 
 returns : tie.Need-returns
-returns c = announce-unsound _ _ _ _ (c .before .before .before .before .ipv4 .ensures) _ (c .before .before .sound-table .ensures) (c .enum-told .given .1)
+returns c = announce-unsound _ _ (c .before .before .before .before .family-of .ensures) _ _ _ _ (c .before .before .sound-table .ensures) (c .enum-told .given .1)
 
 returns-2 : tie.Need-returns-2
-returns-2 c = announce-refused _ _ _ _ (c .before .before .before .before .before .before .before .before .before .ipv4 .ensures) _ (c .before .before .before .before .before .before .before .sound-table .ensures) _ (c .before .before .before .before .before .used .given .1) _ (c .before .before .before .ask .ensures) _ _ (c .before .number .given .1)
+returns-2 c = announce-refused _ _ (c .before .before .before .before .before .before .before .before .before .family-of .ensures) _ _ _ _ (c .before .before .before .before .before .before .before .sound-table .ensures) _ (c .before .before .before .before .before .used .given .1) _ (c .before .before .before .ask .ensures) _ _ (c .before .number .given .1)
 
 returns-3 : tie.Need-returns-3
 returns-3 c = let k = c .before .before .before .before .before .before in
-    announce-done _ _ _ _ (k .before .before .before .before .before .before .before .before .before .ipv4 .ensures) _ (k .before .before .before .before .before .before .before .sound-table .ensures) _ (k .before .before .before .before .before .used .given .1) _ (k .before .before .before .ask .ensures) _ _ _ _ (k .before .start .given .1) _ _ _
+    announce-done _ _ (k .before .before .before .before .before .before .before .before .before .family-of .ensures) _ _ _ _ (k .before .before .before .before .before .before .before .sound-table .ensures) _ (k .before .before .before .before .before .used .given .1) _ (k .before .before .before .ask .ensures) _ _ _ _ (k .before .start .given .1) _ _ _
     (c .before .before .before .announce-value .ensures) (c .change-of .ensures)
 
 pub announce-spec : {M : Type 1} → statement M
@@ -44,7 +46,7 @@ announce-spec =
     sound-table-requires
     (λ c. search needs)
     (λ c. search needs)
-    (λ c κs. search needs)
+    ask-requires
     (λ c. search needs)
     (λ c. search needs)
     add-end

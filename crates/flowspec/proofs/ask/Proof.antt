@@ -7,10 +7,10 @@ use Rattle.flowspec.proofs.ask.Statement.{statement}
 use Rattle.flowspec.proofs.ask.Tie as tie
 
 add-end : tie.Need-add-end
-add-end c = omega (arith, rule-there _ _ _ _ _ (c .before .before .before .before .before .before .before .read-with-routes .ensures) (c .before .before .before .before .before .start .given .1))
+add-end c = omega (arith, rule-there _ _ _ _ _ _ (c .before .before .before .before .before .before .before .read-with-routes .ensures) (c .before .before .before .before .before .start .given .1))
 
 part-is-feasible-end : tie.Need-part-is-feasible-end
-part-is-feasible-end c = omega (arith, rule-there _ _ _ _ _ (c .before .before .before .before .before .before .before .read-with-routes .ensures) (c .before .before .before .before .before .start .given .1))
+part-is-feasible-end c = omega (arith, rule-there _ _ _ _ _ _ (c .before .before .before .before .before .before .before .read-with-routes .ensures) (c .before .before .before .before .before .start .given .1))
 
 returns : tie.Need-returns
 returns c = search (ask-refused, needs)

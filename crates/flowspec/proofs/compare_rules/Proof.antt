@@ -1,20 +1,18 @@
 -- One law for each return: a refusal of the first rule, one of the second, and the order of both values.
+use mathlib.Core.Path.{sym, _∙_}
 use native.Mathlib.Omega.{arith}
-use Rattle.rule.specs.Family.{ipv4}
-use Rattle.rule.proofs.ReadingLaws.{ReadRule}
-use Rattle.flowspec.proofs.CompareLaws.{first-read, second-read, value-small, compare-first-refused, compare-second-refused, compare-both}
-use Rattle.flowspec.proofs.TableLaws.{four-fits}
+use Rattle.rule.proofs.ReadingLaws.{ReadRule, one-read}
+use Rattle.flowspec.proofs.CompareLaws.{value-small, compare-first-refused, compare-second-refused, compare-both}
+use Rattle.flowspec.proofs.FamiliesLaws.{chosen-fits}
 use borrow.Author.Needs.{needs}
 use Rattle.flowspec.proofs.compare_rules.Statement.{statement}
 use Rattle.flowspec.proofs.compare_rules.Tie as tie
 
-left-read : (c : tie.After-known-told4) → ReadRule ipv4 (c .before .before .before .before .before .before .before .before .before .before .before .args .first .now) (c .before .before .before .before .left2 .given .0 .0) (c .before .before .before .before .left2 .given .0 .1 .0)
-left-read c =
-    first-read _ (c .before .before .before .before .before .before .before .before .before .before .before .args .second .now) _ (c .before .before .before .before .before .before .before .before .ipv4 .ensures) _ _ (c .before .before .before .before .before .before .before .one-rule .ensures) (c .before .before .before .before .before .before .one-rule2 .ensures) _ _ (c .before .before .before .before .left2 .given .1)
+left-read : (c : tie.After-known-told4) → ReadRule (c .before .before .before .before .before .before .before .before .family-of .result) (c .before .before .before .before .before .before .before .before .before .before .before .args .first .now) (c .before .before .before .before .left2 .given .0 .0) (c .before .before .before .before .left2 .given .0 .1 .0)
+left-read c = one-read _ _ _ _ (sym (c .before .before .before .before .before .before .before .one-rule .ensures) ∙ c .before .before .before .before .left2 .given .1)
 
-right-read : (c : tie.After-known-told4) → ReadRule ipv4 (c .before .before .before .before .before .before .before .before .before .before .before .args .second .now) (c .before .right2 .given .0 .0) (c .before .right2 .given .0 .1 .0)
-right-read c =
-    second-read _ _ _ (c .before .before .before .before .before .before .before .before .ipv4 .ensures) _ _ (c .before .before .before .before .before .before .before .one-rule .ensures) (c .before .before .before .before .before .before .one-rule2 .ensures) _ _ (c .before .before .before .before .left2 .given .1) _ _ (c .before .right2 .given .1)
+right-read : (c : tie.After-known-told4) → ReadRule (c .before .before .before .before .before .before .before .before .family-of .result) (c .before .before .before .before .before .before .before .before .before .before .before .args .second .now) (c .before .right2 .given .0 .0) (c .before .right2 .given .0 .1 .0)
+right-read c = one-read _ _ _ _ (sym (c .before .before .before .before .before .before .one-rule2 .ensures) ∙ c .before .right2 .given .1)
 
 add-end : tie.Need-add-end
 add-end c = omega (arith, left-read c)
@@ -29,7 +27,7 @@ part-compare-values-end-2 : tie.Need-part-compare-values-end-2
 part-compare-values-end-2 c = omega (arith, right-read (c .before))
 
 compare-values-requires : tie.Need-compare-values-requires
-compare-values-requires c κs = (four-fits _ (c .before .before .before .before .before .before .before .before .before .before .ipv4 .ensures), (value-small _ _ _ (left-read (c .before .before)), value-small _ _ _ (right-read (c .before .before))))
+compare-values-requires c κs = (search (chosen-fits, needs), (value-small _ _ _ _ (left-read (c .before .before)), value-small _ _ _ _ (right-read (c .before .before))))
 
 returns : tie.Need-returns
 returns c = search (compare-first-refused, needs)

@@ -1,11 +1,15 @@
 -- One law for each return.
 use borrow.Author.Needs.{needs}
-use Rattle.flowspec.proofs.TableLaws.{four-fits, locate-refused, locate-found}
+use Rattle.flowspec.proofs.FamiliesLaws.{chosen-fits}
+use Rattle.flowspec.proofs.TableLaws.{locate-refused, locate-found}
 use Rattle.flowspec.proofs.first_match_place.Statement.{statement}
 use Rattle.flowspec.proofs.first_match_place.Tie as tie
 
+see-requires : tie.Need-see-requires
+see-requires c κs = search (chosen-fits, needs)
+
 first-place-requires : tie.Need-first-place-requires
-first-place-requires c κs = search (four-fits, needs)
+first-place-requires c κs = search (chosen-fits, needs)
 
 returns : tie.Need-returns
 returns c = search (locate-refused, needs)
@@ -18,9 +22,8 @@ first-match-place-spec =
     tie.close
     (tie.spec
     (λ c κs. search needs)
+    see-requires
     (λ c. search needs)
-    (λ c. search needs)
-    (λ c κs. search needs)
     (λ c. search needs)
     first-place-requires
     returns

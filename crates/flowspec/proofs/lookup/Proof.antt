@@ -1,11 +1,15 @@
 -- One law for each return.
 use borrow.Author.Needs.{needs}
-use Rattle.flowspec.proofs.TableLaws.{four-fits, look-refused, look-judged}
+use Rattle.flowspec.proofs.FamiliesLaws.{chosen-fits}
+use Rattle.flowspec.proofs.TableLaws.{look-refused, look-judged}
 use Rattle.flowspec.proofs.lookup.Statement.{statement}
 use Rattle.flowspec.proofs.lookup.Tie as tie
 
+see-requires : tie.Need-see-requires
+see-requires c κs = search (chosen-fits, needs)
+
 look-up-requires : tie.Need-look-up-requires
-look-up-requires c κs = search (four-fits, needs)
+look-up-requires c κs = search (chosen-fits, needs)
 
 returns : tie.Need-returns
 returns c = search (look-refused, needs)
@@ -16,4 +20,4 @@ returns-2 c = search (look-judged, needs)
 pub lookup-spec : {M : Type 1} → statement M
 lookup-spec =
     tie.close
-    (tie.spec (λ c κs. search needs) (λ c. search needs) (λ c. search needs) (λ c κs. search needs) (λ c. search needs) look-up-requires returns returns-2)
+    (tie.spec (λ c κs. search needs) see-requires (λ c. search needs) (λ c. search needs) look-up-requires returns returns-2)

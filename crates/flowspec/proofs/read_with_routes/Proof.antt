@@ -1,15 +1,11 @@
 -- Unsound routes are refused before the rule is read.
 use borrow.Author.Needs.{needs}
-use Rattle.rule.proofs.FamilyLaws.{is-ipv4-fits}
 use Rattle.flowspec.proofs.FeasibilityLaws.{with-unsound, with-sound}
 use Rattle.flowspec.proofs.read_with_routes.Statement.{statement}
 use Rattle.flowspec.proofs.read_with_routes.Tie as tie
 
-ipv4-requires : tie.Need-ipv4-requires
-ipv4-requires c κs = search needs
-
 sound-routes-requires : tie.Need-sound-routes-requires
-sound-routes-requires c κs = search (is-ipv4-fits, needs)
+sound-routes-requires c κs = search needs
 
 returns : tie.Need-returns
 returns c = search (with-unsound, needs)
@@ -22,4 +18,4 @@ returns-2 c = search (with-sound, needs)
 
 pub read-with-routes-spec : {M : Type 1} → statement M
 read-with-routes-spec =
-    tie.close (tie.spec ipv4-requires sound-routes-requires returns one-rule-requires returns-2)
+    tie.close (tie.spec sound-routes-requires returns one-rule-requires returns-2)

@@ -1,11 +1,11 @@
 -- One law for each return.
 use borrow.Author.Needs.{needs}
-use Rattle.flowspec.proofs.TableLaws.{four-fits, see-unsound, see-unusable, see-usable}
+use Rattle.flowspec.proofs.TableLaws.{see-unsound, see-unusable, see-usable}
 use Rattle.flowspec.proofs.see.Statement.{statement}
 use Rattle.flowspec.proofs.see.Tie as tie
 
 sound-table-requires : tie.Need-sound-table-requires
-sound-table-requires c κs = four-fits _ (c .ipv4 .ensures)
+sound-table-requires c κs = search needs
 
 returns : tie.Need-returns
 returns c = search (see-unsound, needs)
@@ -20,7 +20,6 @@ pub see-spec : {M : Type 1} → statement M
 see-spec =
     tie.close
     (tie.spec
-    (λ c κs. search needs)
     sound-table-requires
     (λ c. search needs)
     (λ c. search needs)

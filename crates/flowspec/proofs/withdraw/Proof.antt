@@ -1,19 +1,18 @@
 -- A rule that was read lies in its octets; then one law for each return.
 use native.Mathlib.Omega.{arith}
-use Rattle.rule.specs.Family.{ipv4}
 use Rattle.rule.proofs.ReadingLaws.{ReadRule}
-use Rattle.flowspec.proofs.TableLaws.{four-fits, withdraw-unsound, withdraw-refused, withdraw-rule, withdraw-requires, withdraw-done}
+use Rattle.flowspec.proofs.TableLaws.{withdraw-unsound, withdraw-refused, withdraw-rule, withdraw-requires, withdraw-done}
+use Rattle.flowspec.proofs.FamiliesLaws.{chosen-fits}
 use borrow.Author.Needs.{needs}
 use Rattle.flowspec.proofs.withdraw.Statement.{statement}
 use Rattle.flowspec.proofs.withdraw.Tie as tie
 
-rule-read : (c : tie.After-known-told3) → ReadRule ipv4 (c .before .before .before .before .before .before .before .before .before .before .before .before .args .rule .now) (c .before .start .given .0 .0) (c .before .start .given .0 .1 .0)
+rule-read : (c : tie.After-known-told3) → ReadRule (c .before .before .before .before .before .before .before .before .before .family-of .result) (c .before .before .before .before .before .before .before .before .before .before .before .before .args .rule .now) (c .before .start .given .0 .0) (c .before .start .given .0 .1 .0)
 rule-read c =
-    withdraw-rule _ (c .before .before .before .before .before .before .before .before .before .before .before .before .args .table .now) _ (c .before .before .before .before .before .before .before .before .before .ipv4 .ensures) _ (c .before .before .before .before .before .before .before .sound-table .ensures) _ (c .before .before .before .before .before .used .given .1) _ (c .before .before .before .one-rule .ensures) _ _
-    (c .before .start .given .1)
+    withdraw-rule _ _ (c .before .before .before .before .before .before .before .before .before .family-of .ensures) _ _ _ (c .before .before .before .before .before .before .before .sound-table .ensures) _ (c .before .before .before .before .before .used .given .1) _ (c .before .before .before .one-rule .ensures) _ _ (c .before .start .given .1)
 
 sound-table-requires : tie.Need-sound-table-requires
-sound-table-requires c κs = four-fits _ (c .before .ipv4 .ensures)
+sound-table-requires c κs = search (chosen-fits, needs)
 
 add-end : tie.Need-add-end
 add-end c = omega (arith, rule-read c)
@@ -23,17 +22,17 @@ part-withdraw-value-end c = omega (arith, rule-read (c .before))
 
 withdraw-value-requires : tie.Need-withdraw-value-requires
 withdraw-value-requires c κs = let k = c .before .before in
-    withdraw-requires _ _ _ (k .before .before .before .before .before .before .before .before .before .ipv4 .ensures) _ (k .before .before .before .before .before .before .before .sound-table .ensures) _ (k .before .before .before .before .before .used .given .1) _ (k .before .before .before .one-rule .ensures) _ _ (k .before .start .given .1)
+    withdraw-requires _ _ (k .before .before .before .before .before .before .before .before .before .family-of .ensures) _ _ _ (k .before .before .before .before .before .before .before .sound-table .ensures) _ (k .before .before .before .before .before .used .given .1) _ (k .before .before .before .one-rule .ensures) _ _ (k .before .start .given .1) (search (chosen-fits, needs))
 
 returns : tie.Need-returns
-returns c = withdraw-unsound _ _ _ (c .before .before .before .before .ipv4 .ensures) _ (c .before .before .sound-table .ensures) (c .enum-told .given .1)
+returns c = withdraw-unsound _ _ (c .before .before .before .before .family-of .ensures) _ _ _ (c .before .before .sound-table .ensures) (c .enum-told .given .1)
 
 returns-2 : tie.Need-returns-2
-returns-2 c = withdraw-refused _ _ _ (c .before .before .before .before .before .before .before .before .before .ipv4 .ensures) _ (c .before .before .before .before .before .before .before .sound-table .ensures) _ (c .before .before .before .before .before .used .given .1) _ (c .before .before .before .one-rule .ensures) _ _ (c .before .number .given .1)
+returns-2 c = withdraw-refused _ _ (c .before .before .before .before .before .before .before .before .before .family-of .ensures) _ _ _ (c .before .before .before .before .before .before .before .sound-table .ensures) _ (c .before .before .before .before .before .used .given .1) _ (c .before .before .before .one-rule .ensures) _ _ (c .before .number .given .1)
 
 returns-3 : tie.Need-returns-3
 returns-3 c = let k = c .before .before .before .before .before .before in
-    withdraw-done _ _ _ (k .before .before .before .before .before .before .before .before .before .ipv4 .ensures) _ (k .before .before .before .before .before .before .before .sound-table .ensures) _ (k .before .before .before .before .before .used .given .1) _ (k .before .before .before .one-rule .ensures) _ _ (k .before .start .given .1)
+    withdraw-done _ _ (k .before .before .before .before .before .before .before .before .before .family-of .ensures) _ _ _ (k .before .before .before .before .before .before .before .sound-table .ensures) _ (k .before .before .before .before .before .used .given .1) _ (k .before .before .before .one-rule .ensures) _ _ (k .before .start .given .1)
     _ _ _ (c .before .before .before .withdraw-value .ensures) (c .change-of .ensures)
 
 pub withdraw-spec : {M : Type 1} → statement M
