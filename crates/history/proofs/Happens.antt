@@ -5,6 +5,7 @@ use mathlib.Core.List.{List, [], _∷_, map}
 use Prim.Native.Nat.{ℕ, _^_, _<_, _≤_}
 use Rattle.octets.specs.Test.{Each}
 use Rattle.octets.proofs.Facts.{Octets}
+use Rattle.rule.specs.declared.Family.{Family}
 use Rattle.table.specs.Sound.{mostOctets}
 use Rattle.flowspec.specs.declared.Change.{Change}
 use Rattle.flowspec.specs.Input.{Announcement, Policy}
@@ -20,49 +21,49 @@ announcement-given a o small = (o, small)
 pub withdrawal-given : (rule : List ℕ) → Octets rule → CanBe (withdrawal rule)
 withdrawal-given rule o = tt
 
-module _ (policy : Policy) where
+module _ (family : Family) (policy : Policy) where
   -- what a call promises is what a history asks of it
   pub announces-promised : (a : Announcement) (table : List ℕ) (answer : Change) (left : List ℕ) (kept : List (List ℕ))
-      → Announces policy a table answer left kept → Promised policy (announcement a) table answer left
-  announces-promised a table answer left kept p = subst (λ k. Announces policy a table answer left k) (p .keeps) p
+      → Announces family policy a table answer left kept → Promised family policy (announcement a) table answer left
+  announces-promised a table answer left kept p = subst (λ k. Announces family policy a table answer left k) (p .keeps) p
 
   pub withdraws-promised : (rule table : List ℕ) (answer : Change) (left : List ℕ) (kept : List (List ℕ))
-      → Withdraws rule table answer left kept → Promised policy (withdrawal rule) table answer left
-  withdraws-promised rule table answer left kept p = subst (λ k. Withdraws rule table answer left k) (p .keeps) p
+      → Withdraws family rule table answer left kept → Promised family policy (withdrawal rule) table answer left
+  withdraws-promised rule table answer left kept p = subst (λ k. Withdraws family rule table answer left k) (p .keeps) p
 
   -- a call that was made keeps its promise
-  made-promised : (call : Call) (table : List ℕ) → Promised policy call table (outcomeOf policy call table .answer) (outcomeOf policy call table .table)
-  made-promised (announcement a) table = announce-kept policy a table (announcing policy a table) _ _ refl refl refl
-  made-promised (withdrawal rule) table = withdraw-kept rule table (withdrawing rule table) _ _ refl refl refl
+  made-promised : (call : Call) (table : List ℕ) → Promised family policy call table (outcomeOf family policy call table .answer) (outcomeOf family policy call table .table)
+  made-promised (announcement a) table = announce-kept family policy a table (announcing family policy a table) _ _ refl refl refl
+  made-promised (withdrawal rule) table = withdraw-kept family rule table (withdrawing family rule table) _ _ refl refl refl
 
   -- **every list of calls has a history**, of exactly these calls
-  pub happens : (calls : List Call) (table : List ℕ) → Happened policy table (historyOf policy table calls)
+  pub happens : (calls : List Call) (table : List ℕ) → Happened family policy table (historyOf family policy table calls)
   happens [] table = tt
-  happens (call ∷ calls) table = (made-promised call table, happens calls (outcomeOf policy call table .table))
+  happens (call ∷ calls) table = (made-promised call table, happens calls (outcomeOf family policy call table .table))
 
-  pub of-these-calls : (calls : List Call) (table : List ℕ) → map (λ (m : Made). m .call) (historyOf policy table calls) ≡ calls
+  pub of-these-calls : (calls : List Call) (table : List ℕ) → map (λ (m : Made). m .call) (historyOf family policy table calls) ≡ calls
   of-these-calls [] table = refl
-  of-these-calls (call ∷ calls) table = ap (λ (l : List Call). call ∷ l) (of-these-calls calls (outcomeOf policy call table .table))
+  of-these-calls (call ∷ calls) table = ap (λ (l : List Call). call ∷ l) (of-these-calls calls (outcomeOf family policy call table .table))
 
-  each-given : (calls : List Call) (table : List ℕ) → Each CanBe calls → EachCanBe (historyOf policy table calls)
+  each-given : (calls : List Call) (table : List ℕ) → Each CanBe calls → EachCanBe (historyOf family policy table calls)
   each-given [] table can = tt
-  each-given (call ∷ calls) table can = (can .0, each-given calls (outcomeOf policy call table .table) (can .1))
+  each-given (call ∷ calls) table can = (can .0, each-given calls (outcomeOf family policy call table .table) (can .1))
 
   -- **from every empty table**
-  pub happens-from-empty : (n : ℕ) (calls : List Call) → n ≤ mostOctets → Each CanBe calls → FromEmpty policy n (historyOf policy (emptyTable n) calls)
+  pub happens-from-empty : (n : ℕ) (calls : List Call) → n ≤ mostOctets → Each CanBe calls → FromEmpty family policy n (historyOf family policy (emptyTable n) calls)
   happens-from-empty n calls fits can =
       record { fits = fits; given = each-given calls (emptyTable n) can; happened = happens calls (emptyTable n) }
 
   -- **and no other history has these calls**
-  promised-only : (call : Call) (table : List ℕ) (answer : Change) (left : List ℕ) → Promised policy call table answer left
-      → (answer ≡ outcomeOf policy call table .answer) × (left ≡ outcomeOf policy call table .table)
+  promised-only : (call : Call) (table : List ℕ) (answer : Change) (left : List ℕ) → Promised family policy call table answer left
+      → (answer ≡ outcomeOf family policy call table .answer) × (left ≡ outcomeOf family policy call table .table)
   promised-only (announcement a) table answer left p = (p .is, p .leaves)
   promised-only (withdrawal rule) table answer left p = (p .is, p .leaves)
 
-  pub happens-only : (h : List Made) (table : List ℕ) → Happened policy table h → h ≡ historyOf policy table (map (λ (m : Made). m .call) h)
+  pub happens-only : (h : List Made) (table : List ℕ) → Happened family policy table h → h ≡ historyOf family policy table (map (λ (m : Made). m .call) h)
   happens-only [] table made = refl
   happens-only (m ∷ h) table made =
       let one = promised-only (m .call) table (m .answer) (m .left) (made .0) in
-      let first : m ≡ madeOn policy (m .call) table = ap₂ (λ (a : Change) (l : List ℕ). record { call = m .call; answer = a; left = l }) (one .0) (one .1) in
+      let first : m ≡ madeOn family policy (m .call) table = ap₂ (λ (a : Change) (l : List ℕ). record { call = m .call; answer = a; left = l }) (one .0) (one .1) in
       ap₂ (λ (x : Made) (l : List Made). x ∷ l) first
-      (happens-only h (m .left) (made .1) ∙ ap (λ (t : List ℕ). historyOf policy t (map (λ (m : Made). m .call) h)) (one .1))
+      (happens-only h (m .left) (made .1) ∙ ap (λ (t : List ℕ). historyOf family policy t (map (λ (m : Made). m .call) h)) (one .1))

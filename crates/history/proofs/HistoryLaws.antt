@@ -20,9 +20,9 @@ use Rattle.sorted.specs.History as S
 use Rattle.sorted.proofs.MemberLaws.{every-insert}
 use Rattle.sorted.proofs.TableLaws.{insert-sorted}
 use Rattle.sorted.proofs.HistoryLaws.{run-holds, run-agree}
+use Rattle.rule.specs.declared.Family.{Family}
 use Rattle.rule.specs.declared.Reading.{Reading}
 use Rattle.rule.specs.declared.Reading.the-variants.{Rule, Refused as NotRead}
-use Rattle.rule.specs.Family.{ipv4}
 use Rattle.rule.specs.Plain.{plain}
 use Rattle.rule.specs.Reading.{valueOf, oneRule}
 use Rattle.rule.proofs.ReadingLaws.{one-read}
@@ -48,148 +48,149 @@ use Rattle.flowspec.specs.Told.{changeTold}
 use Rattle.flowspec.proofs.AskLaws.{octets-value, asked-from}
 
 -- an outcome on octets is one on entries: the same answer, and the entries' encoding in a buffer of the same length
-record Same (n : ℕ) (o : Outcome) (a : S.Outcome Entry) : Type 0 where
+record Same (family : Family) (n : ℕ) (o : Outcome) (a : S.Outcome Entry) : Type 0 where
   pub answers : changeTold (o .answer) .number ≡ a .answer
-  pub encodes : Encodes ipv4 (o .table) (a .table)
+  pub encodes : Encodes family (o .table) (a .table)
   pub long : length (o .table) ≡ n
 
-module _ (t : List ℕ) (es : List Entry) (c : Encodes ipv4 t es) where
+module _ (family : Family) (t : List ℕ) (es : List Entry) (c : Encodes family t es) where
   -- the change of a table that an announcement or a withdrawal asks
-  same-announced : (e : Entry) (feasible : Bool) → possible ipv4 e ≡ true
-      → Same (length t) (outcome (announced ipv4 t e feasible)) (apply keyOrder (entryKey ipv4) cost (length t) (announce e feasible) es)
+  same-announced : (e : Entry) (feasible : Bool) → possible family e ≡ true
+      → Same family (length t) (outcome (announced family t e feasible)) (apply keyOrder (entryKey family) cost (length t) (announce e feasible) es)
   unfolding changeOf hasRoom inserted
   same-announced e true ok =
-      rw (encodes-entries ipv4 t es c)
-      (by-test (leb (costs cost (insert keyOrder (entryKey ipv4) e es)) (length t))
+      rw (encodes-entries family t es c)
+      (by-test (leb (costs cost (insert keyOrder (entryKey family) e es)) (length t))
       (λ h.
-      let room = leb-true (costs cost (insert keyOrder (entryKey ipv4) e es)) (length t) h in
+      let room = leb-true (costs cost (insert keyOrder (entryKey family) e es)) (length t) h in
       rw h (record {
         answers = refl;
-        encodes = encoding ipv4 t es c (insert keyOrder (entryKey ipv4) e es) room (every-insert keyOrder (entryKey ipv4) (possible ipv4) e es ok (c .each)) (insert-sorted keyOrder (entryKey ipv4) key-order e es (c .rising));
-        long = length-table (length t) (insert keyOrder (entryKey ipv4) e es) room;
+        encodes = encoding family t es c (insert keyOrder (entryKey family) e es) room (every-insert keyOrder (entryKey family) (possible family) e es ok (c .each)) (insert-sorted keyOrder (entryKey family) key-order e es (c .rising));
+        long = length-table (length t) (insert keyOrder (entryKey family) e es) room;
       }))
       (λ h. rw h (record { answers = refl; encodes = c; long = refl })))
-  same-announced e false ok = record { answers = refl; encodes = removed-encodes ipv4 t es c (entryKey ipv4 e); long = removed-long ipv4 t es c (entryKey ipv4 e) }
+  same-announced e false ok = record { answers = refl; encodes = removed-encodes family t es c (entryKey family e); long = removed-long family t es c (entryKey family e) }
 
   same-withdrawn : (k : RuleKey)
-      → Same (length t) (outcome (withdrawn ipv4 t k)) (apply keyOrder (entryKey ipv4) cost (length t) (withdraw k) es)
+      → Same family (length t) (outcome (withdrawn family t k)) (apply keyOrder (entryKey family) cost (length t) (withdraw k) es)
   unfolding changeOf withdrawn holds
   same-withdrawn k =
-      let out = removed-encodes ipv4 t es c k in
-      let long = removed-long ipv4 t es c k in
-      rw (encodes-entries ipv4 t es c)
-      (by-test (isHeld (lookup keyOrder (entryKey ipv4) k es))
+      let out = removed-encodes family t es c k in
+      let long = removed-long family t es c k in
+      rw (encodes-entries family t es c)
+      (by-test (isHeld (lookup keyOrder (entryKey family) k es))
       (λ h. rw h (record { answers = refl; encodes = out; long = long }))
       (λ h. rw h (record { answers = refl; encodes = c; long = refl })))
 
 -- what is asked to be announced could be
-abbrev pub Could : Announcement → Request → Type 0
-Could a (NotAsked number place) = Unit {0}
-Could a (Announce start size actions feasible) = possible ipv4 (announcedEntry a start size actions) ≡ true
+abbrev pub Could : Family → Announcement → Request → Type 0
+Could family a (NotAsked number place) = Unit {0}
+Could family a (Announce start size actions feasible) = possible family (announcedEntry family a start size actions) ≡ true
 
-pub asked-could : (policy : Policy) (a : Announcement) → Octets (a .rule) → a .originator < 2 ^ 32 → Could a (asked policy a)
-asked-could policy a o small =
-    go (asked policy a) refl
+pub asked-could : (family : Family) (policy : Policy) (a : Announcement) → Octets (a .rule) → a .originator < 2 ^ 32 → Could family a (asked family policy a)
+asked-could family policy a o small =
+    go (asked family policy a) refl
   where
-    go : (r : Request) → asked policy a ≡ r → Could a r
+    go : (r : Request) → asked family policy a ≡ r → Could family a r
     go (NotAsked number place) e = tt
     go (Announce start size actions feasible) e =
-        let from = asked-from policy a start size actions feasible e in
+        let from = asked-from family policy a start size actions feasible e in
         let octets = octets-value (a .rule) start size o in
-        make-possible ipv4 (announcedEntry a start size actions) small
+        make-possible family (announcedEntry family a start size actions) small
         (read-possible (a .communities) actions (from .acts))
-        (plain-held ipv4 (valueOf (a .rule) start size) octets (one-read ipv4 (a .rule) start size (from .read) .accepted))
+        (plain-held family (valueOf (a .rule) start size) octets (one-read family (a .rule) start size (from .read) .accepted))
 
 -- one call
-module _ (policy : Policy) (t : List ℕ) (es : List Entry) (c : Encodes ipv4 t es) where
+module _ (family : Family) (policy : Policy) (t : List ℕ) (es : List Entry) (c : Encodes family t es) where
   same-announcing : (a : Announcement) → Octets (a .rule) → a .originator < 2 ^ 32
-      → Same (length t) (announcing policy a t) (apply keyOrder (entryKey ipv4) cost (length t) (asks policy (announcement a)) es)
+      → Same family (length t) (announcing family policy a t) (apply keyOrder (entryKey family) cost (length t) (asks family policy (announcement a)) es)
   unfolding announcing
   same-announcing a o small =
-      rw (encodes-sound ipv4 t es c) (go (asked policy a) (asked-could policy a o small))
+      rw (encodes-sound family t es c) (go (asked family policy a) (asked-could family policy a o small))
     where
-      go : (r : Request) → Could a r
-          → Same (length t) (announcedBy a t r) (apply keyOrder (entryKey ipv4) cost (length t) (asksToAnnounce a r) es)
+      go : (r : Request) → Could family a r
+          → Same family (length t) (announcedBy family a t r) (apply keyOrder (entryKey family) cost (length t) (asksToAnnounce family a r) es)
       go (NotAsked number place) ok = record { answers = refl; encodes = c; long = refl }
       go (Announce start size actions feasible) ok =
-          same-announced t es c (announcedEntry a start size actions) feasible ok
+          same-announced family t es c (announcedEntry family a start size actions) feasible ok
 
   same-withdrawing : (rule : List ℕ)
-      → Same (length t) (withdrawing rule t) (apply keyOrder (entryKey ipv4) cost (length t) (asks policy (withdrawal rule)) es)
+      → Same family (length t) (withdrawing family rule t) (apply keyOrder (entryKey family) cost (length t) (asks family policy (withdrawal rule)) es)
   unfolding withdrawing
-  same-withdrawing rule = rw (encodes-sound ipv4 t es c) (go (oneRule ipv4 rule))
+  same-withdrawing rule = rw (encodes-sound family t es c) (go (oneRule family rule))
     where
-      go : (r : Reading) → Same (length t) (withdrawnBy t rule r) (apply keyOrder (entryKey ipv4) cost (length t) (asksToWithdraw rule r) es)
+      go : (r : Reading) → Same family (length t) (withdrawnBy family t rule r) (apply keyOrder (entryKey family) cost (length t) (asksToWithdraw family rule r) es)
       go (NotRead number place) = record { answers = refl; encodes = c; long = refl }
-      go (Rule start size) = same-withdrawn t es c (keysOf ipv4 (plain ipv4 (valueOf rule start size)))
+      go (Rule start size) = same-withdrawn family t es c (keysOf family (plain family (valueOf rule start size)))
 
-  same-made : (call : Call) (answer : Change) (left : List ℕ) → CanBe call → Promised policy call t answer left
-      → Same (length t) (record { answer = answer; table = left }) (apply keyOrder (entryKey ipv4) cost (length t) (asks policy call) es)
+  same-made : (call : Call) (answer : Change) (left : List ℕ) → CanBe call → Promised family policy call t answer left
+      → Same family (length t) (record { answer = answer; table = left }) (apply keyOrder (entryKey family) cost (length t) (asks family policy call) es)
   same-made (announcement a) answer left can p = rw (p .is, p .leaves) (same-announcing a (can .0) (can .1))
   same-made (withdrawal rule) answer left can p = rw (p .is, p .leaves) (same-withdrawing rule)
 
 -- any history: the table at its end encodes the entries that the same calls leave on lists, and each call was answered as it is there
-module _ (policy : Policy) where
-  step : (n : ℕ) (m : Made) (t : List ℕ) (es : List Entry) → Encodes ipv4 t es → length t ≡ n → CanBe (m .call)
-      → Promised policy (m .call) t (m .answer) (m .left)
-      → Same n (record { answer = m .answer; table = m .left }) (apply keyOrder (entryKey ipv4) cost n (askedOf policy m) es)
+module _ (family : Family) (policy : Policy) where
+  step : (n : ℕ) (m : Made) (t : List ℕ) (es : List Entry) → Encodes family t es → length t ≡ n → CanBe (m .call)
+      → Promised family policy (m .call) t (m .answer) (m .left)
+      → Same family n (record { answer = m .answer; table = m .left }) (apply keyOrder (entryKey family) cost n (askedOf family policy m) es)
   step n m t es c long can made =
       subst
-      (λ (size : ℕ). Same size (record { answer = m .answer; table = m .left }) (apply keyOrder (entryKey ipv4) cost size (askedOf policy m) es))
+      (λ (size : ℕ). Same family size (record { answer = m .answer; table = m .left }) (apply keyOrder (entryKey family) cost size (askedOf family policy m) es))
       long
-      (same-made policy t es c (m .call) (m .answer) (m .left) can made)
+      (same-made family policy t es c (m .call) (m .answer) (m .left) can made)
 
   record Follows (n : ℕ) (h : List Made) (t : List ℕ) (es : List Entry) : Type 0 where
-    pub encodes : Encodes ipv4 (endOf t h) (run keyOrder (entryKey ipv4) cost n (askedOf policy) h es)
+    pub encodes : Encodes family (endOf t h) (run keyOrder (entryKey family) cost n (askedOf family policy) h es)
     pub long : length (endOf t h) ≡ n
-    pub ran : Ran keyOrder (entryKey ipv4) cost n (askedOf policy) numberOf h es
+    pub ran : Ran keyOrder (entryKey family) cost n (askedOf family policy) numberOf h es
 
-  follows : (n : ℕ) (h : List Made) (t : List ℕ) (es : List Entry) → Encodes ipv4 t es → length t ≡ n → EachCanBe h → Happened policy t h
+  follows : (n : ℕ) (h : List Made) (t : List ℕ) (es : List Entry) → Encodes family t es → length t ≡ n → EachCanBe h → Happened family policy t h
       → Follows n h t es
   follows n [] t es c long can made = record { encodes = c; long = long; ran = tt }
   follows n (m ∷ h) t es c long can made =
       let same = step n m t es c long (can .0) (made .0) in
-      let rest = follows n h (m .left) (apply keyOrder (entryKey ipv4) cost n (askedOf policy m) es .table) (same .encodes) (same .long) (can .1) (made .1) in
+      let rest = follows n h (m .left) (apply keyOrder (entryKey family) cost n (askedOf family policy m) es .table) (same .encodes) (same .long) (can .1) (made .1) in
       record { encodes = rest .encodes; long = rest .long; ran = (same .answers, rest .ran) }
 
 -- the empty table is the encoding of no entries
 long-empty : (n : ℕ) → length (emptyTable n) ≡ n
 long-empty n = length-replicate {A = ℕ} n 0
 
-empty-encodes : (n : ℕ) → n ≤ mostOctets → Encodes ipv4 (emptyTable n) []
+empty-encodes : (family : Family) (n : ℕ) → n ≤ mostOctets → Encodes family (emptyTable n) []
 unfolding tableOf joined every
-empty-encodes n h =
+empty-encodes family n h =
     let long = long-empty n in
     record { short = omega arith; room = omega arith; each = refl; rising = tt; is = rw (long, sub-zero n) }
 
-module _ (policy : Policy) (n : ℕ) where
+module _ (family : Family) (policy : Policy) (n : ℕ) where
   -- the table after a history that began at an empty table
   abbrev pub after : List Made → List ℕ
   after h = endOf (emptyTable n) h
 
-  module _ (h : List Made) (made : FromEmpty policy n h) where
+  module _ (h : List Made) (made : FromEmpty family policy n h) where
     abbrev left : List Entry
-    left = run keyOrder (entryKey ipv4) cost n (askedOf policy) h []
+    left = run keyOrder (entryKey family) cost n (askedOf family policy) h []
 
-    followed : Follows policy n h (emptyTable n) []
-    followed = follows policy n h (emptyTable n) [] (empty-encodes n (made .fits)) (long-empty n) (made .given) (made .happened)
+    followed : Follows family policy n h (emptyTable n) []
+    followed = follows family policy n h (emptyTable n) [] (empty-encodes family n (made .fits)) (long-empty n) (made .given) (made .happened)
 
     entries-left : entries (after h) ≡ left
-    entries-left = encodes-entries ipv4 (after h) left (followed .encodes)
+    entries-left = encodes-entries family (after h) left (followed .encodes)
 
     -- **the table holds exactly what is in force**
-    pub history-holds : HoldsExactly policy h (after h)
+    pub history-holds : HoldsExactly family policy n h (after h)
     history-holds =
         record {
-          exactly = λ e. rw entries-left (run-holds keyOrder (entryKey ipv4) cost n (askedOf policy) numberOf key-order h (followed .ran) e);
+          exactly = λ e. rw entries-left (run-holds keyOrder (entryKey family) cost n (askedOf family policy) numberOf key-order h (followed .ran) e);
           sound = rw entries-left (followed .encodes);
+          sized = followed .long;
         }
 
   -- **two histories** that leave the same in force for every rule end in equal octets
-  pub histories-agree : (h g : List Made) → FromEmpty policy n h → FromEmpty policy n g
-      → ((k : RuleKey) → inForceAfter policy h k ≡ inForceAfter policy g k) → after h ≡ after g
+  pub histories-agree : (h g : List Made) → FromEmpty family policy n h → FromEmpty family policy n g
+      → ((k : RuleKey) → inForceAfter family policy h k ≡ inForceAfter family policy g k) → after h ≡ after g
   histories-agree h g made also agree =
       let first = followed h made in
       let second = followed g also in
-      let same = run-agree keyOrder (entryKey ipv4) cost n (askedOf policy) numberOf key-order h g (first .ran) (second .ran) agree in
+      let same = run-agree keyOrder (entryKey family) cost n (askedOf family policy) numberOf key-order h g (first .ran) (second .ran) agree in
       first .encodes .is ∙ ap₂ tableOf (first .long ∙ sym (second .long)) same ∙ sym (second .encodes .is)

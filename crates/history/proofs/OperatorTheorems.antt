@@ -12,9 +12,9 @@ use Rattle.sorted.specs.Table.{lookup, insert}
 use Rattle.sorted.specs.History.{isHeld}
 use Rattle.sorted.proofs.HistoryLaws.{not-held}
 use Rattle.sorted.proofs.TableLaws.{insert-again, remove-insert, remove-absent, lookup-insert, insert-swap}
-use Rattle.rule.proofs.FamilyLaws.{ipv4-fits}
+use Rattle.rule.specs.declared.Family.{Family}
 use Rattle.rule.specs.declared.Reading.the-variants.{Rule}
-use Rattle.rule.specs.Family.{ipv4}
+use Rattle.rule.specs.Family.{Fits}
 use Rattle.rule.specs.Plain.{plain}
 use Rattle.rule.specs.Reading.{valueOf, oneRule}
 use Rattle.order.specs.Precedence.{precedence}
@@ -39,81 +39,81 @@ use Rattle.flowspec.specs.Promise.{Announces, Withdraws}
 use Rattle.flowspec.proofs.AskLaws.{octets-value, asked-from}
 use Rattle.history.proofs.HistoryLaws.{asked-could}
 
-module _ (t : List ℕ) (c : Encodes ipv4 t (entries t)) where
+module _ (family : Family) (t : List ℕ) (c : Encodes family t (entries t)) where
   -- the table with an entry encodes its entries with that one, in a buffer of the same length
-  with-entry : (e : Entry) → possible ipv4 e ≡ true → hasRoom ipv4 t e ≡ true
-      → Encodes ipv4 (inserted ipv4 t e) (insert keyOrder (entryKey ipv4) e (entries t)) × (length (inserted ipv4 t e) ≡ length t)
-  with-entry e ok room = (inserted-encodes ipv4 t (entries t) c e ok room, inserted-long ipv4 t (entries t) c e ok room)
+  with-entry : (e : Entry) → possible family e ≡ true → hasRoom family t e ≡ true
+      → Encodes family (inserted family t e) (insert keyOrder (entryKey family) e (entries t)) × (length (inserted family t e) ≡ length t)
+  with-entry e ok room = (inserted-encodes family t (entries t) c e ok room, inserted-long family t (entries t) c e ok room)
 
-  module _ (e : Entry) (ok : possible ipv4 e ≡ true) (room : hasRoom ipv4 t e ≡ true) where
-    entries-with : entries (inserted ipv4 t e) ≡ insert keyOrder (entryKey ipv4) e (entries t)
-    entries-with = encodes-entries ipv4 (inserted ipv4 t e) (insert keyOrder (entryKey ipv4) e (entries t)) (with-entry e ok room .0)
+  module _ (e : Entry) (ok : possible family e ≡ true) (room : hasRoom family t e ≡ true) where
+    entries-with : entries (inserted family t e) ≡ insert keyOrder (entryKey family) e (entries t)
+    entries-with = encodes-entries family (inserted family t e) (insert keyOrder (entryKey family) e (entries t)) (with-entry e ok room .0)
 
-    sound-with : soundTable ipv4 (inserted ipv4 t e) ≡ true
-    sound-with = encodes-sound ipv4 (inserted ipv4 t e) (insert keyOrder (entryKey ipv4) e (entries t)) (with-entry e ok room .0)
+    sound-with : soundTable family (inserted family t e) ≡ true
+    sound-with = encodes-sound family (inserted family t e) (insert keyOrder (entryKey family) e (entries t)) (with-entry e ok room .0)
 
     -- putting an entry in again finds room and changes nothing
-    room-again : hasRoom ipv4 (inserted ipv4 t e) e ≡ true
+    room-again : hasRoom family (inserted family t e) e ≡ true
     unfolding hasRoom
     room-again =
-        rw (entries-with, with-entry e ok room .1, insert-again keyOrder (entryKey ipv4) key-order e e (entries t) refl) room
+        rw (entries-with, with-entry e ok room .1, insert-again keyOrder (entryKey family) key-order e e (entries t) refl) room
 
-    inserted-again : inserted ipv4 (inserted ipv4 t e) e ≡ inserted ipv4 t e
+    inserted-again : inserted family (inserted family t e) e ≡ inserted family t e
     unfolding inserted
-    inserted-again = rw (entries-with, with-entry e ok room .1, insert-again keyOrder (entryKey ipv4) key-order e e (entries t) refl)
+    inserted-again = rw (entries-with, with-entry e ok room .1, insert-again keyOrder (entryKey family) key-order e e (entries t) refl)
 
     -- what was put in is held, and taken out again leaves the table without its rule
-    holds-with : holds ipv4 (inserted ipv4 t e) (entryKey ipv4 e) ≡ true
+    holds-with : holds family (inserted family t e) (entryKey family e) ≡ true
     unfolding holds
-    holds-with = rw (entries-with, lookup-insert keyOrder (entryKey ipv4) key-order (entryKey ipv4 e) e (entries t), key-order .same (entryKey ipv4 e))
+    holds-with = rw (entries-with, lookup-insert keyOrder (entryKey family) key-order (entryKey family e) e (entries t), key-order .same (entryKey family e))
 
-    removed-again : removed ipv4 (inserted ipv4 t e) (entryKey ipv4 e) ≡ removed ipv4 t (entryKey ipv4 e)
+    removed-again : removed family (inserted family t e) (entryKey family e) ≡ removed family t (entryKey family e)
     unfolding removed
-    removed-again = rw (entries-with, with-entry e ok room .1, remove-insert keyOrder (entryKey ipv4) key-order e (entries t))
+    removed-again = rw (entries-with, with-entry e ok room .1, remove-insert keyOrder (entryKey family) key-order e (entries t))
 
     -- two entries of different rules may be put in in either order
-    inserted-either : (x : Entry) → possible ipv4 x ≡ true → hasRoom ipv4 t x ≡ true → (entryKey ipv4 e ≡ entryKey ipv4 x → ⊥)
-        → entries (inserted ipv4 t x) ≡ insert keyOrder (entryKey ipv4) x (entries t) → length (inserted ipv4 t x) ≡ length t
-        → inserted ipv4 (inserted ipv4 t e) x ≡ inserted ipv4 (inserted ipv4 t x) e
+    inserted-either : (x : Entry) → possible family x ≡ true → hasRoom family t x ≡ true → (entryKey family e ≡ entryKey family x → ⊥)
+        → entries (inserted family t x) ≡ insert keyOrder (entryKey family) x (entries t) → length (inserted family t x) ≡ length t
+        → inserted family (inserted family t e) x ≡ inserted family (inserted family t x) e
     unfolding inserted
     inserted-either x fine space differ has long =
-        rw (entries-with, with-entry e ok room .1, has, long) (ap (tableOf (length t)) (sym (insert-swap keyOrder (entryKey ipv4) key-order e x (entries t) (c .rising) differ)))
+        rw (entries-with, with-entry e ok room .1, has, long) (ap (tableOf (length t)) (sym (insert-swap keyOrder (entryKey family) key-order e x (entries t) (c .rising) differ)))
 
-module _ (policy : Policy) (a : Announcement) where
+module _ (family : Family) (policy : Policy) (a : Announcement) where
   -- what a done announcement asked, what it found, and what it left
   record Stored (t left : List ℕ) : Type 0 where
     pub start : ℕ
     pub size : ℕ
     pub actions : Actions
-    pub asks : asked policy a ≡ Announce start size actions true
-    pub sound : soundTable ipv4 t ≡ true
-    pub room : hasRoom ipv4 t (announcedEntry a start size actions) ≡ true
-    pub is : left ≡ inserted ipv4 t (announcedEntry a start size actions)
+    pub asks : asked family policy a ≡ Announce start size actions true
+    pub sound : soundTable family t ≡ true
+    pub room : hasRoom family t (announcedEntry family a start size actions) ≡ true
+    pub is : left ≡ inserted family t (announcedEntry family a start size actions)
 
-  done-stored : (t left : List ℕ) (kept : List (List ℕ)) → Announces policy a t Done left kept → Stored t left
+  done-stored : (t left : List ℕ) (kept : List (List ℕ)) → Announces family policy a t Done left kept → Stored t left
   unfolding announcing changeOf
   done-stored t left kept p =
-      by-test (soundTable ipv4 t) (λ s. go s (asked policy a) refl (rw s at (p .is)) (rw s at (p .leaves)))
+      by-test (soundTable family t) (λ s. go s (asked family policy a) refl (rw s at (p .is)) (rw s at (p .leaves)))
       (λ s. let z : Done ≡ Refused 10 0 = rw s at (p .is) in apart (cc))
     where
-      go : soundTable ipv4 t ≡ true → (r : Request) → asked policy a ≡ r → Done ≡ announcedBy a t r .answer
-          → left ≡ announcedBy a t r .table → Stored t left
+      go : soundTable family t ≡ true → (r : Request) → asked family policy a ≡ r → Done ≡ announcedBy family a t r .answer
+          → left ≡ announcedBy family a t r .table → Stored t left
       go s (NotAsked number place) e says l = apart (cc)
       go s (Announce start size actions false) e says l = let z : Done ≡ Refused 8 0 = says in apart (cc)
       go s (Announce start size actions true) e says l =
-          by-test (hasRoom ipv4 t (announcedEntry a start size actions))
+          by-test (hasRoom family t (announcedEntry family a start size actions))
           (λ h. record { start = start; size = size; actions = actions; asks = e; sound = s; room = h; is = rw h at l })
           (λ h. let z : Done ≡ Refused 11 0 = rw h at says in apart (cc))
 
-  stores : (t : List ℕ) (start size : ℕ) (actions : Actions) → asked policy a ≡ Announce start size actions true
-      → soundTable ipv4 t ≡ true → hasRoom ipv4 t (announcedEntry a start size actions) ≡ true
-      → announcing policy a t ≡ record { answer = Done; table = inserted ipv4 t (announcedEntry a start size actions) }
+  stores : (t : List ℕ) (start size : ℕ) (actions : Actions) → asked family policy a ≡ Announce start size actions true
+      → soundTable family t ≡ true → hasRoom family t (announcedEntry family a start size actions) ≡ true
+      → announcing family policy a t ≡ record { answer = Done; table = inserted family t (announcedEntry family a start size actions) }
   unfolding announcing changeOf
   stores t start size actions e s h = rw (s, e, h)
 
   -- an announcement asks for the same entry wherever it is made
   one-entry : (t left u exit : List ℕ) (s : Stored t left) (r : Stored u exit)
-      → announcedEntry a (s .start) (s .size) (s .actions) ≡ announcedEntry a (r .start) (r .size) (r .actions)
+      → announcedEntry family a (s .start) (s .size) (s .actions) ≡ announcedEntry family a (r .start) (r .size) (r .actions)
   one-entry t left u exit s r =
       let same = sym (s .asks) ∙ r .asks in
       let starts : s .start ≡ r .start = cc in
@@ -122,89 +122,89 @@ module _ (policy : Policy) (a : Announcement) where
       rw (starts, sizes, acts)
 
   module _ (o : Octets (a .rule)) (small : a .originator < 2 ^ 32) (t : List ℕ) (octets : Octets t) (left : List ℕ) (kept : List (List ℕ))
-      (done : Announces policy a t Done left kept) where
+      (done : Announces family policy a t Done left kept) where
     stored : Stored t left
     stored = done-stored t left kept done
 
     abbrev entered : Entry
-    entered = announcedEntry a (stored .start) (stored .size) (stored .actions)
+    entered = announcedEntry family a (stored .start) (stored .size) (stored .actions)
 
-    before : Encodes ipv4 t (entries t)
-    before = sound-encodes ipv4 t octets (stored .sound)
+    before : Encodes family t (entries t)
+    before = sound-encodes family t octets (stored .sound)
 
-    could : possible ipv4 entered ≡ true
-    could = rw (stored .asks) at (asked-could policy a o small)
+    could : possible family entered ≡ true
+    could = rw (stored .asks) at (asked-could family policy a o small)
 
     -- **the same announcement twice**: the second is done too, and changes nothing
-    pub announced-twice : (answer : Change) (exit : List ℕ) (held : List (List ℕ)) → Announces policy a left answer exit held
+    pub announced-twice : (answer : Change) (exit : List ℕ) (held : List (List ℕ)) → Announces family policy a left answer exit held
         → (answer ≡ Done) × (exit ≡ left)
     announced-twice answer exit held q =
-        let again = stores (inserted ipv4 t entered) (stored .start) (stored .size) (stored .actions) (stored .asks) (sound-with t before entered could (stored .room)) (room-again t before entered could (stored .room)) in
-        let asks = ap (announcing policy a) (stored .is) ∙ again in (
+        let again = stores (inserted family t entered) (stored .start) (stored .size) (stored .actions) (stored .asks) (sound-with family t before entered could (stored .room)) (room-again family t before entered could (stored .room)) in
+        let asks = ap (announcing family policy a) (stored .is) ∙ again in (
           q .is ∙ ap (λ (x : Outcome). x .answer) asks,
-          q .leaves ∙ ap (λ (x : Outcome). x .table) asks ∙ inserted-again t before entered could (stored .room) ∙ sym (stored .is),
+          q .leaves ∙ ap (λ (x : Outcome). x .table) asks ∙ inserted-again family t before entered could (stored .room) ∙ sym (stored .is),
         )
 
-    read : oneRule ipv4 (a .rule) ≡ Rule (stored .start) (stored .size)
-    read = asked-from policy a (stored .start) (stored .size) (stored .actions) true (stored .asks) .read
+    read : oneRule family (a .rule) ≡ Rule (stored .start) (stored .size)
+    read = asked-from family policy a (stored .start) (stored .size) (stored .actions) true (stored .asks) .read
 
     -- withdrawing from a table that holds the rule, and from any sound one
-    withdraws : soundTable ipv4 (inserted ipv4 t entered) ≡ true → holds ipv4 (inserted ipv4 t entered) (entryKey ipv4 entered) ≡ true
-        → withdrawing (a .rule) (inserted ipv4 t entered) ≡ record { answer = Done; table = removed ipv4 (inserted ipv4 t entered) (entryKey ipv4 entered) }
+    withdraws : soundTable family (inserted family t entered) ≡ true → holds family (inserted family t entered) (entryKey family entered) ≡ true
+        → withdrawing family (a .rule) (inserted family t entered) ≡ record { answer = Done; table = removed family (inserted family t entered) (entryKey family entered) }
     unfolding withdrawing withdrawn changeOf
     withdraws s h = rw (s, read, h)
 
-    alone : withdrawing (a .rule) t .table ≡ removed ipv4 t (entryKey ipv4 entered)
+    alone : withdrawing family (a .rule) t .table ≡ removed family t (entryKey family entered)
     unfolding withdrawing withdrawn removed holds
     alone =
         rw (stored .sound, read)
-        (by-test (isHeld (lookup keyOrder (entryKey ipv4) (entryKey ipv4 entered) (entries t))) (λ h. rw h)
-        (λ h. rw (h, remove-absent keyOrder (entryKey ipv4) (entryKey ipv4 entered) (entries t) (not-held _ h)) (before .is)))
+        (by-test (isHeld (lookup keyOrder (entryKey family) (entryKey family entered) (entries t))) (λ h. rw h)
+        (λ h. rw (h, remove-absent keyOrder (entryKey family) (entryKey family entered) (entries t) (not-held _ h)) (before .is)))
 
     -- **announcing, then withdrawing**: the withdrawal is done, and leaves what it would have left without the announcement
-    pub announced-withdrawn : (answer : Change) (exit : List ℕ) (held : List (List ℕ)) → Withdraws (a .rule) left answer exit held
-        → (other : Change) (without : List ℕ) (lent : List (List ℕ)) → Withdraws (a .rule) t other without lent → (answer ≡ Done) × (exit ≡ without)
+    pub announced-withdrawn : (answer : Change) (exit : List ℕ) (held : List (List ℕ)) → Withdraws family (a .rule) left answer exit held
+        → (other : Change) (without : List ℕ) (lent : List (List ℕ)) → Withdraws family (a .rule) t other without lent → (answer ≡ Done) × (exit ≡ without)
     announced-withdrawn answer exit held q other without lent r =
-        let out = ap (withdrawing (a .rule)) (stored .is) ∙ withdraws (sound-with t before entered could (stored .room)) (holds-with t before entered could (stored .room)) in (
+        let out = ap (withdrawing family (a .rule)) (stored .is) ∙ withdraws (sound-with family t before entered could (stored .room)) (holds-with family t before entered could (stored .room)) in (
           q .is ∙ ap (λ (x : Outcome). x .answer) out,
-          q .leaves ∙ ap (λ (x : Outcome). x .table) out ∙ removed-again t before entered could (stored .room) ∙ sym (r .leaves ∙ alone),
+          q .leaves ∙ ap (λ (x : Outcome). x .table) out ∙ removed-again family t before entered could (stored .room) ∙ sym (r .leaves ∙ alone),
         )
 
 -- rules with one key are the same rule
-same-rule : (rule other : List ℕ) (start size begin extent : ℕ) → Octets rule → Octets other → oneRule ipv4 rule ≡ Rule start size
-    → oneRule ipv4 other ≡ Rule begin extent → keysOf ipv4 (plain ipv4 (valueOf rule start size)) ≡ keysOf ipv4 (plain ipv4 (valueOf other begin extent))
-    → compareRules rule other ≡ Same
+same-rule : (family : Family) → Fits family → (rule other : List ℕ) (start size begin extent : ℕ) → Octets rule → Octets other → oneRule family rule ≡ Rule start size
+    → oneRule family other ≡ Rule begin extent → keysOf family (plain family (valueOf rule start size)) ≡ keysOf family (plain family (valueOf other begin extent))
+    → compareRules family rule other ≡ Same
 unfolding compareRules
-same-rule rule other start size begin extent o p found also same =
+same-rule family fits rule other start size begin extent o p found also same =
     let v = valueOf rule start size in
     let w = valueOf other begin extent in
     let first = octets-value rule start size o in
     let second = octets-value other begin extent p in
-    let keys : keysOf ipv4 v ≡ keysOf ipv4 w = sym (keys-plain ipv4 v first) ∙ same ∙ keys-plain ipv4 w second in
-    let tie : precedence ipv4 v w ≡ Ordering·eq = one-order ipv4 ipv4-fits v w first second ∙ rw keys (key-order .same (keysOf ipv4 w)) in
+    let keys : keysOf family v ≡ keysOf family w = sym (keys-plain family v first) ∙ same ∙ keys-plain family w second in
+    let tie : precedence family v w ≡ Ordering·eq = one-order family fits v w first second ∙ rw keys (key-order .same (keysOf family w)) in
     rw (found, also, tie)
 
-module _ (policy : Policy) (a b : Announcement) (o : Octets (a .rule)) (small : a .originator < 2 ^ 32) (p : Octets (b .rule))
+module _ (family : Family) (fits : Fits family) (policy : Policy) (a b : Announcement) (o : Octets (a .rule)) (small : a .originator < 2 ^ 32) (p : Octets (b .rule))
     (little : b .originator < 2 ^ 32) (t : List ℕ) (octets : Octets t) where
   -- **two announcements of different rules**, done in either order, leave equal octets
-  pub announced-either-way : (compareRules (a .rule) (b .rule) ≡ Same → ⊥) → (first both second all : List ℕ) (k l m n : List (List ℕ))
-      → Announces policy a t Done first k → Announces policy b first Done both l
-      → Announces policy b t Done second m → Announces policy a second Done all n
+  pub announced-either-way : (compareRules family (a .rule) (b .rule) ≡ Same → ⊥) → (first both second all : List ℕ) (k l m n : List (List ℕ))
+      → Announces family policy a t Done first k → Announces family policy b first Done both l
+      → Announces family policy b t Done second m → Announces family policy a second Done all n
       → both ≡ all
   announced-either-way differ first both second all k l m n one two three four =
-      let x = stored policy a o small t octets first k one in
-      let y = stored policy b p little t octets second m three in
-      let z = done-stored policy b first both l two in
-      let w = done-stored policy a second all n four in
-      let e = entered policy a o small t octets first k one in
-      let f = entered policy b p little t octets second m three in
-      let can = could policy a o small t octets first k one in
-      let also = could policy b p little t octets second m three in
-      let whole = before policy a o small t octets first k one in
-      let apart-keys : entryKey ipv4 e ≡ entryKey ipv4 f → ⊥ = λ same.
-      differ (same-rule (a .rule) (b .rule) (x .start) (x .size) (y .start) (y .size) o p (read policy a o small t octets first k one)
-      (read policy b p little t octets second m three) same) in
-      let either = inserted-either t whole e can (x .room) f also (y .room) apart-keys (entries-with t whole f also (y .room)) (with-entry t whole f also (y .room) .1) in
-      z .is ∙ ap₂ (inserted ipv4) (x .is) (one-entry policy b first both t second z y)
+      let x = stored family policy a o small t octets first k one in
+      let y = stored family policy b p little t octets second m three in
+      let z = done-stored family policy b first both l two in
+      let w = done-stored family policy a second all n four in
+      let e = entered family policy a o small t octets first k one in
+      let f = entered family policy b p little t octets second m three in
+      let can = could family policy a o small t octets first k one in
+      let also = could family policy b p little t octets second m three in
+      let whole = before family policy a o small t octets first k one in
+      let apart-keys : entryKey family e ≡ entryKey family f → ⊥ = λ same.
+      differ (same-rule family fits (a .rule) (b .rule) (x .start) (x .size) (y .start) (y .size) o p (read family policy a o small t octets first k one)
+      (read family policy b p little t octets second m three) same) in
+      let either = inserted-either family t whole e can (x .room) f also (y .room) apart-keys (entries-with family t whole f also (y .room)) (with-entry family t whole f also (y .room) .1) in
+      z .is ∙ ap₂ (inserted family) (x .is) (one-entry family policy b first both t second z y)
       ∙ either
-      ∙ sym (w .is ∙ ap₂ (inserted ipv4) (y .is) (one-entry policy a second all t first w x))
+      ∙ sym (w .is ∙ ap₂ (inserted family) (y .is) (one-entry family policy a second all t first w x))

@@ -23,6 +23,7 @@ use Rattle.rule.specs.Plain.{bodyOf, operandAfter, after, plainOperator, plainO
 use Rattle.rule.specs.Reading.{fieldSize, fieldLength, firstRule, oneRule, valueOf}
 use Rattle.rule.specs.Value.{componentsFrom, components, checkValue}
 use Rattle.rule.specs.Family.{ipv4}
+use Rattle.rule.proofs.FamilyLaws.{ipv4-fits}
 use Rattle.order.specs.Key.{bodyKey, keyOf, keysOf, RuleKey, keyOrder}
 use Rattle.order.proofs.KeyLaws.{key-order}
 use Rattle.route.specs.Destination.{destinationFor, destinationAmong, destinationOf}
@@ -75,17 +76,17 @@ octets-each (x ∷ s) e =
 
 -- all that is computed: what each call answers and leaves, what it asks, that rules and their keys are as they look, and two lookups
 record Computed : Type 0 where
-  pub announces : announcing policy owned (emptyTable 96) ≡ record { answer = Done; table = mailTable }
-  pub adds : announcing policy pinged mailTable ≡ record { answer = Done; table = bothTable }
-  pub removes : announcing policy foreign bothTable ≡ record { answer = Refused 8 0; table = pingTable }
-  pub again : announcing policy owned pingTable ≡ record { answer = Done; table = bothTable }
-  pub withdraws : withdrawing ping bothTable ≡ record { answer = Done; table = mailTable }
-  pub withdrawsNone : withdrawing ping (emptyTable 96) ≡ record { answer = Refused 14 0; table = emptyTable 96 }
-  pub announcesSpelled : announcing policy spelled (emptyTable 96) ≡ record { answer = Done; table = mailTable }
-  pub askedOwned : asked policy owned ≡ Announce 1 12 drops true
-  pub askedForeign : asked policy foreign ≡ Announce 1 12 drops false
-  pub askedSpelled : asked policy spelled ≡ Announce 2 12 drops true
-  pub askedPinged : asked policy pinged ≡ Announce 1 8 marks true
+  pub announces : announcing ipv4 policy owned (emptyTable 96) ≡ record { answer = Done; table = mailTable }
+  pub adds : announcing ipv4 policy pinged mailTable ≡ record { answer = Done; table = bothTable }
+  pub removes : announcing ipv4 policy foreign bothTable ≡ record { answer = Refused 8 0; table = pingTable }
+  pub again : announcing ipv4 policy owned pingTable ≡ record { answer = Done; table = bothTable }
+  pub withdraws : withdrawing ipv4 ping bothTable ≡ record { answer = Done; table = mailTable }
+  pub withdrawsNone : withdrawing ipv4 ping (emptyTable 96) ≡ record { answer = Refused 14 0; table = emptyTable 96 }
+  pub announcesSpelled : announcing ipv4 policy spelled (emptyTable 96) ≡ record { answer = Done; table = mailTable }
+  pub askedOwned : asked ipv4 policy owned ≡ Announce 1 12 drops true
+  pub askedForeign : asked ipv4 policy foreign ≡ Announce 1 12 drops false
+  pub askedSpelled : asked ipv4 policy spelled ≡ Announce 2 12 drops true
+  pub askedPinged : asked ipv4 policy pinged ≡ Announce 1 8 marks true
   pub readPing : oneRule ipv4 ping ≡ Rule 1 8
   pub plainMail : plain ipv4 mailValue ≡ mailValue
   pub plainSpelled : plain ipv4 (valueOf mailSpelled 2 12) ≡ mailValue
@@ -96,10 +97,10 @@ record Computed : Type 0 where
   pub octetsMail : every (λ x. ltb x 256) mail ≡ true
   pub octetsSpelled : every (λ x. ltb x 256) mailSpelled ≡ true
   pub octetsPing : every (λ x. ltb x 256) ping ≡ true
-  pub inForce : inForceAfter policy worked (entryKey ipv4 mailEntry) ≡ some mailEntry
-  pub gone : inForceAfter policy worked (keysOf ipv4 pingValue) ≡ none
-  pub judgesMatched : lookupTold (lookingUp mailTable (mailTo 5)) ≡ done (1 ∷ 1 ∷ 0 ∷ 0 ∷ 0 ∷ 0 ∷ [])
-  pub judgesUnmatched : lookupTold (lookingUp mailTable (mailTo 200)) ≡ done (replicate 6 0)
+  pub inForce : inForceAfter ipv4 policy worked (entryKey ipv4 mailEntry) ≡ some mailEntry
+  pub gone : inForceAfter ipv4 policy worked (keysOf ipv4 pingValue) ≡ none
+  pub judgesMatched : lookupTold (lookingUp ipv4 mailTable (mailTo 5)) ≡ done (1 ∷ 1 ∷ 0 ∷ 0 ∷ 0 ∷ 0 ∷ [])
+  pub judgesUnmatched : lookupTold (lookingUp ipv4 mailTable (mailTo 200)) ≡ done (replicate 6 0)
 
 computed : Computed
 unfolding
@@ -145,56 +146,56 @@ computed =
     }
 
 -- **both histories happen**
-pub worked-happened : FromEmpty policy 96 worked
+pub worked-happened : FromEmpty ipv4 policy 96 worked
 worked-happened =
     let rule = octets-each mail (computed .octetsMail) in
     record {
       fits = omega arith;
       given = ((rule, omega arith), ((octets-each ping (computed .octetsPing), omega arith), ((rule, omega arith), ((rule, omega arith), (tt, tt)))));
       happened = (
-        announce-kept policy owned (emptyTable 96) _ Done mailTable (computed .announces) refl refl,
+        announce-kept ipv4 policy owned (emptyTable 96) _ Done mailTable (computed .announces) refl refl,
         (
-          announce-kept policy pinged mailTable _ Done bothTable (computed .adds) refl refl,
+          announce-kept ipv4 policy pinged mailTable _ Done bothTable (computed .adds) refl refl,
           (
-            announce-kept policy foreign bothTable _ (Refused 8 0) pingTable (computed .removes) refl refl,
+            announce-kept ipv4 policy foreign bothTable _ (Refused 8 0) pingTable (computed .removes) refl refl,
             (
-              announce-kept policy owned pingTable _ Done bothTable (computed .again) refl refl,
-              (withdraw-kept ping bothTable _ Done mailTable (computed .withdraws) refl refl, tt),
+              announce-kept ipv4 policy owned pingTable _ Done bothTable (computed .again) refl refl,
+              (withdraw-kept ipv4 ping bothTable _ Done mailTable (computed .withdraws) refl refl, tt),
             ),
           ),
         ),
       );
     }
 
-pub other-happened : FromEmpty policy 96 other
+pub other-happened : FromEmpty ipv4 policy 96 other
 other-happened =
     record {
       fits = omega arith;
       given = (tt, ((octets-each mailSpelled (computed .octetsSpelled), omega arith), tt));
       happened = (
-        withdraw-kept ping (emptyTable 96) _ (Refused 14 0) (emptyTable 96) (computed .withdrawsNone) refl refl,
-        (announce-kept policy spelled (emptyTable 96) _ Done mailTable (computed .announcesSpelled) refl refl, tt),
+        withdraw-kept ipv4 ping (emptyTable 96) _ (Refused 14 0) (emptyTable 96) (computed .withdrawsNone) refl refl,
+        (announce-kept ipv4 policy spelled (emptyTable 96) _ Done mailTable (computed .announcesSpelled) refl refl, tt),
       );
     }
 
 -- **the first ends in a table that holds exactly what is in force**: mail, with its originator and actions, and not ping
-pub worked-holds : HoldsExactly policy worked (endOf (emptyTable 96) worked)
-worked-holds = history-holds policy 96 worked worked-happened
+pub worked-holds : HoldsExactly ipv4 policy 96 worked (endOf (emptyTable 96) worked)
+worked-holds = history-holds ipv4 policy 96 worked worked-happened
 
 pub mail-held : List·Memᴰ mailEntry (entries (endOf (emptyTable 96) worked))
 mail-held = worked-holds .exactly mailEntry .1 (computed .inForce)
 
 pub ping-gone : (e : Entry) → entryKey ipv4 e ≡ keysOf ipv4 pingValue → List·Memᴰ e (entries (endOf (emptyTable 96) worked)) → ⊥
 ping-gone e same stands =
-    let left : none ≡ some e = sym (computed .gone) ∙ ap (inForceAfter policy worked) (sym same) ∙ worked-holds .exactly e .0 stands in
+    let left : none ≡ some e = sym (computed .gone) ∙ ap (inForceAfter ipv4 policy worked) (sym same) ∙ worked-holds .exactly e .0 stands in
     apart (cc)
 
 -- **a packet to mail's host is matched** there by one rule, which drops it; one to a host outside its prefix is not
-pub mail-matched : (answer : Looked) (kept : List (List ℕ)) → LooksUp (endOf (emptyTable 96) worked) (mailTo 5) answer kept
+pub mail-matched : (answer : Looked) (kept : List (List ℕ)) → LooksUp ipv4 (endOf (emptyTable 96) worked) (mailTo 5) answer kept
     → lookupTold answer ≡ done (1 ∷ 1 ∷ 0 ∷ 0 ∷ 0 ∷ 0 ∷ [])
 mail-matched answer kept p = ap lookupTold (p .is) ∙ computed .judgesMatched
 
-pub mail-unmatched : (answer : Looked) (kept : List (List ℕ)) → LooksUp (endOf (emptyTable 96) worked) (mailTo 200) answer kept
+pub mail-unmatched : (answer : Looked) (kept : List (List ℕ)) → LooksUp ipv4 (endOf (emptyTable 96) worked) (mailTo 200) answer kept
     → lookupTold answer ≡ done (replicate 6 0)
 mail-unmatched answer kept p = ap lookupTold (p .is) ∙ computed .judgesUnmatched
 
@@ -206,13 +207,13 @@ module _ (k : RuleKey) where
   abbrev aboutPing : Bool
   aboutPing = isEq (keyOrder k (keysOf ipv4 pingValue))
 
-  last-worked : deedOf (lastCounted policy k worked)
+  last-worked : deedOf (lastCounted ipv4 policy k worked)
       ≡ cond aboutPing (some withdrew) (cond aboutMail (some (announced 7 (Read drops))) none)
   last-worked =
       rw (computed .askedOwned, computed .askedForeign, computed .askedPinged, computed .readPing, computed .plainMail, computed .plainPing)
       (by-test aboutPing (λ e. rw e) (λ e. by-test aboutMail (λ f. rw (e, f, computed .read)) (λ f. rw (e, f))))
 
-  last-other : deedOf (lastCounted policy k other)
+  last-other : deedOf (lastCounted ipv4 policy k other)
       ≡ cond aboutMail (some (announced 7 (Read drops))) (cond aboutPing (some withdrew) none)
   last-other =
       rw (computed .askedSpelled, computed .readPing, computed .plainSpelled, computed .plainPing)
@@ -221,15 +222,15 @@ module _ (k : RuleKey) where
   not-both : aboutMail ≡ true → aboutPing ≡ false
   not-both e = rw (key-order .only k (keysOf ipv4 mailValue) (tie _ e)) (computed .differ)
 
-  same-deed : deedOf (lastCounted policy k worked) ≡ deedOf (lastCounted policy k other)
+  same-deed : deedOf (lastCounted ipv4 policy k worked) ≡ deedOf (lastCounted ipv4 policy k other)
   same-deed =
       last-worked
       ∙ by-test aboutMail (λ e. rw (e, not-both e)) (λ e. rw e)
       ∙ sym last-other
 
 -- **the two agree, and end alike**
-pub worked-agree : Agree policy worked other
+pub worked-agree : Agree ipv4 policy worked other
 worked-agree k = same-deed k
 
-pub worked-alike : EndAlike (endOf (emptyTable 96) worked) (endOf (emptyTable 96) other)
-worked-alike = histories-alike policy 96 worked other worked-happened other-happened worked-agree
+pub worked-alike : EndAlike ipv4 (endOf (emptyTable 96) worked) (endOf (emptyTable 96) other)
+worked-alike = histories-alike ipv4 policy ipv4-fits 96 worked other worked-happened other-happened worked-agree

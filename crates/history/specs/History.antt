@@ -5,14 +5,14 @@ use mathlib.Core.Path.{_≡_}
 use mathlib.Core.List.{List, [], _∷_, List·Memᴰ}
 use mathlib.Core.Logic.{_↔_}
 use mathlib.Core.Option.{Option, none, some}
-use lib.ListN.{replicate}
+use lib.ListN.{length, replicate}
 use Rattle.octets.specs.Number.{Octets}
 use Rattle.octets.specs.Test.{Each}
 use Rattle.sorted.specs.History.{Op, refuse, announce, withdraw}
 use Rattle.sorted.specs.History as S
+use Rattle.rule.specs.declared.Family.{Family}
 use Rattle.rule.specs.declared.Reading.{Reading}
 use Rattle.rule.specs.declared.Reading.the-variants.{Rule, Refused as NotRead}
-use Rattle.rule.specs.Family.{ipv4}
 use Rattle.rule.specs.Plain.{plain}
 use Rattle.rule.specs.Reading.{valueOf, oneRule}
 use Rattle.order.specs.Key.{RuleKey, keysOf, keyOrder}
@@ -41,14 +41,14 @@ pub data Call : Type 0 where
 
 -- What an announcement asks of a table once its input is read and judged: nothing, where that is refused; else to announce an entry,
 -- which is feasible or not.
-abbrev pub asksToAnnounce : Announcement → Request → Op RuleKey Entry
-asksToAnnounce a (NotAsked number place) = refuse number
-asksToAnnounce a (Announce start size actions feasible) = announce (announcedEntry a start size actions) feasible
+abbrev pub asksToAnnounce : Family → Announcement → Request → Op RuleKey Entry
+asksToAnnounce family a (NotAsked number place) = refuse number
+asksToAnnounce family a (Announce start size actions feasible) = announce (announcedEntry family a start size actions) feasible
 
 -- What a withdrawal asks of a table once its rule is read: nothing, where that is refused; else to withdraw the rule.
-abbrev pub asksToWithdraw : List ℕ → Reading → Op RuleKey Entry
-asksToWithdraw rule (NotRead number place) = refuse number
-asksToWithdraw rule (Rule start size) = withdraw (keysOf ipv4 (plain ipv4 (valueOf rule start size)))
+abbrev pub asksToWithdraw : Family → List ℕ → Reading → Op RuleKey Entry
+asksToWithdraw family rule (NotRead number place) = refuse number
+asksToWithdraw family rule (Rule start size) = withdraw (keysOf family (plain family (valueOf rule start size)))
 
 -- A call as it was made: what it was given, its answer, and the table's octets after it.
 pub record Made : Type 0 where
@@ -91,27 +91,27 @@ abbrev pub endOf : List ℕ → List Made → List ℕ
 endOf table [] = table
 endOf table (m ∷ h) = endOf (m .left) h
 
-module _ (policy : Policy) where
+module _ (family : Family) (policy : Policy) where
   -- What a call asks of a table, by its kind.
   abbrev pub asks : Call → Op RuleKey Entry
-  asks (announcement a) = asksToAnnounce a (asked policy a)
-  asks (withdrawal rule) = asksToWithdraw rule (oneRule ipv4 rule)
+  asks (announcement a) = asksToAnnounce family a (asked family policy a)
+  asks (withdrawal rule) = asksToWithdraw family rule (oneRule family rule)
 
   -- A call's promise, with a table at entry.
   abbrev pub Promised : Call → List ℕ → Change → List ℕ → Type 0
-  Promised (announcement a) table answer left = Announces policy a table answer left (policy .routes ∷ a .rule ∷ a .communities ∷ [])
-  Promised (withdrawal rule) table answer left = Withdraws rule table answer left (rule ∷ [])
+  Promised (announcement a) table answer left = Announces family policy a table answer left (policy .routes ∷ a .rule ∷ a .communities ∷ [])
+  Promised (withdrawal rule) table answer left = Withdraws family rule table answer left (rule ∷ [])
 
-  -- A history from a table on, the oldest call first, all calls by one policy: each call keeps its promise on the table that the call
-  -- before it left.
+  -- A history from a table on, the oldest call first, all calls of one family and by one policy: each call keeps its promise on the table
+  -- that the call before it left.
   abbrev pub Happened : List ℕ → List Made → Type 0
   Happened table [] = Unit {0}
   Happened table (m ∷ h) = Promised (m .call) table (m .answer) (m .left) × Happened (m .left) h
 
   -- What a call answers and leaves on a table.
   abbrev pub outcomeOf : Call → List ℕ → Outcome
-  outcomeOf (announcement a) table = announcing policy a table
-  outcomeOf (withdrawal rule) table = withdrawing rule table
+  outcomeOf (announcement a) table = announcing family policy a table
+  outcomeOf (withdrawal rule) table = withdrawing family rule table
 
   -- A call as it is made on a table.
   abbrev pub madeOn : Call → List ℕ → Made
@@ -128,12 +128,12 @@ module _ (policy : Policy) where
 
   -- The last counted call about a rule. 01: "A counted call is an announcement answered 0 or 8, or a withdrawal answered 0 or 14."
   abbrev pub lastCounted : RuleKey → List Made → Option Made
-  lastCounted k h = S.lastCounted keyOrder (entryKey ipv4) askedOf numberOf k h
+  lastCounted k h = S.lastCounted keyOrder (entryKey family) askedOf numberOf k h
 
   -- What is in force for a rule after a history: the entry of a feasible announcement, with its originator and actions, where that is the
   -- rule's last counted call.
   abbrev pub inForceAfter : List Made → RuleKey → Option Entry
-  inForceAfter h k = S.inForceAfter keyOrder (entryKey ipv4) askedOf numberOf h k
+  inForceAfter h k = S.inForceAfter keyOrder (entryKey family) askedOf numberOf h k
 
   -- Two histories agree on each rule's last counted call.
   abbrev pub Agree : List Made → List Made → Type 0
@@ -147,15 +147,16 @@ module _ (policy : Policy) where
 
   -- **Demand 3**, of a table after a history: it "holds exactly the rules whose last counted call was a feasible announcement, each with
   -- that call's actions" (`exactly`), "once, in precedence order" (`sound`: its octets are the records of its entries, whose keys rise
-  -- strictly, and zeros).
-  pub record HoldsExactly (h : List Made) (table : List ℕ) : Type 0 where
-    pub exactly : (e : Entry) → List·Memᴰ e (entries table) ↔ (inForceAfter h (entryKey ipv4 e) ≡ some e)
-    pub sound : Encodes ipv4 table (entries table)
+  -- strictly, and zeros), in the n octets of its buffer (`sized`).
+  pub record HoldsExactly (n : ℕ) (h : List Made) (table : List ℕ) : Type 0 where
+    pub exactly : (e : Entry) → List·Memᴰ e (entries table) ↔ (inForceAfter h (entryKey family e) ≡ some e)
+    pub sound : Encodes family table (entries table)
+    pub sized : length table ≡ n
 
 -- **Demand 3**, of two tables: they are "equal bytes and judge every packet alike", with one verdict, which has one count and one set of
 -- actions, and one first match, which stands at one place of tables that stand at one place.
-pub record EndAlike (table other : List ℕ) : Type 0 where
+pub record EndAlike (family : Family) (table other : List ℕ) : Type 0 where
   pub octets : table ≡ other
-  pub verdicts : (packet : List ℕ) (a b : Looked) (k l : List (List ℕ)) → LooksUp table packet a k → LooksUp other packet b l → a ≡ b
-  pub matches : (packet part rest : List ℕ) (lent stands stood : ℕ × ℕ) (k l : List (List ℕ)) → FirstMatches table packet lent part stands k
-      → FirstMatches other packet lent rest stood l → (part ≡ rest) × (stands ≡ stood)
+  pub verdicts : (packet : List ℕ) (a b : Looked) (k l : List (List ℕ)) → LooksUp family table packet a k → LooksUp family other packet b l → a ≡ b
+  pub matches : (packet part rest : List ℕ) (lent stands stood : ℕ × ℕ) (k l : List (List ℕ)) → FirstMatches family table packet lent part stands k
+      → FirstMatches family other packet lent rest stood l → (part ≡ rest) × (stands ≡ stood)
