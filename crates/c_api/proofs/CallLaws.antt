@@ -5,7 +5,7 @@ use Prim.Native.Nat.{ℕ, _-_, _≤_}
 use native.Mathlib.Omega.{arith}
 use lib.ListN.{getD}
 use borrow.Author.Tests.{eq-eqb, ne-eqb}
-use Rattle.rule.specs.Family.{ipv4}
+use Rattle.rule.specs.declared.Family.{Family}
 use Rattle.rule.specs.declared.Reading.{Reading}
 use Rattle.rule.specs.declared.Reading.the-variants.{Rule, Refused as NotRead}
 use Rattle.rule.specs.Reading.{oneRule}
@@ -44,22 +44,22 @@ module _ {X : Type 0} (answerOf : X → Told) (d x : X) (is : x ≡ d) (y : X) (
   word-is result h = subst (λ z. result ≡ wordOf (answerOf z)) (sym e ∙ is) h
 
 -- reading one rule
-module _ (rule : List ℕ) (r : Reading) (lent : List (List ℕ)) (kept : ReadsOne rule r lent) where
+module _ (family : Family) (rule : List ℕ) (r : Reading) (lent : List (List ℕ)) (kept : ReadsOne family rule r lent) where
   pub read-refusal : (number place : ℕ) → r ≡ NotRead number place → Refusal number place
-  read-refusal number place e = one-refused ipv4 rule number place (sym (kept .is) ∙ e)
+  read-refusal number place e = one-refused family rule number place (sym (kept .is) ∙ e)
 
   pub read-near : (number place : ℕ) → r ≡ NotRead number place → place ≤ 4095
   read-near number place e = read-refusal number place e .near
 
   pub read-refused : (entry : List ℕ) (number place result : ℕ) → r ≡ NotRead number place → result ≡ word number place
-      → Returns (readingTold (oneRule ipv4 rule)) entry result entry
+      → Returns (readingTold (oneRule family rule)) entry result entry
   read-refused entry number place result e h =
-      answered readingTold (oneRule ipv4 rule) r (kept .is) (NotRead number place) e entry result entry
+      answered readingTold (oneRule family rule) r (kept .is) (NotRead number place) e entry result entry
       (refused number place (0 ∷ 0 ∷ []) entry (read-refusal number place e) result h)
 
-  pub read-done : (entry : List ℕ) (start size : ℕ) → r ≡ Rule start size → Returns (readingTold (oneRule ipv4 rule)) entry 0 (start ∷ size ∷ [])
+  pub read-done : (entry : List ℕ) (start size : ℕ) → r ≡ Rule start size → Returns (readingTold (oneRule family rule)) entry 0 (start ∷ size ∷ [])
   read-done entry start size e =
-      answered readingTold (oneRule ipv4 rule) r (kept .is) (Rule start size) e entry 0 (start ∷ size ∷ []) (done (start ∷ size ∷ []) entry)
+      answered readingTold (oneRule family rule) r (kept .is) (Rule start size) e entry 0 (start ∷ size ∷ []) (done (start ∷ size ∷ []) entry)
 
 -- reading actions: unsound ones, and those that are read
 pub actions-refused : (entry : List ℕ) (result : ℕ) → result ≡ word 13 0 → Returns (actionsTold Unsound) entry result entry
@@ -82,9 +82,9 @@ pub matched-words : (v : Verdict) (actions : Actions) (count : ℕ) (values : Li
 matched-words v actions count values e h = rw (e, h)
 
 -- the first match, by its place with the lookup's number
-module _ (t octets entry : List ℕ) (place : MatchPlace) (lent : List (List ℕ)) (kept : LocatesFirst t octets place lent) where
-  pub first-refused : (place .number ≡ 0 → ⊥) → (result : ℕ) → result ≡ word (place .number) 0 → Returns (matchPlaceTold (matchPlace t octets)) entry result entry
+module _ (family : Family) (t octets entry : List ℕ) (place : MatchPlace) (lent : List (List ℕ)) (kept : LocatesFirst family t octets place lent) where
+  pub first-refused : (place .number ≡ 0 → ⊥) → (result : ℕ) → result ≡ word (place .number) 0 → Returns (matchPlaceTold (matchPlace family t octets)) entry result entry
   first-refused n result h = rw (← kept .is) (record { is = h; out = rw (ne-eqb (place .number) 0 n) })
 
-  pub first-done : place .number ≡ 0 → Returns (matchPlaceTold (matchPlace t octets)) entry 0 (place .start ∷ (place .end - place .start) ∷ [])
+  pub first-done : place .number ≡ 0 → Returns (matchPlaceTold (matchPlace family t octets)) entry 0 (place .start ∷ (place .end - place .start) ∷ [])
   first-done z = rw (← kept .is) (record { is = rw z; out = rw (eq-eqb (place .number) 0 z) })

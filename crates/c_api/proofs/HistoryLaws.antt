@@ -5,6 +5,8 @@ use mathlib.Core.List.{List, [], _∷_}
 use Prim.Native.Nat.{ℕ, _≤_}
 use native.Mathlib.Omega.{arith}
 use borrow.Author.Tests.{ne-eqb}
+use Rattle.rule.specs.Family.{ipv4}
+use Rattle.rule.proofs.FamilyLaws.{ipv4-fits}
 use Rattle.rule.proofs.Refusal.{Refusal}
 use Rattle.table.specs.Sound.{mostOctets}
 use Rattle.flowspec.specs.declared.Change.{Change}
@@ -32,33 +34,33 @@ word-says (Refused number place) h =
 module _ (policy : Policy) where
   -- what a call from C promises is the door's promise, with the answer that its word says
   pub returned-promised : (call : Call) (table : List ℕ) (result : ℕ) (left : List ℕ) → Returned policy call table result left
-      → Promised policy call table (answerIn result) left
+      → Promised ipv4 policy call table (answerIn result) left
   returned-promised (announcement a) table result left p =
-      announce-kept policy a table (announcing policy a table) (answerIn result) left refl
-      (rw (p .is) (word-says (announcing policy a table .answer) (not-announced policy a table)))
+      announce-kept ipv4 policy a table (announcing ipv4 policy a table) (answerIn result) left refl
+      (rw (p .is) (word-says (announcing ipv4 policy a table .answer) (not-announced ipv4 policy a table)))
       (p .leaves)
   returned-promised (withdrawal rule) table result left p =
-      withdraw-kept rule table (withdrawing rule table) (answerIn result) left refl
-      (rw (p .is) (word-says (withdrawing rule table .answer) (not-withdrawn rule table)))
+      withdraw-kept ipv4 rule table (withdrawing ipv4 rule table) (answerIn result) left refl
+      (rw (p .is) (word-says (withdrawing ipv4 rule table .answer) (not-withdrawn ipv4 rule table)))
       (p .leaves)
 
   -- **calls from C are a history at the door**
-  pub returned-happened : (h : List Called) (table : List ℕ) → AllReturned policy table h → Happened policy table (answered h)
+  pub returned-happened : (h : List Called) (table : List ℕ) → AllReturned policy table h → Happened ipv4 policy table (answered h)
   returned-happened [] table p = tt
   returned-happened (m ∷ h) table p = (returned-promised (m .call) table (m .result) (m .left) (p .0), returned-happened h (m .left) (p .1))
 
   module _ (n : ℕ) (fits : n ≤ mostOctets) where
-    from-empty : (h : List Called) → EachCanBe (answered h) → AllReturned policy (emptyTable n) h → FromEmpty policy n (answered h)
+    from-empty : (h : List Called) → EachCanBe (answered h) → AllReturned policy (emptyTable n) h → FromEmpty ipv4 policy n (answered h)
     from-empty h given p = record { fits = fits; given = given; happened = returned-happened h (emptyTable n) p }
 
     -- **the table holds exactly what is in force**
     pub returned-holds : (h : List Called) → EachCanBe (answered h) → AllReturned policy (emptyTable n) h
-        → HoldsExactly policy (answered h) (endOf (emptyTable n) (answered h))
-    returned-holds h given p = history-holds policy n (answered h) (from-empty h given p)
+        → HoldsExactly ipv4 policy n (answered h) (endOf (emptyTable n) (answered h))
+    returned-holds h given p = history-holds ipv4 policy n (answered h) (from-empty h given p)
 
     -- **two histories that agree end alike**
     pub returned-alike : (h g : List Called) → EachCanBe (answered h) → EachCanBe (answered g) → AllReturned policy (emptyTable n) h
-        → AllReturned policy (emptyTable n) g → Agree policy (answered h) (answered g)
-        → EndAlike (endOf (emptyTable n) (answered h)) (endOf (emptyTable n) (answered g))
+        → AllReturned policy (emptyTable n) g → Agree ipv4 policy (answered h) (answered g)
+        → EndAlike ipv4 (endOf (emptyTable n) (answered h)) (endOf (emptyTable n) (answered g))
     returned-alike h g given also p q agree =
-        histories-alike policy n (answered h) (answered g) (from-empty h given p) (from-empty g also q) agree
+        histories-alike ipv4 policy ipv4-fits n (answered h) (answered g) (from-empty h given p) (from-empty g also q) agree

@@ -10,9 +10,9 @@ use Rattle.octets.specs.Order.{ordered}
 use Rattle.octets.specs.declared.Order.{Order}
 use Rattle.octets.specs.declared.Order.the-variants.{First as OrderFirst, Second as OrderSecond, Same as OrderSame}
 use Rattle.octets.proofs.Cases.{by-test}
+use Rattle.rule.specs.declared.Family.{Family}
 use Rattle.rule.specs.declared.Reading.{Reading}
 use Rattle.rule.specs.declared.Reading.the-variants.{Rule, Refused as NotRead}
-use Rattle.rule.specs.Family.{ipv4}
 use Rattle.rule.specs.Plain.{plain}
 use Rattle.rule.specs.Reading.{valueOf, oneRule}
 use Rattle.rule.proofs.Refusal.{Refusal, placeless}
@@ -36,7 +36,7 @@ use Rattle.flowspec.specs.declared.Feasibility.the-variants.{Feasible, Refused 
 use Rattle.flowspec.specs.declared.Request.{Request}
 use Rattle.flowspec.specs.declared.Request.the-variants.{Announce, Refused as NotAsked}
 use Rattle.flowspec.specs.declared.Change.{Change}
-use Rattle.flowspec.specs.declared.Change.the-variants.{Done, Refused as NotChanged}
+use Rattle.flowspec.specs.declared.Change.the-variants.{Done, Refused as NotDone}
 use Rattle.flowspec.specs.declared.Looked.{Looked}
 use Rattle.flowspec.specs.declared.Looked.the-variants.{Judged, Refused as NotLookedUp}
 use Rattle.flowspec.specs.Told.{changeTold}
@@ -54,19 +54,19 @@ Compares First = Unit {0}
 Compares Second = Unit {0}
 Compares Same = Unit {0}
 
-pub not-compared : (a b : List ℕ) (number place : ℕ) → compareRules a b ≡ NotCompared number place → Refusal number place
+pub not-compared : (family : Family) (a b : List ℕ) (number place : ℕ) → compareRules family a b ≡ NotCompared number place → Refusal number place
 unfolding compareRules
-not-compared a b number place e = subst Compares e (go (oneRule ipv4 a) (oneRule ipv4 b) (one-says ipv4 a) (one-says ipv4 b))
+not-compared family a b number place e = subst Compares e (go (oneRule family a) (oneRule family b) (one-says family a) (one-says family b))
   where
     order : (o : Order) → Compares (comparisonOf o)
     order OrderFirst = tt
     order OrderSecond = tt
     order OrderSame = tt
 
-    go : (r q : Reading) → SaysRule ipv4 a r → SaysRule ipv4 b q → Compares (compareRead a r b q)
+    go : (r q : Reading) → SaysRule family a r → SaysRule family b q → Compares (compareRead family a r b q)
     go (NotRead number place) q h k = h
     go (Rule start size) (NotRead number place) h k = k
-    go (Rule start size) (Rule begin length) h k = order (ordered (precedence ipv4 (valueOf a start size) (valueOf b begin length)))
+    go (Rule start size) (Rule begin span) h k = order (ordered (precedence family (valueOf a start size) (valueOf b begin span)))
 
 -- ---- judging ----
 
@@ -79,37 +79,37 @@ abbrev Reads : Reading → Type 0
 Reads (NotRead number place) = Refusal number place
 Reads (Rule start size) = Unit {0}
 
-with-says : (words rule : List ℕ) → Reads (readWithRoutes words rule)
+with-says : (family : Family) (words rule : List ℕ) → Reads (readWithRoutes family words rule)
 unfolding readWithRoutes
-with-says words rule =
-    by-test (soundRoutes ipv4 words) (λ t. rw t (go (oneRule ipv4 rule) (one-says ipv4 rule))) (λ t. rw t (placeless 9 (omega arith) (omega arith)))
+with-says family words rule =
+    by-test (soundRoutes family words) (λ t. rw t (go (oneRule family rule) (one-says family rule))) (λ t. rw t (placeless 9 (omega arith) (omega arith)))
   where
-    go : (r : Reading) → SaysRule ipv4 rule r → Reads r
+    go : (r : Reading) → SaysRule family rule r → Reads r
     go (NotRead number place) h = h
     go (Rule start size) h = tt
 
-pub not-feasible : (policy : Policy) (rule : List ℕ) (originator number place : ℕ) → judgement policy rule originator ≡ NotFeasible number place
+pub not-feasible : (family : Family) (policy : Policy) (rule : List ℕ) (originator number place : ℕ) → judgement family policy rule originator ≡ NotFeasible number place
     → Refusal number place
 unfolding judgement
-not-feasible policy rule originator number place e = subst Judges e (go (readWithRoutes (policy .routes) rule) (with-says (policy .routes) rule))
+not-feasible family policy rule originator number place e = subst Judges e (go (readWithRoutes family (policy .routes) rule) (with-says family (policy .routes) rule))
   where
     verdict : (b : Bool) → Judges (feasibilityOf b)
     verdict true = tt
     verdict false = placeless 8 (omega arith) (omega arith)
 
-    go : (r : Reading) → Reads r → Judges (judgeRead policy rule originator r)
+    go : (r : Reading) → Reads r → Judges (judgeRead family policy rule originator r)
     go (NotRead number place) h = h
-    go (Rule start size) h = verdict (isFeasible policy (valueOf rule start size) originator)
+    go (Rule start size) h = verdict (isFeasible family policy (valueOf rule start size) originator)
 
 -- ---- announcing and withdrawing ----
 
 abbrev Changes : Change → Type 0
-Changes (NotChanged number place) = Refusal number place
+Changes (NotDone number place) = Refusal number place
 Changes Done = Unit {0}
 
 -- a change is near where each of its refusals is one of 01's table
-pub change-near : (c : Change) → ((number place : ℕ) → c ≡ NotChanged number place → Refusal number place) → changeTold c .place ≤ 4095
-change-near (NotChanged number place) h = h number place refl .near
+pub change-near : (c : Change) → ((number place : ℕ) → c ≡ NotDone number place → Refusal number place) → changeTold c .place ≤ 4095
+change-near (NotDone number place) h = h number place refl .near
 change-near Done h = omega arith
 
 changes : (number : ℕ) → number ≤ 16 → Changes (changeOf number)
@@ -121,48 +121,48 @@ abbrev Asks : Request → Type 0
 Asks (NotAsked number place) = Refusal number place
 Asks (Announce start size actions feasible) = Unit {0}
 
-module _ (policy : Policy) (a : Announcement) where
-  asks : Asks (asked policy a)
+module _ (family : Family) (policy : Policy) (a : Announcement) where
+  asks : Asks (asked family policy a)
   unfolding asked
-  asks = go (readWithRoutes (policy .routes) (a .rule)) (with-says (policy .routes) (a .rule)) (actionsOf (a .communities))
+  asks = go (readWithRoutes family (policy .routes) (a .rule)) (with-says family (policy .routes) (a .rule)) (actionsOf (a .communities))
     where
-      go : (r : Reading) → Reads r → (acts : ActionsReading) → Asks (askedBy policy a r acts)
+      go : (r : Reading) → Reads r → (acts : ActionsReading) → Asks (askedBy family policy a r acts)
       go (NotRead number place) h acts = h
       go (Rule start size) h Unsound = placeless 13 (omega arith) (omega arith)
       go (Rule start size) h (Read actions) = tt
 
-  pub not-announced : (t : List ℕ) (number place : ℕ) → announcing policy a t .answer ≡ NotChanged number place
+  pub not-announced : (t : List ℕ) (number place : ℕ) → announcing family policy a t .answer ≡ NotDone number place
       → Refusal number place
   unfolding announcing
   not-announced t number place e =
       subst Changes e
-      (by-test (soundTable ipv4 t) (λ s. rw s (go (asked policy a) asks))
+      (by-test (soundTable family t) (λ s. rw s (go (asked family policy a) asks))
       (λ s. rw s (placeless 10 (omega arith) (omega arith))))
     where
-      told : (n : Entry) (feasible : Bool) → announced ipv4 t n feasible .number ≤ 16
-      told n true = by-test (hasRoom ipv4 t n) (λ h. rw h (omega arith)) (λ h. rw h (omega arith))
+      told : (n : Entry) (feasible : Bool) → announced family t n feasible .number ≤ 16
+      told n true = by-test (hasRoom family t n) (λ h. rw h (omega arith)) (λ h. rw h (omega arith))
       told n false = omega arith
 
-      go : (r : Request) → Asks r → Changes (announcedBy a t r .answer)
+      go : (r : Request) → Asks r → Changes (announcedBy family a t r .answer)
       go (NotAsked number place) h = h
       go (Announce start size actions feasible) h =
-          let n : Entry = announcedEntry a start size actions in
-          changes (announced ipv4 t n feasible .number) (told n feasible)
+          let n : Entry = announcedEntry family a start size actions in
+          changes (announced family t n feasible .number) (told n feasible)
 
-pub not-withdrawn : (rule t : List ℕ) (number place : ℕ) → withdrawing rule t .answer ≡ NotChanged number place → Refusal number place
+pub not-withdrawn : (family : Family) (rule t : List ℕ) (number place : ℕ) → withdrawing family rule t .answer ≡ NotDone number place → Refusal number place
 unfolding withdrawing withdrawn
-not-withdrawn rule t number place e =
+not-withdrawn family rule t number place e =
     subst Changes e
-    (by-test (soundTable ipv4 t) (λ s. rw s (go (oneRule ipv4 rule) (one-says ipv4 rule))) (λ s. rw s (placeless 10 (omega arith) (omega arith))))
+    (by-test (soundTable family t) (λ s. rw s (go (oneRule family rule) (one-says family rule))) (λ s. rw s (placeless 10 (omega arith) (omega arith))))
   where
-    told : (k : List (List ℕ)) → withdrawn ipv4 t k .number ≤ 16
-    told k = by-test (holds ipv4 t k) (λ h. rw h (omega arith)) (λ h. rw h (omega arith))
+    told : (k : List (List ℕ)) → withdrawn family t k .number ≤ 16
+    told k = by-test (holds family t k) (λ h. rw h (omega arith)) (λ h. rw h (omega arith))
 
-    go : (r : Reading) → SaysRule ipv4 rule r → Changes (withdrawnBy t rule r .answer)
+    go : (r : Reading) → SaysRule family rule r → Changes (withdrawnBy family t rule r .answer)
     go (NotRead number place) h = h
     go (Rule start size) h =
-        let k = keysOf ipv4 (plain ipv4 (valueOf rule start size)) in
-        changes (withdrawn ipv4 t k .number) (told k)
+        let k = keysOf family (plain family (valueOf rule start size)) in
+        changes (withdrawn family t k .number) (told k)
 
 -- ---- looking up ----
 
@@ -170,11 +170,11 @@ abbrev Looks : Looked → Type 0
 Looks (NotLookedUp number place) = Refusal number place
 Looks (Judged verdict) = Unit {0}
 
-pub not-looked-up : (t octets : List ℕ) (number place : ℕ) → lookingUp t octets ≡ NotLookedUp number place → Refusal number place
+pub not-looked-up : (family : Family) (t octets : List ℕ) (number place : ℕ) → lookingUp family t octets ≡ NotLookedUp number place → Refusal number place
 unfolding lookingUp seen
-not-looked-up t octets number place e =
-    subst Looks e (by-test (soundTable ipv4 t) (λ s. rw s (go (packetOf ipv4 octets))) (λ s. rw s (placeless 10 (omega arith) (omega arith))))
+not-looked-up family t octets number place e =
+    subst Looks e (by-test (soundTable family t) (λ s. rw s (go (packetOf family octets))) (λ s. rw s (placeless 10 (omega arith) (omega arith))))
   where
-    go : (s : Sight) → Looks (lookedUp t (shown s))
+    go : (s : Sight) → Looks (lookedUp family t (shown s))
     go Unusable = placeless 12 (omega arith) (omega arith)
     go (Usable packet) = tt

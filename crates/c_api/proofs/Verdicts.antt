@@ -6,7 +6,7 @@ use Prim.Native.Nat.{ℕ}
 use lib.Dec.{eqb}
 use lib.ListN.{length}
 use Rattle.octets.proofs.Cases.{by-test}
-use Rattle.rule.specs.Family.{ipv4}
+use Rattle.rule.specs.declared.Family.{Family}
 use Rattle.action.specs.declared.Actions.{Actions}
 use Rattle.action.specs.Actions.{noActions}
 use Rattle.action.specs.Merging.{merged}
@@ -33,12 +33,12 @@ NoT (Judged Unmatched) = Unit {0}
 NoT (Judged (Matched actions count)) = actions .onward ≡ false
 NoT (Refused number place) = Unit {0}
 
-pub lookup-no-T : (t octets : List ℕ) → NoT (lookingUp t octets)
+pub lookup-no-T : (family : Family) (t octets : List ℕ) → NoT (lookingUp family t octets)
 unfolding lookingUp seen verdictFor verdictOf
-lookup-no-T t octets = by-test (soundTable ipv4 t) (λ s. rw s (go (packetOf ipv4 octets))) (λ s. rw s tt)
+lookup-no-T family t octets = by-test (soundTable family t) (λ s. rw s (go (packetOf family octets))) (λ s. rw s tt)
   where
-    go : (s : Sight) → NoT (lookedUp t (shown s))
+    go : (s : Sight) → NoT (lookedUp family t (shown s))
     go Unusable = tt
     go (Usable packet) =
-        let es = collected (hit ipv4 noHead packet) (entries t) in
+        let es = collected (hit family packet) (entries t) in
         by-test (eqb (length es) 0) (λ z. rw z tt) (λ z. rw z (onto-no-T noActions es refl))

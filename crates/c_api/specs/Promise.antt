@@ -1,6 +1,6 @@
 -- What each call promises, whatever octets it is lent: the word that it returns, what each buffer lent to be changed and `out` hold at
 -- exit, and that what is lent to be read alone is as it was (`keeps`; `kept` is what those slices hold at exit). No call has a `requires`.
--- That no second result satisfies a promise is shown in proofs/Unique.antt. The answers are the door's, by its own definitions.
+-- That no second result satisfies a promise is shown in proofs/Unique.antt. The answers are the door's, by its own definitions, for IPv4.
 use Prim.Native.Nat.{ℕ}
 use mathlib.Core.Path.{_≡_}
 use mathlib.Core.List.{List, [], _∷_}
@@ -41,11 +41,11 @@ pub record WriteCall (value buffer entry : List ℕ) (result : ℕ) (left exit :
 -- flowspec4_compare: refusals 1 to 7 and 15 of the first rule, then of the second.
 abbrev pub CompareCall : List ℕ → List ℕ → List ℕ → ℕ → List ℕ → List (List ℕ) → Type 0
 CompareCall first second entry result exit kept =
-    ReturnsKeeping (comparisonTold (compareRules first second)) (first ∷ second ∷ []) entry result exit kept
+    ReturnsKeeping (comparisonTold (compareRules ipv4 first second)) (first ∷ second ∷ []) entry result exit kept
 
 -- flowspec4_feasible: refusals 9, 1 to 7, 15, 8.
 pub record FeasibleCall (policy : Policy) (rule : List ℕ) (originator result : ℕ) (kept : List (List ℕ)) : Type 0 where
-  pub is : result ≡ wordOf (feasibilityTold (judgement policy rule originator))
+  pub is : result ≡ wordOf (feasibilityTold (judgement ipv4 policy rule originator))
   pub keeps : kept ≡ policy .routes ∷ rule ∷ []
 
 -- flowspec4_actions: refusal 13.
@@ -55,22 +55,22 @@ ActionsCall communities entry result exit kept =
 
 -- flowspec4_announce: refusals 10, 9, 1 to 7, 15, 13, 8, 11; of these 8 alone changes the table, where the rule was held.
 pub record AnnounceCall (table : List ℕ) (policy : Policy) (announcement : Announcement) (result : ℕ) (left : List ℕ) (kept : List (List ℕ)) : Type 0 where
-  pub is : result ≡ wordOf (changeTold (announcing policy announcement table .answer))
-  pub leaves : left ≡ announcing policy announcement table .table
+  pub is : result ≡ wordOf (changeTold (announcing ipv4 policy announcement table .answer))
+  pub leaves : left ≡ announcing ipv4 policy announcement table .table
   pub keeps : kept ≡ policy .routes ∷ announcement .rule ∷ announcement .communities ∷ []
 
 -- flowspec4_withdraw: refusals 10, 1 to 7, 15, 14, none of which changes an octet.
 pub record WithdrawCall (table rule : List ℕ) (result : ℕ) (left : List ℕ) (kept : List (List ℕ)) : Type 0 where
-  pub is : result ≡ wordOf (changeTold (withdrawing rule table .answer))
-  pub leaves : left ≡ withdrawing rule table .table
+  pub is : result ≡ wordOf (changeTold (withdrawing ipv4 rule table .answer))
+  pub leaves : left ≡ withdrawing ipv4 rule table .table
   pub keeps : kept ≡ rule ∷ []
 
 -- flowspec4_lookup: refusals 10, 12.
 abbrev pub LookupCall : List ℕ → List ℕ → List ℕ → ℕ → List ℕ → List (List ℕ) → Type 0
 LookupCall table packet entry result exit kept =
-    ReturnsKeeping (lookupTold (lookingUp table packet)) (table ∷ packet ∷ []) entry result exit kept
+    ReturnsKeeping (lookupTold (lookingUp ipv4 table packet)) (table ∷ packet ∷ []) entry result exit kept
 
 -- flowspec4_first_match: refusals 10, 12.
 abbrev pub FirstMatchCall : List ℕ → List ℕ → List ℕ → ℕ → List ℕ → List (List ℕ) → Type 0
 FirstMatchCall table packet entry result exit kept =
-    ReturnsKeeping (matchPlaceTold (matchPlace table packet)) (table ∷ packet ∷ []) entry result exit kept
+    ReturnsKeeping (matchPlaceTold (matchPlace ipv4 table packet)) (table ∷ packet ∷ []) entry result exit kept

@@ -7,6 +7,7 @@ ghost use Rattle.flowspec.specs.Input.{announcementOf, policyOf};
 ghost use Rattle.flowspec.specs.Told.{changeTold, verdictTold};
 ghost use Rattle.c_api.specs.Word.{word, wordOf, isOn};
 ghost use Rattle.c_api.specs.Promise.{ReadCall, WriteCall, CompareCall, FeasibleCall, ActionsCall, AnnounceCall, WithdrawCall, LookupCall, FirstMatchCall};
+use flowspec::AddressFamily;
 use flowspec::Change;
 use flowspec::Comparison;
 use flowspec::Feasibility;
@@ -66,7 +67,7 @@ fn words_of(verdict: Verdict) -> [u64; 6]
 pub extern "C" fn flowspec4_read(rule: &[u8], out: &mut [u64; 2]) -> u64
     ensures { λ r. ⌜ ReadCall (now (rule .entry)) (now (out .entry)) r (now (out .exit)) (now (rule .exit) ∷ []) ⌝ }
 {
-    match flowspec::read_rule(rule) {
+    match flowspec::read_rule(AddressFamily::Ipv4, rule) {
         Reading::Refused { number, place } => word_of(number, place),
         Reading::Rule { start, size } => {
             *out = [start as u64, size as u64];
@@ -80,7 +81,7 @@ pub extern "C" fn flowspec4_read(rule: &[u8], out: &mut [u64; 2]) -> u64
 pub extern "C" fn flowspec4_write(value: &[u8], buffer: &mut [u8], out: &mut [u64; 1]) -> u64
     ensures { λ r. ⌜ WriteCall (now (value .entry)) (now (buffer .entry)) (now (out .entry)) r (now (buffer .exit)) (now (out .exit)) (now (value .exit) ∷ []) ⌝ }
 {
-    match flowspec::write_rule(value, buffer) {
+    match flowspec::write_rule(AddressFamily::Ipv4, value, buffer) {
         Writing::Refused { number, place } => word_of(number, place),
         Writing::Written(octets) => {
             *out = [octets as u64];
@@ -94,7 +95,7 @@ pub extern "C" fn flowspec4_write(value: &[u8], buffer: &mut [u8], out: &mut [u6
 pub extern "C" fn flowspec4_compare(first: &[u8], second: &[u8], out: &mut [u64; 1]) -> u64
     ensures { λ r. ⌜ CompareCall (now (first .entry)) (now (second .entry)) (now (out .entry)) r (now (out .exit)) (now (first .exit) ∷ now (second .exit) ∷ []) ⌝ }
 {
-    match flowspec::compare_rules(first, second) {
+    match flowspec::compare_rules(AddressFamily::Ipv4, first, second) {
         Comparison::Refused { number, place } => word_of(number, place),
         Comparison::First => {
             *out = [1];
@@ -122,7 +123,7 @@ pub extern "C" fn flowspec4_feasible(
     ensures { λ r. ⌜ FeasibleCall (policyOf (now (routes .entry)) (isOn «allow_no_destination»)) (now (rule .entry)) originator r (now (routes .exit) ∷ now (rule .exit) ∷ []) ⌝ }
 {
     let on = is_on(allow_no_destination);
-    match flowspec::judge_rule(on, routes, rule, originator) {
+    match flowspec::judge_rule(AddressFamily::Ipv4, on, routes, rule, originator) {
         Feasibility::Refused { number, place } => word_of(number, place),
         Feasibility::Feasible => 0,
     }
@@ -155,7 +156,15 @@ pub extern "C" fn flowspec4_announce(
     ensures { λ r. ⌜ AnnounceCall (now (table .entry)) (policyOf (now (routes .entry)) (isOn «allow_no_destination»)) (announcementOf (now (rule .entry)) originator (now (communities .entry))) r (now (table .exit)) (now (routes .exit) ∷ now (rule .exit) ∷ now (communities .exit) ∷ []) ⌝ }
 {
     let on = is_on(allow_no_destination);
-    let change = flowspec::announce(table, on, routes, rule, originator, communities);
+    let change = flowspec::announce(
+        AddressFamily::Ipv4,
+        table,
+        on,
+        routes,
+        rule,
+        originator,
+        communities,
+    );
     change_word(change)
 }
 
@@ -164,7 +173,7 @@ pub extern "C" fn flowspec4_announce(
 pub extern "C" fn flowspec4_withdraw(table: &mut [u8], rule: &[u8]) -> u64
     ensures { λ r. ⌜ WithdrawCall (now (table .entry)) (now (rule .entry)) r (now (table .exit)) (now (rule .exit) ∷ []) ⌝ }
 {
-    let change = flowspec::withdraw(table, rule);
+    let change = flowspec::withdraw(AddressFamily::Ipv4, table, rule);
     change_word(change)
 }
 
@@ -173,7 +182,7 @@ pub extern "C" fn flowspec4_withdraw(table: &mut [u8], rule: &[u8]) -> u64
 pub extern "C" fn flowspec4_lookup(table: &[u8], packet: &[u8], out: &mut [u64; 6]) -> u64
     ensures { λ r. ⌜ LookupCall (now (table .entry)) (now (packet .entry)) (now (out .entry)) r (now (out .exit)) (now (table .exit) ∷ now (packet .exit) ∷ []) ⌝ }
 {
-    match flowspec::lookup(table, packet) {
+    match flowspec::lookup(AddressFamily::Ipv4, table, packet) {
         Looked::Refused { number, place } => word_of(number, place),
         Looked::Judged(verdict) => {
             *out = words_of(verdict);
@@ -187,11 +196,11 @@ pub extern "C" fn flowspec4_lookup(table: &[u8], packet: &[u8], out: &mut [u64; 
 pub extern "C" fn flowspec4_first_match(table: &[u8], packet: &[u8], out: &mut [u64; 2]) -> u64
     ensures { λ r. ⌜ FirstMatchCall (now (table .entry)) (now (packet .entry)) (now (out .entry)) r (now (out .exit)) (now (table .exit) ∷ now (packet .exit) ∷ []) ⌝ }
 {
-    let found = flowspec::first_match_place(table, packet);
+    let found = flowspec::first_match_place(AddressFamily::Ipv4, table, packet);
     if found.number != 0 {
         return word_of(found.number, 0);
     }
-    let length = found.end - found.start;
-    *out = [found.start as u64, length as u64];
+    let size = found.end - found.start;
+    *out = [found.start as u64, size as u64];
     0
 }

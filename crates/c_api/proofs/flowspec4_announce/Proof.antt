@@ -14,7 +14,7 @@ announce-requires : tie.Need-announce-requires
 announce-requires c κs = search needs
 
 change-word-requires : tie.Need-change-word-requires
-change-word-requires c κs = change-near _ (λ n p e. not-announced _ _ _ n p (sym (c .before .before .announce .ensures .is) ∙ e))
+change-word-requires c κs = change-near _ (λ n p e. not-announced _ _ _ _ n p (sym (c .before .before .announce .ensures .is) ∙ e))
 
 same-length : tie.Need-same-length
 same-length c = search needs

@@ -9,7 +9,7 @@ use Rattle.c_api.proofs.flowspec4_compare.Statement.{statement}
 use Rattle.c_api.proofs.flowspec4_compare.Tie as tie
 
 refusal : (c : tie.After-known-told) → Refusal (c .before .number .given .0 .0) (c .before .number .given .0 .1 .0)
-refusal c = not-compared _ _ _ _ (sym (c .before .before .before .compare-rules .ensures .is) ∙ c .before .number .given .1)
+refusal c = not-compared _ _ _ _ _ (sym (c .before .before .before .compare-rules .ensures .is) ∙ c .before .number .given .1)
 
 word-of-requires : tie.Need-word-of-requires
 word-of-requires c κs = refusal c .near

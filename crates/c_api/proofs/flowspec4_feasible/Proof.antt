@@ -9,7 +9,7 @@ use Rattle.c_api.proofs.flowspec4_feasible.Statement.{statement}
 use Rattle.c_api.proofs.flowspec4_feasible.Tie as tie
 
 refusal : (c : tie.After-known-told) → Refusal (c .before .number .given .0 .0) (c .before .number .given .0 .1 .0)
-refusal c = not-feasible _ _ _ _ _ (sym (c .before .before .before .judge-rule .ensures .is) ∙ c .before .number .given .1)
+refusal c = not-feasible _ _ _ _ _ _ (sym (c .before .before .before .judge-rule .ensures .is) ∙ c .before .number .given .1)
 
 word-of-requires : tie.Need-word-of-requires
 word-of-requires c κs = refusal c .near

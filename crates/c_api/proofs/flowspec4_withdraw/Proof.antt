@@ -11,7 +11,7 @@ withdraw-requires : tie.Need-withdraw-requires
 withdraw-requires c κs = search needs
 
 change-word-requires : tie.Need-change-word-requires
-change-word-requires c κs = change-near _ (λ n p e. not-withdrawn _ _ n p (sym (c .before .before .withdraw .ensures .is) ∙ e))
+change-word-requires c κs = change-near _ (λ n p e. not-withdrawn _ _ _ n p (sym (c .before .before .withdraw .ensures .is) ∙ e))
 
 same-length : tie.Need-same-length
 same-length c = search needs
