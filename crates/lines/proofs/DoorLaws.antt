@@ -7,6 +7,7 @@ use mathlib.Core.List.{List, [], _∷_}
 use Prim.Native.Nat.{ℕ}
 use lib.ListN.{take}
 use Rattle.octets.proofs.Cases.{by-test}
+use Rattle.rule.specs.Family.{ipv4}
 use Rattle.flowspec.specs.declared.Change.{Change}
 use Rattle.flowspec.specs.Input.{announcementOf, policyOf}
 use Rattle.flowspec.specs.Announce.{announcing, withdrawing}
@@ -17,7 +18,7 @@ use Rattle.text.specs.Print.{laid}
 use Rattle.lines.specs.declared.Served.{Served}
 use Rattle.lines.specs.Line.{Line, route, announce, withdraw, list, other, lineOf}
 use Rattle.lines.specs.Answer.{changeText}
-use Rattle.lines.specs.Serve.{Outcome, routeFits, servedAs, served}
+use Rattle.lines.specs.Serve.{Serving, routeFits, servedAs, served}
 use Rattle.lines.specs.Promise.{Serves}
 
 -- an answer that is printed, and that a promise is kept with
@@ -41,24 +42,24 @@ module _ (line : List ℕ) (used : ℕ) (routes table out : List ℕ) (answer : 
   says l e = rw e
 
   pub announced-at-door : (rule : List ℕ) (originator : ℕ) (communities : List ℕ) → lineOf line ≡ announce rule originator communities
-      → AtDoor (λ change. Announces (policyOf (take used routes) false) (announcementOf rule originator communities) table change tableExit (take used routes ∷ rule ∷ communities ∷ [])) out outExit
+      → AtDoor (λ change. Announces ipv4 (policyOf (take used routes) false) (announcementOf rule originator communities) table change tableExit (take used routes ∷ rule ∷ communities ∷ [])) out outExit
   announced-at-door rule originator communities e =
       let policy = policyOf (take used routes) false in
       let a = announcementOf rule originator communities in
       let is = says (announce rule originator communities) e in
       record {
-        answer = announcing policy a table .answer;
-        kept = announce-kept policy a table (announcing policy a table) _ tableExit refl refl (p .leavesTable ∙ ap (λ (o : Outcome). o .table) is);
-        prints = p .prints ∙ ap (λ (o : Outcome). laid out 0 (o .text)) is;
+        answer = announcing ipv4 policy a table .answer;
+        kept = announce-kept ipv4 policy a table (announcing ipv4 policy a table) _ tableExit refl refl (p .leavesTable ∙ ap (λ (o : Serving). o .table) is);
+        prints = p .prints ∙ ap (λ (o : Serving). laid out 0 (o .text)) is;
       }
 
-  pub withdrawn-at-door : (rule : List ℕ) → lineOf line ≡ withdraw rule → AtDoor (λ change. Withdraws rule table change tableExit (rule ∷ [])) out outExit
+  pub withdrawn-at-door : (rule : List ℕ) → lineOf line ≡ withdraw rule → AtDoor (λ change. Withdraws ipv4 rule table change tableExit (rule ∷ [])) out outExit
   withdrawn-at-door rule e =
       let is = says (withdraw rule) e in
       record {
-        answer = withdrawing rule table .answer;
-        kept = withdraw-kept rule table (withdrawing rule table) _ tableExit refl refl (p .leavesTable ∙ ap (λ (o : Outcome). o .table) is);
-        prints = p .prints ∙ ap (λ (o : Outcome). laid out 0 (o .text)) is;
+        answer = withdrawing ipv4 rule table .answer;
+        kept = withdraw-kept ipv4 rule table (withdrawing ipv4 rule table) _ tableExit refl refl (p .leavesTable ∙ ap (λ (o : Serving). o .table) is);
+        prints = p .prints ∙ ap (λ (o : Serving). laid out 0 (o .text)) is;
       }
 
   pub table-kept : NoCall (lineOf line) → tableExit ≡ table
@@ -68,8 +69,8 @@ module _ (line : List ℕ) (used : ℕ) (routes table out : List ℕ) (answer : 
       go : (l : Line) → lineOf line ≡ l → NoCall l → tableExit ≡ table
       go (announce rule originator communities) e n = absurd n
       go (withdraw rule) e n = absurd n
-      go list e n = p .leavesTable ∙ ap (λ (o : Outcome). o .table) (says list e)
-      go other e n = p .leavesTable ∙ ap (λ (o : Outcome). o .table) (says other e)
+      go list e n = p .leavesTable ∙ ap (λ (o : Serving). o .table) (says list e)
+      go other e n = p .leavesTable ∙ ap (λ (o : Serving). o .table) (says other e)
       go (route address size originator neighbour) e n =
-          p .leavesTable ∙ ap (λ (o : Outcome). o .table) (says (route address size originator neighbour) e)
+          p .leavesTable ∙ ap (λ (o : Serving). o .table) (says (route address size originator neighbour) e)
           ∙ by-test (routeFits used routes) (λ h. rw h) (λ h. rw h)

@@ -21,7 +21,7 @@ use Rattle.lines.specs.declared.Served.{Served}
 use Rattle.lines.specs.declared.Gathered.{Gathered}
 use Rattle.lines.specs.Line.{mostSigns}
 use Rattle.lines.specs.Answer.{mostText}
-use Rattle.lines.specs.Serve.{Outcome}
+use Rattle.lines.specs.Serve.{Serving}
 use Rattle.lines.specs.Gather.{gathered}
 use Rattle.lines.specs.Promise.{Serves, Gathers}
 use Rattle.lines.specs.Input.{linesOf, State, stateOf, firstState, lineText, afterLine, linesText, afterLines, outputOf, leftBy}
@@ -215,7 +215,7 @@ unfolding afterLine
 after-cut state line = rw (cut-alike line (state .used) (state .routes) (state .table))
 
 text-cut : (state : State) (line : List ℕ) → lineText state (take (mostSigns + 1) line) ≡ lineText state line
-text-cut state line = ap (λ (o : Outcome). o .text) (cut-alike line (state .used) (state .routes) (state .table))
+text-cut state line = ap (λ (o : Serving). o .text) (cut-alike line (state .used) (state .routes) (state .table))
 
 -- a turn: what was gathered from a block, and, where the line ended, served
 module _ (s : Standing) (block line : List ℕ) (held used : ℕ) (routes table : List ℕ) (holds : Holds s line held used routes table) (answer : Gathered) (exit : List ℕ) (k : List (List ℕ)) (gathers : Gathers block line held answer exit k) where

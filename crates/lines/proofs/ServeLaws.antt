@@ -12,9 +12,10 @@ use borrow.Author.Tests.{le-leb, lt-leb, leb-true, not-true, not-false}
 use Rattle.octets.proofs.Cases.{by-test, apart, both}
 use Rattle.rule.specs.Value.{between}
 use Rattle.octets.specs.Store.{stored}
+use Rattle.rule.specs.Family.{ipv4}
 use Rattle.flowspec.specs.declared.Change.{Change}
 use Rattle.flowspec.specs.Input.{announcementOf, policyOf}
-use Rattle.flowspec.specs.Announce.{announcing, withdrawing, Outcome as Changed}
+use Rattle.flowspec.specs.Announce.{announcing, withdrawing, Outcome}
 use Rattle.flowspec.specs.Told.{changeTold}
 use Rattle.text.specs.Hex.{octetsIn}
 use Rattle.text.specs.Print.{laid}
@@ -26,7 +27,7 @@ use Rattle.lines.specs.declared.Form.{Form}
 use Rattle.lines.specs.declared.Form.the-variants.{Route, Announce, Withdraw, Listing, Unknown}
 use Rattle.lines.specs.Line.{Line, other, lineOf, mostSigns}
 use Rattle.lines.specs.Form.{formSays, FormIn, Says}
-use Rattle.lines.specs.Serve.{Outcome, mostWords, routeFits, printing, changing, adding, servedAs, served, Changes, Adds, servedTold}
+use Rattle.lines.specs.Serve.{Serving, mostWords, routeFits, printing, changing, adding, servedAs, served, Changes, Adds, servedTold}
 use Rattle.lines.specs.Promise.{Serves}
 use Rattle.lines.proofs.CutLaws.{too-long}
 
@@ -69,7 +70,7 @@ module _ (routes : List ℕ) (used address size originator neighbour : ℕ) (out
       })
 
 -- and the table that it leaves alone
-abbrev with-table : Outcome → List ℕ → Outcome
+abbrev with-table : Serving → List ℕ → Serving
 with-table o table = record { text = o .text; used = o .used; routes = o .routes; table = table }
 
 any-table : (words : List ℕ) (used : ℕ) (routes table : List ℕ) → adding words used routes table ≡ with-table (adding words used routes []) table
@@ -95,7 +96,7 @@ module _ (room exit text : List ℕ) (count : ℕ) (reads : (exit ≡ laid room 
   read-is = front-is room exit (octetsIn text) count (reads .0) (reads .1) (omega (arith, fits))
 
 -- a change of the table whose answer was printed
-pub changes : (o : Changed) (out : List ℕ) (change : Change) (t x : List ℕ) (printed : ℕ) → change ≡ o .answer → t ≡ o .table
+pub changes : (o : Outcome) (out : List ℕ) (change : Change) (t x : List ℕ) (printed : ℕ) → change ≡ o .answer → t ≡ o .table
     → Answered out (changeText (changeTold change)) x printed → Changes o out printed t x
 changes o out change t x printed a e p = record { leaves = e; prints = rw (← a) p }
 
@@ -130,8 +131,8 @@ module _ (line : List ℕ) (used : ℕ) (routes table out : List ℕ) (form : Fo
   unfolding served
   served-as f e = rw (← read .is, e)
 
-  -- a promise from the equation for the outcome
-  serves : (o : Outcome) → served line used routes table ≡ o → (answer : Served) (r t x : List ℕ) → answer ≡ servedTold o → r ≡ o .routes → t ≡ o .table
+  -- a promise from the equation for what serving leaves
+  serves : (o : Serving) → served line used routes table ≡ o → (answer : Served) (r t x : List ℕ) → answer ≡ servedTold o → r ≡ o .routes → t ≡ o .table
       → x ≡ laid out 0 (o .text) → answer .printed ≤ mostText → Serves line used routes table out answer r t x (line ∷ [])
   serves o e answer r t x a b c d s = record { is = rw e a; leavesRoutes = rw e b; leavesTable = rw e c; prints = rw e d; short = s; keeps = refl }
 
@@ -145,18 +146,18 @@ module _ (line : List ℕ) (used : ℕ) (routes table out : List ℕ) (form : Fo
 
   module _ (rule ruleEnd originator communities : ℕ) (is : form ≡ Announce rule ruleEnd originator communities) where
     pub serve-announced : (count printed : ℕ) (t x : List ℕ) → count ≡ min used (length routes)
-        → Changes (announcing (policyOf (take count routes) false) (announcementOf (octetsIn (between line rule ruleEnd)) originator (octetsIn (between line communities (length line)))) table) out printed t x
+        → Changes (announcing ipv4 (policyOf (take count routes) false) (announcementOf (octetsIn (between line rule ruleEnd)) originator (octetsIn (between line communities (length line)))) table) out printed t x
         → Serves line used routes table out (record { printed = printed; used = used }) routes t x (line ∷ [])
     serve-announced count printed t x e c =
-        serves (changing (announcing (policyOf (take count routes) false) (announcementOf (octetsIn (between line rule ruleEnd)) originator (octetsIn (between line communities (length line)))) table) used routes)
+        serves (changing (announcing ipv4 (policyOf (take count routes) false) (announcementOf (octetsIn (between line rule ruleEnd)) originator (octetsIn (between line communities (length line)))) table) used routes)
         (served-as (Announce rule ruleEnd originator communities) is ∙ rw (in-use used count routes e)) _ _ _ _
         (λ i. record { printed = c .prints .1 i; used = used }) refl (c .leaves) (c .prints .0) (c .prints .2)
 
   module _ (rule : ℕ) (is : form ≡ Withdraw rule) where
-    pub serve-withdrawn : (printed : ℕ) (t x : List ℕ) → Changes (withdrawing (octetsIn (between line rule (length line))) table) out printed t x
+    pub serve-withdrawn : (printed : ℕ) (t x : List ℕ) → Changes (withdrawing ipv4 (octetsIn (between line rule (length line))) table) out printed t x
         → Serves line used routes table out (record { printed = printed; used = used }) routes t x (line ∷ [])
     serve-withdrawn printed t x c =
-        serves (changing (withdrawing (octetsIn (between line rule (length line))) table) used routes) (served-as (Withdraw rule) is) _ _ _ _
+        serves (changing (withdrawing ipv4 (octetsIn (between line rule (length line))) table) used routes) (served-as (Withdraw rule) is) _ _ _ _
         (λ i. record { printed = c .prints .1 i; used = used }) refl (c .leaves) (c .prints .0) (c .prints .2)
 
   -- a line that prints and changes nothing

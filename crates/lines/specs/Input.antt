@@ -37,8 +37,8 @@ lineText state line = served line (state .used) (state .routes) (state .table) .
 -- What serving a line leaves.
 unfoldable pub afterLine : State → List ℕ → State
 afterLine state line =
-    let outcome = served line (state .used) (state .routes) (state .table) in
-    stateOf (outcome .used) (outcome .routes) (outcome .table)
+    let serving = served line (state .used) (state .routes) (state .table) in
+    stateOf (serving .used) (serving .routes) (serving .table)
 
 -- What lines print that are served one after the other.
 unfoldable pub linesText : State → List (List ℕ) → List ℕ

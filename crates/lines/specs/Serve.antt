@@ -9,7 +9,7 @@ use Rattle.octets.specs.Store.{stored}
 use Rattle.rule.specs.Family.{ipv4}
 use Rattle.route.specs.Route.{mostRoutes}
 use Rattle.flowspec.specs.Input.{announcementOf, policyOf}
-use Rattle.flowspec.specs.Announce.{announcing, withdrawing, Outcome as Changed}
+use Rattle.flowspec.specs.Announce.{announcing, withdrawing, Outcome}
 use Rattle.flowspec.specs.Told.{changeTold}
 use Rattle.text.specs.Print.{laid}
 use Rattle.lines.specs.declared.Served.{Served}
@@ -17,7 +17,7 @@ use Rattle.lines.specs.Line.{Line, route, announce, withdraw, list, othe
 use Rattle.lines.specs.Answer.{unknownText, changeText, listText, mostText, Answered}
 
 -- What serving a line leaves: the text that it prints, how many words of the routes' buffer are in use, that buffer's words, and the table.
-pub record Outcome : Type 0 where
+pub record Serving : Type 0 where
   pub text : List ℕ
   pub used : ℕ
   pub routes : List ℕ
@@ -29,51 +29,51 @@ mostWords = mostRoutes * ipv4 .words
 
 -- There is room for a route behind the words in use: it is not past the 4,096, nor past the buffer's end.
 abbrev pub routeFits : ℕ → List ℕ → Bool
-routeFits used routes = leb (used + 4) mostWords && leb (used + 4) (length routes)
+routeFits used routes = leb (used + ipv4 .words) mostWords && leb (used + ipv4 .words) (length routes)
 
 -- A line that prints a text and changes nothing.
-abbrev pub printing : List ℕ → ℕ → List ℕ → List ℕ → Outcome
+abbrev pub printing : List ℕ → ℕ → List ℕ → List ℕ → Serving
 printing text used routes table = record { text = text; used = used; routes = routes; table = table }
 
 -- A line that changes the table alone, and prints the call's answer.
-abbrev pub changing : Changed → ℕ → List ℕ → Outcome
+abbrev pub changing : Outcome → ℕ → List ℕ → Serving
 changing changed used routes =
     record { text = changeText (changeTold (changed .answer)); used = used; routes = routes; table = changed .table }
 
 -- 01: "A route line adds to the list and prints nothing"; "a route past 4,096 prints `answer\t?`". Whether the routes are sound is judged by
 -- the announcements that follow.
-abbrev pub adding : List ℕ → ℕ → List ℕ → List ℕ → Outcome
+abbrev pub adding : List ℕ → ℕ → List ℕ → List ℕ → Serving
 adding words used routes table =
     cond (routeFits used routes)
-    (record { text = []; used = used + 4; routes = stored routes used words; table = table })
+    (record { text = []; used = used + ipv4 .words; routes = stored routes used words; table = table })
     (printing unknownText used routes table)
 
 -- What a line says is done. 01: "the setting is off": a rule with no destination is infeasible. The routes in use are all words where `used`
 -- passes the buffer's end.
-abbrev pub servedAs : Line → ℕ → List ℕ → List ℕ → Outcome
+abbrev pub servedAs : Line → ℕ → List ℕ → List ℕ → Serving
 servedAs (route address size originator neighbour) used routes table = adding (address ∷ size ∷ originator ∷ neighbour ∷ []) used routes table
 servedAs (announce rule originator communities) used routes table =
-    changing (announcing (policyOf (take used routes) false) (announcementOf rule originator communities) table) used routes
-servedAs (withdraw rule) used routes table = changing (withdrawing rule table) used routes
+    changing (announcing ipv4 (policyOf (take used routes) false) (announcementOf rule originator communities) table) used routes
+servedAs (withdraw rule) used routes table = changing (withdrawing ipv4 rule table) used routes
 servedAs list used routes table = printing (listText table) used routes table
 servedAs other used routes table = printing unknownText used routes table
 
 -- What serving a line leaves.
-unfoldable pub served : List ℕ → ℕ → List ℕ → List ℕ → Outcome
+unfoldable pub served : List ℕ → ℕ → List ℕ → List ℕ → Serving
 served line used routes table = servedAs (lineOf line) used routes table
 
--- The answer for an outcome: how long its text is, which may be longer than the buffer that it is printed into, and the words in use.
-abbrev pub servedTold : Outcome → Served
-servedTold outcome = record { printed = length (outcome .text); used = outcome .used }
+-- The answer for what serving leaves: how long its text is, which may be longer than the buffer that it is printed into, and the words in use.
+abbrev pub servedTold : Serving → Served
+servedTold serving = record { printed = length (serving .text); used = serving .used }
 
 -- How the code holds what a line that changes the table leaves, which no promise names: the table, and the printed text.
-pub record Changes (changed : Changed) (out : List ℕ) (printed : ℕ) (tableExit outExit : List ℕ) : Type 0 where
+pub record Changes (changed : Outcome) (out : List ℕ) (printed : ℕ) (tableExit outExit : List ℕ) : Type 0 where
   pub leaves : tableExit ≡ changed .table
   pub prints : Answered out (changeText (changeTold (changed .answer))) outExit printed
 
 -- How the code holds what a route line leaves, which no promise names: the routes, the printed text, and the answer. The table, which it leaves alone, is not lent
 -- to it.
-pub record Adds (added : Outcome) (out : List ℕ) (answer : Served) (routesExit outExit : List ℕ) : Type 0 where
+pub record Adds (added : Serving) (out : List ℕ) (answer : Served) (routesExit outExit : List ℕ) : Type 0 where
   pub is : answer ≡ servedTold added
   pub leaves : routesExit ≡ added .routes
   pub prints : outExit ≡ laid out 0 (added .text)

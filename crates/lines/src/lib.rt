@@ -5,6 +5,7 @@ ghost use mathlib.Core.Bool.{false};
 ghost use mathlib.Core.List.{[], _∷_};
 ghost use Prim.Native.Nat.{_+_, _≤_};
 ghost use lib.ListN.{length};
+ghost use Rattle.rule.specs.Family.{ipv4};
 ghost use Rattle.table.specs.Sound.{mostOctets};
 ghost use Rattle.table.specs.Walk.{records};
 ghost use Rattle.flowspec.specs.Input.{announcementOf, policyOf};
@@ -18,6 +19,7 @@ ghost use Rattle.lines.specs.Form.{behind, isOf, FieldSays, NumberSays, 
 ghost use Rattle.lines.specs.Answer.{placeText, answerText, unknownText, changeText, countText, ruleText, rulesText, listText, Answered};
 ghost use Rattle.lines.specs.Serve.{routeFits, adding, Changes, Adds};
 ghost use Rattle.lines.specs.Promise.{Gathers, Serves};
+use flowspec::AddressFamily;
 use flowspec::Change;
 use table::NextRecord;
 use table::Soundness;
@@ -373,7 +375,7 @@ fn put_records(table: &[u8], out: &mut [u8], at: usize) -> usize
 fn put_list(out: &mut [u8], table: &[u8]) -> usize
     ensures { λ r. ⌜ Answered (now (out .entry)) (listText (now (table .entry))) (now (out .exit)) r ⌝ }
 {
-    match table::sound_table(rule::ipv4(), table) {
+    match table::sound_table(flowspec::family_of(AddressFamily::Ipv4), table) {
         Soundness::Unsound => put_answer(out, 10, 0),
         Soundness::Sound(_) => {
             let count = count_records(table);
@@ -434,13 +436,14 @@ fn serve_announce(
     out: &mut [u8],
 ) -> usize
     requires { ⌜ (length (now rule) ≤ mostSigns) × (length (now communities) ≤ mostSigns) ⌝ }
-    ensures { λ r. ⌜ Changes (announcing (policyOf (now (routes .entry)) false) (announcementOf (octetsIn (now (rule .entry))) originator (octetsIn (now (communities .entry)))) (now (table .entry))) (now (out .entry)) r (now (table .exit)) (now (out .exit)) ⌝ }
+    ensures { λ r. ⌜ Changes (announcing ipv4 (policyOf (now (routes .entry)) false) (announcementOf (octetsIn (now (rule .entry))) originator (octetsIn (now (communities .entry)))) (now (table .entry))) (now (out .entry)) r (now (table .exit)) (now (out .exit)) ⌝ }
 {
     let mut octets = [0u8; FIELD_OCTETS];
     let size = text::read_octets(rule, &mut octets);
     let mut actions = [0u8; FIELD_OCTETS];
     let count = text::read_octets(communities, &mut actions);
     let change = flowspec::announce(
+        AddressFamily::Ipv4,
         table,
         false,
         routes,
@@ -454,11 +457,11 @@ fn serve_announce(
 // Withdraws the rule that a part of a line spells, and prints the answer: how long the text is.
 fn serve_withdraw(rule: &[u8], table: &mut [u8], out: &mut [u8]) -> usize
     requires { ⌜ length (now rule) ≤ mostSigns ⌝ }
-    ensures { λ r. ⌜ Changes (withdrawing (octetsIn (now (rule .entry))) (now (table .entry))) (now (out .entry)) r (now (table .exit)) (now (out .exit)) ⌝ }
+    ensures { λ r. ⌜ Changes (withdrawing ipv4 (octetsIn (now (rule .entry))) (now (table .entry))) (now (out .entry)) r (now (table .exit)) (now (out .exit)) ⌝ }
 {
     let mut octets = [0u8; FIELD_OCTETS];
     let size = text::read_octets(rule, &mut octets);
-    let change = flowspec::withdraw(table, &octets[..size]);
+    let change = flowspec::withdraw(AddressFamily::Ipv4, table, &octets[..size]);
     put_change(out, change)
 }
 

@@ -1,6 +1,7 @@
 -- An unsound table is answer 10; a sound one is its count with its records behind.
 use native.Mathlib.Omega.{arith}
-use Rattle.flowspec.proofs.TableLaws.{four-fits}
+use Rattle.flowspec.specs.declared.AddressFamily.the-variants.{Ipv4}
+use Rattle.flowspec.proofs.FamiliesLaws.{chosen-fits}
 use Rattle.lines.proofs.PrintLaws.{count-short, printed-short}
 use Rattle.lines.proofs.ListLaws.{list-unsound, list-sound, list-short, list-within}
 use borrow.Author.Needs.{needs}
@@ -8,18 +9,18 @@ use Rattle.lines.proofs.put_list.Statement.{statement}
 use Rattle.lines.proofs.put_list.Tie as tie
 
 sound-table-requires : tie.Need-sound-table-requires
-sound-table-requires c κs = four-fits _ (c .ipv4 .ensures)
+sound-table-requires c κs = chosen-fits Ipv4 _ (c .family-of .ensures)
 
 put-records-requires : tie.Need-put-records-requires
 put-records-requires c κs =
-    (list-short _ _ (c .before .before .before .before .before .before .before .before .before .ipv4 .ensures) _ (c .before .before .before .before .before .before .before .before .sound-table .ensures) _ (c .before .before .before .before .before .before .enum-told2 .given .1), omega (arith, count-short (c .before .before .before .before .before .count-records .result) (omega arith)))
+    (list-short _ _ (c .before .before .before .before .before .before .before .before .before .family-of .ensures) _ (c .before .before .before .before .before .before .before .before .sound-table .ensures) _ (c .before .before .before .before .before .before .enum-told2 .given .1), omega (arith, count-short (c .before .before .before .before .before .count-records .result) (omega arith)))
 
 returns : tie.Need-returns
-returns c = rw (list-unsound _ _ (c .before .before .before .before .before .before .before .ipv4 .ensures) _ (c .before .before .before .before .before .before .sound-table .ensures) (c .before .before .before .before .enum-told .given .1)) (c .before .before .put-answer .ensures)
+returns c = rw (list-unsound _ _ (c .before .before .before .before .before .before .before .family-of .ensures) _ (c .before .before .before .before .before .before .sound-table .ensures) (c .before .before .before .before .enum-told .given .1)) (c .before .before .put-answer .ensures)
 
 returns-2 : tie.Need-returns-2
 returns-2 c =
-    printed-short _ _ _ _ (list-sound _ _ (c .before .before .before .before .before .before .before .before .before .before .before .before .ipv4 .ensures) _ (c .before .before .before .before .before .before .before .before .before .before .before .sound-table .ensures) _ (c .before .before .before .before .before .before .before .before .before .enum-told2 .given .1) _ (c .before .before .before .before .before .before .before .before .count-records .ensures .0) _ _ _ (c .before .before .before .before .before .before .put-count .ensures) _ _ (c .before .before .put-records .ensures)) (list-within _ _ (c .before .before .before .before .before .before .before .before .before .before .before .before .ipv4 .ensures) _ (c .before .before .before .before .before .before .before .before .before .before .before .sound-table .ensures) _ (c .before .before .before .before .before .before .before .before .before .enum-told2 .given .1))
+    printed-short _ _ _ _ (list-sound _ _ (c .before .before .before .before .before .before .before .before .before .before .before .before .family-of .ensures) _ (c .before .before .before .before .before .before .before .before .before .before .before .sound-table .ensures) _ (c .before .before .before .before .before .before .before .before .before .enum-told2 .given .1) _ (c .before .before .before .before .before .before .before .before .count-records .ensures .0) _ _ _ (c .before .before .before .before .before .before .put-count .ensures) _ _ (c .before .before .put-records .ensures)) (list-within _ _ (c .before .before .before .before .before .before .before .before .before .before .before .before .family-of .ensures) _ (c .before .before .before .before .before .before .before .before .before .before .before .sound-table .ensures) _ (c .before .before .before .before .before .before .before .before .before .enum-told2 .given .1))
 
 pub put-list-spec : {M : Type 1} → statement M
 put-list-spec =
