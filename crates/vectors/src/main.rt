@@ -15,6 +15,7 @@ use fields::print_octets;
 use fields::print_refusal;
 use fields::print_valued;
 use fields::put_octets;
+use flowspec::AddressFamily;
 use flowspec::Change;
 use flowspec::Comparison;
 use flowspec::Feasibility;
@@ -55,7 +56,7 @@ const WRITE: u64 = 0x7772;
 // read RULE.
 fn answer_read(line: &[u8], octets: &mut [u8]) {
     let end = put_octets(line, 1, octets);
-    match flowspec::read_rule(&octets[..end]) {
+    match flowspec::read_rule(AddressFamily::Ipv4, &octets[..end]) {
         Reading::Rule { start, size } => print_reading(0, 0, start, size),
         Reading::Refused { number, place } => print_reading(number, place, 0, 0),
     }
@@ -79,7 +80,7 @@ fn answer_write(line: &[u8], octets: &mut [u8]) {
 
 // Writes a rule to a buffer, and prints the answer and the buffer.
 fn write_and_print(value: &[u8], buffer: &mut [u8]) {
-    match flowspec::write_rule(value, buffer) {
+    match flowspec::write_rule(AddressFamily::Ipv4, value, buffer) {
         Writing::Written(octets) => print_valued(0, 0, octets),
         Writing::Refused { number, place } => print_valued(number, place, 0),
     }
@@ -97,7 +98,11 @@ fn answer_compare(line: &[u8], octets: &mut [u8]) {
 fn compare_and_print(octets: &[u8], middle: usize, end: usize)
     requires { ⌜ (middle ≤ end) × (end ≤ length (now octets)) ⌝ }
 {
-    match flowspec::compare_rules(&octets[0..middle], &octets[middle..end]) {
+    match flowspec::compare_rules(
+        AddressFamily::Ipv4,
+        &octets[0..middle],
+        &octets[middle..end],
+    ) {
         Comparison::First => print_valued(0, 0, 1),
         Comparison::Second => print_valued(0, 0, 2),
         Comparison::Same => print_valued(0, 0, 3),
@@ -132,6 +137,7 @@ fn answer_feasible(line: &[u8], octets: &mut [u8], words: &mut [u32]) {
     let end = put_octets(line, 3, octets);
     let originator = fields::number_of(line, 4);
     match flowspec::judge_rule(
+        AddressFamily::Ipv4,
         allows_no_destination,
         &words[..count],
         &octets[..end],
@@ -156,7 +162,7 @@ fn answer_match(line: &[u8], octets: &mut [u8]) {
 fn check_and_match(octets: &[u8], middle: usize, end: usize)
     requires { ⌜ (middle ≤ end) × (end ≤ length (now octets)) ⌝ }
 {
-    match rule::check_value(rule::ipv4(), &octets[0..middle]) {
+    match rule::check_value(flowspec::family_of(AddressFamily::Ipv4), &octets[0..middle]) {
         Checked::Refused { number, place } => {
             io::write_all(STDOUT_FILENO, b"value\t");
             print_refusal(number, place);
@@ -167,7 +173,7 @@ fn check_and_match(octets: &[u8], middle: usize, end: usize)
 
 // 1 where an accepted value matches a packet, 0 where it does not, and 12 where the packet is unusable.
 fn verdict_of(value: &[u8], packet: &[u8]) -> u64 {
-    let family = rule::ipv4();
+    let family = flowspec::family_of(AddressFamily::Ipv4);
     match packet::packet_of(family, packet) {
         Sight::Unusable => 12,
         Sight::Usable(seen) => packet::matches_rule(family, value, seen) as u64,
@@ -210,6 +216,7 @@ fn announce(line: &[u8], routes: &[u32], octets: &[u8], middle: usize, end: usiz
     let allows_no_destination = fields::number_of(line, 1) != 0;
     let originator = fields::number_of(line, 4);
     let change = flowspec::announce(
+        AddressFamily::Ipv4,
         table,
         allows_no_destination,
         routes,
@@ -223,7 +230,7 @@ fn announce(line: &[u8], routes: &[u32], octets: &[u8], middle: usize, end: usiz
 // withdraw RULE.
 fn answer_withdraw(line: &[u8], octets: &mut [u8], table: &mut [u8]) {
     let end = put_octets(line, 1, octets);
-    let change = flowspec::withdraw(table, &octets[..end]);
+    let change = flowspec::withdraw(AddressFamily::Ipv4, table, &octets[..end]);
     print_change(change, table);
 }
 
@@ -247,7 +254,7 @@ fn print_verdict(verdict: Verdict) {
 // lookup PACKET.
 fn answer_lookup(line: &[u8], octets: &mut [u8], table: &[u8]) {
     let end = put_octets(line, 1, octets);
-    match flowspec::lookup(table, &octets[..end]) {
+    match flowspec::lookup(AddressFamily::Ipv4, table, &octets[..end]) {
         Looked::Judged(verdict) => print_verdict(verdict),
         Looked::Refused { number, place } => {
             print_lookup(number, place, 0, action::no_actions());
@@ -258,7 +265,7 @@ fn answer_lookup(line: &[u8], octets: &mut [u8], table: &[u8]) {
 // first PACKET: how many octets the first match's record has, and the record.
 fn answer_first(line: &[u8], octets: &mut [u8], table: &[u8]) {
     let end = put_octets(line, 1, octets);
-    let part = flowspec::first_match(table, &octets[..end]);
+    let part = flowspec::first_match(AddressFamily::Ipv4, table, &octets[..end]);
     print_first(part.len() as u64);
     print_octets(part);
     print_end();

@@ -1,15 +1,16 @@
--- The family is IPv4's, whose addresses are narrow enough for matching.
+-- Addresses of the family are narrow enough for matching.
 use mathlib.Core.Path.{_≡_}
 use Prim.Native.Nat.{_≤_}
 use borrow.Author.Needs.{needs}
 use Rattle.rule.specs.declared.Family.{Family}
-use Rattle.rule.specs.Family.{ipv4}
-use Rattle.rule.proofs.FamilyLaws.{is-ipv4-fits}
+use Rattle.flowspec.specs.declared.AddressFamily.{AddressFamily}
+use Rattle.flowspec.specs.Families.{familyOf}
+use Rattle.flowspec.proofs.FamiliesLaws.{chosen-fits}
 use Rattle.vectors.proofs.verdict_of.Statement.{statement}
 use Rattle.vectors.proofs.verdict_of.Tie as tie
 
-narrow : (family : Family) → family ≡ ipv4 → family .width ≤ 128
-narrow family e = is-ipv4-fits family e .narrow
+narrow : (which : AddressFamily) (family : Family) → family ≡ familyOf which → family .width ≤ 128
+narrow which family e = chosen-fits which family e .narrow
 
 matches-rule-requires : tie.Need-matches-rule-requires
 matches-rule-requires c κs = search (narrow, needs)
