@@ -3,15 +3,11 @@ use mathlib.Core.Path.{_≡_, refl}
 use mathlib.Core.List.{List}
 use Prim.Native.Nat.{ℕ}
 use native.Mathlib.Omega.{arith}
-use Rattle.rule.specs.declared.Family.{Family}
 use Rattle.rule.specs.Family.{ipv4, Fits}
 use Rattle.rule.specs.Component.{leadOf, offsetAt}
 
 pub ipv4-fits : Fits ipv4
 ipv4-fits = record { narrow = omega arith; words = refl }
-
-pub is-ipv4-fits : (family : Family) → family ≡ ipv4 → Fits family
-is-ipv4-fits family e = rw e ipv4-fits
 
 -- IPv4 has no offsets
 pub ipv4-lead : leadOf ipv4 ≡ 1
