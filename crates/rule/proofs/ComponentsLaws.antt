@@ -23,6 +23,13 @@ use Rattle.rule.specs.Value.{Component, spelled, between, headOf, compon
 use Rattle.rule.proofs.ComponentLaws.{prefix-cases, prefix-begins, lead-with, offset-with, offset-without}
 use Rattle.rule.proofs.ValueLaws.{Found, was-found, none-left, components-ind, accepted-walk}
 
+-- the octets from one place up to another: each of them, and how many
+pub between-octet : (v : List ℕ) (from to i : ℕ) → i < to - from → getD (between v from to) i 0 ≡ getD v (from + i) 0
+between-octet v from to i h = getD-take (to - from) (drop from v) i 0 h ∙ getD-drop from v i 0
+
+pub between-length : (v : List ℕ) (from to : ℕ) → from ≤ to → to ≤ length v → length (between v from to) ≡ to - from
+between-length v from to h inside = let l = length-drop from v in length-take-le (to - from) (drop from v) (omega arith)
+
 -- the octets up to a place, and those from it on
 between-then : (v : List ℕ) (from to : ℕ) → from ≤ to → between v from to ++ drop to v ≡ drop from v
 between-then v from to h =
@@ -96,21 +103,18 @@ module _ (family : Family) (v : List ℕ) where
   prefix-ends at = prefix-cases family v at (PrefixEnds family v at) tt (λ h. tt) (λ h k l. (k, (l, (refl, omega arith))))
 
   module _ (at next : ℕ) (some : at < next) (inside : next ≤ length v) where
-    body-length : length (between v at next) ≡ next - at
-    body-length = let l = length-drop at v in length-take-le (next - at) (drop at v) (omega arith)
-
     body-first : getD (between v at next) 0 0 ≡ getD v at 0
-    body-first = getD-take (next - at) (drop at v) 0 0 (omega arith) ∙ getD-drop at v 0 0 ∙ ap (λ n. getD v n 0) (add-zero at)
+    body-first = between-octet v at next 0 (omega arith) ∙ ap (λ n. getD v n 0) (add-zero at)
 
     body-offset : at + leadOf family ≤ next → offsetAt family (between v at next) 1 ≡ offsetAt family v (at + 1)
     body-offset there =
         by-test (family .offsets)
         (λ t.
         let lead = lead-with family t in
-        offset-with family (between v at next) 1 t ∙ getD-take (next - at) (drop at v) 1 0 (omega arith) ∙ getD-drop at v 1 0 ∙ sym (offset-with family v (at + 1) t))
+        offset-with family (between v at next) 1 t ∙ between-octet v at next 1 (omega arith) ∙ sym (offset-with family v (at + 1) t))
         (λ t. offset-without family (between v at next) 1 t ∙ sym (offset-without family v (at + 1) t))
 
-    prefix-body : (kind : ℕ) → shapeOf family kind .prefix ≡ true → bodyEnd family kind v at ≡ At next → PrefixBody family (between v at next)
+    pub prefix-body : (kind : ℕ) → shapeOf family kind .prefix ≡ true → bodyEnd family kind v at ≡ At next → PrefixBody family (between v at next)
     unfolding bodyEnd PrefixEnds
     prefix-body kind t e =
         let ends = subst (PrefixEnds family v at) (rw t at e) (prefix-ends at) in
@@ -119,7 +123,7 @@ module _ (family : Family) (v : List ℕ) where
           within = rw body-first (ends .0);
           below = rw (body-first, offset) (ends .1 .0);
           begins = rw (body-first, offset) (prefix-begins family v at next (rw t at e));
-          whole = rw (body-first, offset, body-length) (omega arith);
+          whole = rw (body-first, offset, between-length v at next (omega arith) inside) (omega arith);
         }
 
   -- each component of a value is sound
@@ -137,9 +141,9 @@ module _ (family : Family) (v : List ℕ) where
       each-found family v (λ p. Octets (p .body))
       (λ at previous kind next f i.
       elim (decLt i (next - (at + 1))) [
-        | yes h ↦ rw (getD-take (next - (at + 1)) (drop (at + 1) v) i 0 h, getD-drop (at + 1) v i 0) (o (at + 1 + i))
+        | yes h ↦ rw (between-octet v (at + 1) next i h) (o (at + 1 + i))
         | no h ↦
             let within = f .within in
-            let l = body-length (at + 1) next (within .0) (within .1) in
+            let l = between-length v (at + 1) next (omega arith) (within .1) in
             rw (List·getD-eq-default (between v (at + 1) next) 0 {n = i} (omega arith)) (omega arith)
       ])

@@ -3,6 +3,7 @@ use mathlib.Core.Path.{_≡_, refl}
 use Prim.Native.Nat.{ℕ, _*_, _/_, _%_, _^_, _≤_, _<_}
 use lib.Bits.{bitAnd}
 use lib.Dec.{leb, ltb}
+use lib.Pow.{pow-pos}
 use borrow.Author.Tests.{leb-true, ltb-true}
 use Rattle.octets.proofs.Facts.{below, octet}
 use Rattle.rule.specs.Operator.{sizeOf}
@@ -19,6 +20,6 @@ module _ (x : ℕ) (small : x < 256) where
   unfolding sizeOf
   size-small = leb-true _ _ (below 256 (λ y. leb (sizeOf y) 8) refl x small)
 
-  pub size-positive : 1 ≤ sizeOf x
-  unfolding sizeOf
-  size-positive = leb-true _ _ (below 256 (λ y. leb 1 (sizeOf y)) refl x small)
+pub size-positive : (x : ℕ) → 1 ≤ sizeOf x
+unfolding sizeOf
+size-positive x = pow-pos (bitAnd x 0x30 / 16)

@@ -151,11 +151,11 @@ module _ (family : Family) (start : Expected) (v : List ℕ) (o : Octets v) (kin
     unfolding clearedOctet
     same-pair h u =
         let size : at + 1 + sizeOf operator - (at + 1) ≡ sizeOf operator = omega arith in
-        let value = value-cleared family start v (sizeOf operator) (at + 1) kind (endsList operator) (behind (omega arith)) (size-positive operator (o at)) h u in
+        let value = value-cleared family start v (sizeOf operator) (at + 1) kind (endsList operator) (behind (omega arith)) (size-positive operator) h u in
         rw size (λ i. record { operator = octet-there family start v at (Operator kind first) x (omega arith) i; value = value i })
 
     passed : at + 1 + sizeOf operator ≤ length v → Expects family start v (at + 1 + sizeOf operator) (cond (endsList operator) Kind (Operator kind false))
-    passed h = value-passed family start v (sizeOf operator) (at + 1) kind (endsList operator) (behind (omega arith)) (size-positive operator (o at)) h
+    passed h = value-passed family start v (sizeOf operator) (at + 1) kind (endsList operator) (behind (omega arith)) (size-positive operator) h
 
     pair-then : PairExpects family start v kind first at (pairAt (shape .largest) v at)
     unfolding PairExpects
