@@ -1,4 +1,5 @@
 -- The laws of this crate.
+pub mod BodyLaws
 pub mod ValueLaws
 pub mod RecordLaws
 pub mod CodecLaws

@@ -1,124 +1,99 @@
--- Values and entries that the table may hold: the test for a plain value octet by octet, and what
--- follows where an entry could be. Assumes nothing.
-use mathlib.Core.Path.{_≡_, refl, sym, ap, _∙_}
-use mathlib.Core.Bool.{Bool, true, false, not, _&&_, _||_}
-use mathlib.Core.List.{List, [], _∷_}
-use Prim.Native.Nat.{ℕ, zero, suc, _+_, _-_, _*_, _/_, _^_, _<_, _≤_}
+-- Values and entries that the table may hold: the test for a plain value component by component, and what follows where an entry could be.
+-- Assumes nothing.
+use mathlib.Core.Path.{_≡_, refl, sym, ap, ap₂, _∙_}
+use mathlib.Core.Bool.{Bool, true, false, not, _&&_, _||_, and-false}
+use mathlib.Core.List.{List}
+use Prim.Native.Nat.{ℕ, _+_, _-_, _^_, _<_, _≤_}
 use native.Mathlib.Omega.{arith}
-use native.Mathlib.Numerals.{add-one}
-use lib.Dec.{ltb, eqb}
-use lib.ListN.{length, getD, drop, length-drop, drop-of-length-le}
-use lib.Seq.{drop-cons, drop-drop}
-use borrow.Author.Tests.{ltb-true, ltb-false, lt-ltb, lt-leb, eq-eqb, ne-eqb, eqb-true, not-false}
-use Rattle.octets.specs.Test.{sameList}
-use Rattle.octets.proofs.Cases.{apart, both, neither}
+use lib.Dec.{leb, ltb}
+use lib.ListN.{length, take, drop}
+use borrow.Author.Tests.{ltb-true, ltb-false, leb-false, lt-ltb, le-ltb, lt-leb, ne-eqb, not-true, not-false}
+use Rattle.octets.specs.Test.{every, sameList}
+use Rattle.octets.specs.Walk.{Walk}
+use Rattle.octets.proofs.Cases.{by-test, apart, both, neither}
+use Rattle.octets.proofs.Facts.{Octets}
 use Rattle.octets.proofs.TestLaws.{same-list, list-same}
 use Rattle.rule.specs.declared.Family.{Family}
+use Rattle.rule.specs.declared.BodyEnd.the-variants.{At}
+use Rattle.rule.specs.declared.Next.{Next}
+use Rattle.rule.specs.declared.Next.the-variants.{Nothing, Another, Refused as RefusedNext}
 use Rattle.rule.specs.declared.Checked.{Checked}
 use Rattle.rule.specs.declared.Checked.the-variants.{Accepted, Refused}
-use Rattle.rule.specs.declared.Expected.{Expected}
-use Rattle.rule.specs.declared.Shape.{Shape}
-use Rattle.rule.specs.Shape.{shapeOf}
-use Rattle.rule.specs.declared.Expected.the-variants.{Address, Operand}
-use Rattle.rule.specs.Value.{mostValue, checkValue}
-use Rattle.rule.specs.Plain.{expectedAtStart, operandAfter, after, clearedOctet, plainFrom, plain}
-use Rattle.rule.proofs.PlainLaws.{whole-octet, whole-operand}
-use Rattle.rule.proofs.ValueLaws.{accepted-small, accepted-some}
+use Rattle.rule.specs.Component.{bodyEnd, componentAt}
+use Rattle.rule.specs.Value.{mostValue, Component, component, componentsFrom, components, checkValue}
+use Rattle.rule.specs.Plain.{plain}
+use Rattle.rule.proofs.ValueLaws.{was-found, components-more, components-none, components-refused, check-walk, accepted-small, accepted-head, accepted-some}
+use Rattle.rule.proofs.PlainWalkLaws.{plainBody, plain-each, body-alone}
 use Rattle.action.specs.Possible.{couldBe}
-use Rattle.entry.specs.declared.Passed.{Passed}
-use Rattle.entry.specs.Passing.{Passes}
 use Rattle.entry.specs.Entry.{Entry, isAccepted, plainValue, possible}
 
--- whether octets, the first of which is as expected, are their own plain spelling
-abbrev pub plainFromHere : Family → Expected → List ℕ → Bool
-plainFromHere family e v = sameList (plainFrom family e v) v
+-- whether a walk over a value is accepted, and each body that it finds plain
+abbrev pub plainWalk : Family → Walk Component Checked → Bool
+plainWalk family w = isAccepted (w .ending) && every (plainBody family) (w .items)
 
-module _ (family : Family) where
-  -- how `is_plain` goes on and comes to each of its answers
-  pub plain-starts : (v : List ℕ) (start : Expected) → start ≡ expectedAtStart family → sameList (plain family v) v ≡ plainFromHere family start (drop 0 v)
-  unfolding plain
-  plain-starts v start e = rw e
+-- and the walk from a place on
+abbrev pub plainOn : Family → List ℕ → ℕ → ℕ → Bool
+plainOn family v at previous = plainWalk family (componentsFrom family v (record { at = at; previous = previous }))
 
-  module _ (v : List ℕ) (i : ℕ) (e : Expected) (x : ℕ) (t : Bool) (inside : i < length v) (is : x ≡ clearedOctet family e (getD v i 0))
-      (so-far : t ≡ plainFromHere family e (drop i v)) where
-    pub plain-on : (next : Expected) → x ≡ getD v i 0 → next ≡ after family e (getD v i 0) → t ≡ plainFromHere family next (drop (i + 1) v)
-    unfolding plainFrom sameList
-    plain-on next same then =
-        so-far ∙ rw (drop-cons v i 0 inside, plainFrom, sameList, ← is, eq-eqb x (getD v i 0) same, then, add-one)
+accepts-only : (c : Checked) → isAccepted c ≡ true → c ≡ Accepted
+accepts-only Accepted e = refl
+accepts-only (Refused number place) e = apart (cc)
 
-    pub plain-not : (x ≡ getD v i 0 → ⊥) → false ≡ t
-    unfolding plainFrom sameList
-    plain-not other = sym (so-far ∙ rw (drop-cons v i 0 inside, plainFrom, sameList, ← is, ne-eqb x (getD v i 0) other))
+-- how `is_plain_value` goes on and comes to each of its answers
+module _ (family : Family) (v : List ℕ) where
+  abbrev outside : Bool
+  outside = ltb mostValue (length v) || leb (length v) (family .head)
 
-    -- and on behind what is passed over
-    module _ (next : Expected) (same : x ≡ getD v i 0) (then : next ≡ after family e (getD v i 0)) (passed : Passed) (passes : Passes family next passed) where
-      pub plain-past : length v - (i + 1) < passed .size → true ≡ t
-      unfolding plainFrom sameList
-      plain-past short =
-          let all : length (drop (i + 1) v) ≤ passed .size = simp length-drop (omega arith) in
-          let none : drop (passed .size) (drop (i + 1) v) ≡ [] = drop-of-length-le (drop (i + 1) v) all in
-          sym (plain-on next same then ∙ passes .same (drop (i + 1) v) ∙ rw none)
-
-      pub plain-behind : t ≡ plainFromHere family (passed .expected) (drop (i + 1 + passed .size) v)
-      plain-behind = plain-on next same then ∙ passes .same (drop (i + 1) v) ∙ rw (drop-drop (passed .size) (i + 1) v)
-
-  -- octets of a prefix before its last one
-  pub address-passes : (n left : ℕ) → 8 * n < left → (s : List ℕ) → plainFromHere family (Address left) s ≡ plainFromHere family (Address (left - 8 * n)) (drop n s)
-  unfolding plainFrom sameList after clearedOctet
-  address-passes zero left h s = let e : left - 8 * 0 ≡ left = omega arith in rw e
-  address-passes (suc n) left h [] = refl
-  address-passes (suc n) left h (x ∷ s) =
-      let e : left - 8 * suc n ≡ left - 8 - 8 * n = omega arith in
-      rw (plainFrom, sameList, ← whole-octet left x (omega arith), eq-eqb x x refl, lt-leb left 8 (omega arith), e) (address-passes n (left - 8) (omega arith) s)
-
-  -- octets of a pair's value, where none of its bits are ignored
-  pub operand-passes : (kind n : ℕ) (last : Bool) → shapeOf family kind .ignored ≡ 0 → (s : List ℕ)
-      → plainFromHere family (Operand kind (suc n) last) s ≡ plainFromHere family (operandAfter kind 1 last) (drop (suc n) s)
-  unfolding plainFrom sameList after clearedOctet operandAfter
-  operand-passes kind n last h [] = refl
-  operand-passes kind zero last h (x ∷ s) = rw (plainFrom, sameList, whole-operand (shapeOf family kind .ignored) x h, eq-eqb x x refl)
-  operand-passes kind (suc n) last h (x ∷ s) =
-      let more : suc (suc n) - 1 ≡ suc n = omega arith in
-      rw (plainFrom, sameList, whole-operand (shapeOf family kind .ignored) x h, eq-eqb x x refl, lt-ltb 1 (suc (suc n)) (omega arith), more)
-      (operand-passes kind n last h s)
-
-  pub passes-as : (e f : Expected) (passed : Passed) → e ≡ f → Passes family f passed → Passes family e passed
-  passes-as e f passed same h = rw same h
-
-  pub address-all : (left : ℕ) → (left ≡ 0 → ⊥) → (left - 1) / 8 ≤ 32
-      → Passes family (Address left) (record { size = (left - 1) / 8; expected = Address (left - (left - 1) / 8 * 8) })
-  address-all left some few =
-      let n : ℕ = (left - 1) / 8 in
-      let rest : left - 8 * n ≡ left - n * 8 = omega arith in
-      record { few = few; same = λ s. rw rest at (address-passes n left (omega arith) s) }
-
-  pub operand-all : (kind left : ℕ) (last : Bool) (behind : Expected) (shape : Shape) → shape ≡ shapeOf family kind
-      → not (eqb (shape .ignored) 0) || eqb left 0 || ltb 8 left ≡ false → behind ≡ operandAfter kind 1 last
-      → Passes family (Operand kind left last) (record { size = left; expected = behind })
-  operand-all kind left last behind shape says f is =
-      let most = neither (not (eqb (shape .ignored) 0) || eqb left 0) (ltb 8 left) f in
-      let some = neither (not (eqb (shape .ignored) 0)) (eqb left 0) (most .0) in
-      let whole = ap (λ (s : Shape). s .ignored) (sym says) ∙ eqb-true _ _ (not-false (eqb (shape .ignored) 0) (some .0)) in
-      record { few = omega (arith, ltb-false 8 left (most .1)); same = λ s. rw is (go left (some .1) whole s) }
+  pub value-outside : outside ≡ true → false ≡ plainValue family v
+  unfolding plainValue
+  value-outside h = never (checkValue family v) refl
     where
-      go : (n : ℕ) → eqb n 0 ≡ false → shapeOf family kind .ignored ≡ 0 → (s : List ℕ)
-          → plainFromHere family (Operand kind n last) s ≡ plainFromHere family (operandAfter kind 1 last) (drop n s)
-      go zero z whole s = apart (cc)
-      go (suc n) z whole s = operand-passes kind n last whole s
+      never : (c : Checked) → checkValue family v ≡ c → false ≡ (isAccepted c && sameList (plain family v) v)
+      never (Refused number place) e = refl
+      never Accepted e =
+          let small = accepted-small family v e in
+          let some = accepted-head family v e in
+          let z : outside ≡ false = rw (le-ltb mostValue (length v) small, lt-leb (length v) (family .head) some) in
+          apart (cc)
 
-  pub plain-all : (v : List ℕ) (i : ℕ) (e : Expected) (t : Bool) → length v ≤ i → t ≡ plainFromHere family e (drop i v) → true ≡ t
-  unfolding plainFrom sameList
-  plain-all v i e t h so-far = sym (so-far ∙ rw (drop-of-length-le v h))
+  pub value-starts : Octets v → outside ≡ false → plainValue family v ≡ plainOn family v (family .head) 0
+  unfolding plainValue components
+  value-starts o h =
+      let n = neither (ltb mostValue (length v)) (leb (length v) (family .head)) h in
+      let small = ltb-false mostValue (length v) (n .0) in
+      let some = leb-false (length v) (family .head) (n .1) in
+      let walk = check-walk family v small (rw (ne-eqb (length v) 0 (λ z. omega arith), ne-eqb (length v) (family .head) (λ z. omega arith))) (omega arith) in
+      by-test (isAccepted (checkValue family v))
+      (λ t. ap₂ (λ (a b : Bool). a && b) (ap isAccepted walk) (plain-each family v o (accepts-only (checkValue family v) t)))
+      (λ t. rw (← walk, t))
 
--- how `is_plain_value` comes to each of its answers
-module _ (family : Family) (v : List ℕ) (checked : Checked) (is : checked ≡ checkValue family v) where
-  pub value-accepted : (r : Bool) → checked ≡ Accepted → r ≡ sameList (plain family v) v → r ≡ plainValue family v
-  unfolding plainValue
-  value-accepted r e h = rw (← is, e) h
+  module _ (at previous : ℕ) (next : Next) (is : next ≡ componentAt family v at previous) (so-far : plainValue family v ≡ plainOn family v at previous) where
+    module _ (kind behind : ℕ) (found : next ≡ Another kind behind) where
+      pub body-found : bodyEnd family kind (take (behind - (at + 1)) (drop (at + 1) v)) 0 ≡ At (length (take (behind - (at + 1)) (drop (at + 1) v)))
+      body-found = body-alone family kind v (at + 1) behind (was-found family v at previous kind behind (sym is ∙ found) .ends)
 
-  pub value-refused : (number place : ℕ) → checked ≡ Refused number place → false ≡ plainValue family v
-  unfolding plainValue
-  value-refused number place e = rw (← is, e)
+      pub value-nearer : length v - behind < length v - at
+      value-nearer = let w = was-found family v at previous kind behind (sym is ∙ found) .within in omega arith
+
+      module _ (r : Bool) (says : r ≡ plainBody family (component kind (take (behind - (at + 1)) (drop (at + 1) v)))) where
+        one-more : plainValue family v ≡ (isAccepted (componentsFrom family v (record { at = behind; previous = kind }) .ending)
+            && (r && every (plainBody family) (componentsFrom family v (record { at = behind; previous = kind }) .items)))
+        unfolding every
+        one-more = so-far ∙ ap (plainWalk family) (components-more family v at previous kind behind (sym is ∙ found)) ∙ rw says
+
+        pub value-on : not r ≡ false → plainValue family v ≡ plainOn family v behind kind
+        value-on h = one-more ∙ rw (not-false r h)
+
+        pub value-out : not r ≡ true → false ≡ plainValue family v
+        value-out h =
+            sym (one-more ∙ rw (not-true r h) (and-false (isAccepted (componentsFrom family v (record { at = behind; previous = kind }) .ending))))
+
+    pub value-end : next ≡ Nothing → true ≡ plainValue family v
+    unfolding every
+    value-end e = sym (so-far ∙ ap (plainWalk family) (components-none family v at previous (sym is ∙ e)))
+
+    pub value-cut : (number place : ℕ) → next ≡ RefusedNext number place → false ≡ plainValue family v
+    value-cut number place e = sym (so-far ∙ ap (plainWalk family) (components-refused family v at previous number place (sym is ∙ e)))
 
 -- what a value that the table may hold is
 pub record Held (family : Family) (v : List ℕ) : Type 0 where
@@ -126,10 +101,6 @@ pub record Held (family : Family) (v : List ℕ) : Type 0 where
   pub spelled : plain family v ≡ v
   pub some : 1 ≤ length v
   pub small : length v ≤ mostValue
-
-accepts-only : (c : Checked) → isAccepted c ≡ true → c ≡ Accepted
-accepts-only Accepted e = refl
-accepts-only (Refused number place) e = apart (cc)
 
 pub held : (family : Family) (v : List ℕ) → plainValue family v ≡ true → Held family v
 unfolding plainValue

@@ -1,4 +1,3 @@
 -- The definitions of this crate, in the order in which to read them.
 pub mod Entry
-pub mod Passing
 pub mod Record

@@ -1,13 +1,16 @@
 // A rule as the table holds it: writing its record, and telling what a record's octets stand for (01, "The table").
 ghost use mathlib.Core.Path.{_≡_};
+ghost use mathlib.Core.Bool.{true};
+ghost use mathlib.Core.List.{[], _∷_};
 ghost use Prim.Native.Nat.{_+_, _≤_};
 ghost use lib.ListN.{length};
 ghost use Rattle.octets.specs.Store.{stored};
 ghost use Rattle.octets.specs.Test.{sameList};
-ghost use Rattle.rule.specs.Plain.{plain};
+ghost use Rattle.rule.specs.Shape.{shapeOf};
+ghost use Rattle.rule.specs.Component.{pairsFrom, prefixEnd, bodyEnd};
+ghost use Rattle.rule.specs.Plain.{bodyOf, plainFrom};
 ghost use Rattle.action.specs.Actions.{flagsOf, valuesOf};
 ghost use Rattle.entry.specs.Entry.{entryFor, plainValue};
-ghost use Rattle.entry.specs.Passing.{Passes};
 ghost use Rattle.entry.specs.Record.{headCost, writtenFields, recordOf, fieldIf, actionsIn, entryOf, Measured, goodRecord};
 use action::Actions;
 use action::Given;
@@ -17,15 +20,18 @@ use octets::number_at;
 use octets::octet_at;
 use octets::store;
 use octets::write_number;
-use rule::Checked;
+use rule::BodyEnd;
 use rule::Expected;
 use rule::Family;
-use rule::check_value;
-use rule::cleared_octet;
-use rule::expected_after;
-use rule::expected_at_start;
-use rule::operand_after;
+use rule::MOST_VALUE;
+use rule::Next;
+use rule::next_component;
+use rule::offset_at;
+use rule::plain_address;
+use rule::plain_operand;
+use rule::plain_operator;
 use rule::shape_of;
+use rule::size_of;
 
 // How many octets each field of a record's head has: value length, originator, flags, DSCP, each rate, redirect community.
 pub const LENGTH_WIDTH: usize = 2;
@@ -172,89 +178,92 @@ pub fn record_actions(octets: &[u8]) -> Actions
     actions_in(flags, dscp as u64, bytes, packets, redirect)
 }
 
-// How many octets are plain whatever they are, and what is expected behind them.
-pub struct Passed {
-    pub size: usize,
-    pub expected: Expected,
-}
-
-// The octets of a prefix that lie before its last one.
-fn passed_address(family: Family, left: u8) -> Passed
-    ensures { λ r. ⌜ Passes family (Expected.Address left) r ⌝ }
+// Whether a prefix's body is its own plain spelling: only its last octet can have bits past the length.
+fn is_plain_prefix(family: Family, body: &[u8]) -> bool
+    requires { ⌜ prefixEnd family (now body) 0 ≡ BodyEnd.At (length (now body)) ⌝ }
+    ensures { λ r. ⌜ r ≡ sameList (plainFrom family Expected.Length (now (body .entry))) (now (body .entry)) ⌝ }
 {
-    if left == 0 {
-        return Passed {
-            size: 0,
-            expected: Expected::Address(left),
-        };
+    let bits = body[0] - offset_at(family, body, 1);
+    let kept = bits % 8;
+    if kept == 0 {
+        return true;
     }
-    let size = (left - 1) / 8;
-    Passed {
-        size: size as usize,
-        expected: Expected::Address(left - size * 8),
-    }
+    let last = body[body.len() - 1];
+    plain_address(kept, last) == last
 }
 
-// The octets of a pair's value, where none of its bits are ignored.
-fn passed_operand(family: Family, kind: u8, left: usize, last: bool) -> Passed
-    ensures { λ r. ⌜ Passes family (Expected.Operand kind left last) r ⌝ }
+// Whether an operator, a list's first or a later one, and the first octet of its value are their own plain spelling.
+fn is_plain_pair(family: Family, kind: u8, first: bool, operator: u8, octet: u8) -> bool
+    ensures { λ r. ⌜ r ≡ sameList (plainFrom family (Expected.Operator kind first) (operator ∷ octet ∷ [])) (operator ∷ octet ∷ []) ⌝ }
 {
     let shape = shape_of(family, kind);
-    if (shape.ignored != 0) | (left == 0) | (8 < left) {
-        return Passed {
-            size: 0,
-            expected: Expected::Operand { kind, left, last },
-        };
-    }
-    Passed {
-        size: left,
-        expected: operand_after(kind, 1, last),
-    }
+    let value = octet as u64;
+    let same = plain_operator(shape.bitmask, first, operator) == operator;
+    same & (plain_operand(shape.ignored, value) == value)
 }
 
-// The octets that need not be looked at, where the next one is as expected.
-fn passed_over(family: Family, expected: Expected) -> Passed
-    ensures { λ r. ⌜ Passes family expected r ⌝ }
+// Whether a list's body is its own plain spelling: of a value only the first octet is looked at, since one that loses bits has no other.
+fn is_plain_list(family: Family, kind: u8, body: &[u8]) -> bool
+    requires { ⌜ pairsFrom (shapeOf family kind .largest) (now body) 0 .ending ≡ BodyEnd.At (length (now body)) ⌝ }
+    ensures { λ r. ⌜ r ≡ sameList (plainFrom family (Expected.Operator kind true) (now (body .entry))) (now (body .entry)) ⌝ }
 {
-    match expected {
-        Expected::Address(left) => passed_address(family, left),
-        Expected::Operand { kind, left, last } => passed_operand(family, kind, left, last),
-        _ => Passed { size: 0, expected },
-    }
-}
-
-// Whether octets are their own plain spelling.
-fn is_plain(family: Family, value: &[u8]) -> bool
-    ensures { λ r. ⌜ r ≡ sameList (plain family (now (value .entry))) (now (value .entry)) ⌝ }
-{
-    let mut expected = expected_at_start(family);
-    let mut i = 0;
-    while i < value.len() {
-        let x = value[i];
-        if cleared_octet(family, expected, x) != x {
+    let mut first = true;
+    let mut at = 0;
+    while at < body.len() {
+        let operator = body[at];
+        let start = at + 1;
+        let octet = body[start];
+        if !is_plain_pair(family, kind, first, operator, octet) {
             return false;
         }
-        let passed = passed_over(family, expected_after(family, expected, x));
-        i += 1;
-        if value.len() - i < passed.size {
-            return true;
-        }
-        expected = passed.expected;
-        i += passed.size;
+        first = false;
+        at = start + size_of(operator);
     }
     true
+}
+
+// Whether a body of a type is its own plain spelling.
+fn is_plain_body(family: Family, kind: u8, body: &[u8]) -> bool
+    requires { ⌜ bodyEnd family kind (now body) 0 ≡ BodyEnd.At (length (now body)) ⌝ }
+    ensures { λ r. ⌜ r ≡ sameList (plainFrom family (bodyOf family kind) (now (body .entry))) (now (body .entry)) ⌝ }
+{
+    let shape = shape_of(family, kind);
+    if shape.prefix {
+        return is_plain_prefix(family, body);
+    }
+    is_plain_list(family, kind, body)
 }
 
 // Whether the table may hold a value: it is accepted, and in its plain spelling.
 pub fn is_plain_value(family: Family, value: &[u8]) -> bool
     ensures { λ r. ⌜ r ≡ plainValue family (now (value .entry)) ⌝ }
 {
-    match check_value(family, value) {
-        Checked::Accepted => is_plain(family, value),
-        Checked::Refused {
-            number: _,
-            place: _,
-        } => false,
+    if (MOST_VALUE < value.len()) | (value.len() <= family.head) {
+        return false;
+    }
+    let mut at = family.head;
+    let mut previous = 0;
+    loop {
+        let next = next_component(family, value, at, previous);
+        match next {
+            Next::Another { kind, next } => {
+                let start = at + 1;
+                if !is_plain_body(family, kind, &value[start..next]) {
+                    return false;
+                }
+                at = next;
+                previous = kind;
+            }
+            Next::Nothing => {
+                return true;
+            }
+            Next::Refused {
+                number: _,
+                place: _,
+            } => {
+                return false;
+            }
+        }
     }
 }
 

@@ -1,22 +1,82 @@
--- The checks are the definition's own.
-use Rattle.entry.proofs.ValueLaws.{value-accepted, value-refused}
+-- The components from the place on decide what all of them do: those before it are plain. A component that was found lies in the value.
 use borrow.Author.Needs.{needs}
+use Prim.Native.Nat.{_+_, _-_, _<_, _≤_}
+use mathlib.Core.Path.{_≡_, sym, _∙_}
+use native.Mathlib.Omega.{arith}
+use lib.ListN.{length}
+use Rattle.rule.proofs.ValueLaws.{was-found}
+use Rattle.entry.specs.Entry.{plainValue}
+use Rattle.entry.proofs.ValueLaws.{plainOn, value-outside, value-starts, body-found, value-nearer, value-on, value-out, value-end, value-cut}
 use Rattle.entry.proofs.is_plain_value.Statement.{statement}
 use Rattle.entry.proofs.is_plain_value.Tie as tie
 
-returns : tie.Need-returns
-returns c = search (value-accepted, needs)
+abbrev Inv-loop : tie.InvT-loop
+Inv-loop family value at₀ previous₀ at previous = plainValue family value ≡ plainOn family value at previous
 
-returns-2 : tie.Need-returns-2
-returns-2 c = search (value-refused, needs)
+abbrev μ-loop : tie.MeasureT-loop
+μ-loop family value at₀ previous₀ at previous = length value - at
+
+inside : (c : tie.After-known-told Inv-loop μ-loop)
+    → (c .before .before .before .before .loop .at + 1 < c .before .next .given .0 .1 .0)
+    × (c .before .next .given .0 .1 .0 ≤ length (c .before .before .before .before .before .before .before .before .args .value .now))
+inside c = let l = c .before .before .before .before .loop in
+    was-found _ _ (l .at) (l .previous) _ _ (sym (c .before .before .before .next-component .ensures) ∙ c .before .next .given .1) .within
+
+returns : tie.Need-returns Inv-loop μ-loop
+returns c = search (value-outside, needs)
+
+loop-holds : tie.Need-loop-holds Inv-loop μ-loop
+loop-holds c = value-starts _ _ (λ i. omega (arith, c .before .before .shared-slice-known .given i)) (search needs)
+
+add-start : tie.Need-add-start Inv-loop μ-loop
+add-start c = omega (arith, inside c)
+
+sub-is-plain-body : tie.Need-sub-is-plain-body Inv-loop μ-loop
+sub-is-plain-body c = omega (arith, inside c)
+
+part-is-plain-body-start : tie.Need-part-is-plain-body-start Inv-loop μ-loop
+part-is-plain-body-start c = omega (arith, inside c)
+
+part-is-plain-body-end : tie.Need-part-is-plain-body-end Inv-loop μ-loop
+part-is-plain-body-end c = omega (arith, inside c)
+
+is-plain-body-requires : tie.Need-is-plain-body-requires Inv-loop μ-loop
+is-plain-body-requires c κs = search (body-found, needs)
+
+returns-2 : tie.Need-returns-2 Inv-loop μ-loop
+returns-2 c = search (value-out, needs)
+
+loop-less : tie.Need-loop-less Inv-loop μ-loop
+loop-less c = search (value-nearer, needs)
+
+loop-again : tie.Need-loop-again Inv-loop μ-loop
+loop-again c = search (value-on, needs)
+
+returns-3 : tie.Need-returns-3 Inv-loop μ-loop
+returns-3 c = search (value-end, needs)
+
+returns-4 : tie.Need-returns-4 Inv-loop μ-loop
+returns-4 c = search (value-cut, needs)
 
 pub is-plain-value-spec : {M : Type 1} → statement M
 is-plain-value-spec =
     tie.close
     (tie.spec
-    (λ c κs. search needs)
-    (λ c. search needs)
-    (λ c κs. search needs)
-    (λ c. search needs)
+    Inv-loop
+    μ-loop
     returns
-    returns-2)
+    loop-holds
+    (λ c κs. search needs)
+    (λ c. search needs)
+    add-start
+    sub-is-plain-body
+    part-is-plain-body-start
+    part-is-plain-body-end
+    is-plain-body-requires
+    returns-2
+    loop-less
+    loop-again
+    (λ c. search needs)
+    returns-3
+    (λ c. search needs)
+    returns-4)
