@@ -39,7 +39,7 @@ use Rattle.flowspec.specs.Compare.{comparisonOf, compareRead, compareRul
 use Rattle.flowspec.specs.Input.{Announcement, Policy}
 use Rattle.flowspec.specs.Feasibility.{readWithRoutes, isFeasible, judgeRead, judgement}
 use Rattle.flowspec.specs.Announce.{changeOf, askedBy, asked, announcedEntry, announcedBy, announcing, withdrawnBy, withdrawing}
-use Rattle.flowspec.specs.Look.{seen, lookingUp, firstMatch, matchPlace}
+use Rattle.flowspec.specs.Look.{seen, noHead, lookingUp, firstMatch, matchPlace}
 use Rattle.flowspec.specs.Told.{Told, done, refused, readingTold, writingTold, comparisonTold, feasibilityTold, actionsTold, changeTold, verdictTold, lookupTold, matchPlaceTold}
 use Rattle.flowspec.specs.Checks.{judgeChecks, announceChecks, Check, check, oneToSeven, told, endsThere, readChecks, readValues, writeChecks, writeValues, compareChecks, compareValues, actionsChecks, actionsValues, withdrawChecks, lookupChecks, lookupValues, firstMatchValues, isSound, actionsRead}
 
