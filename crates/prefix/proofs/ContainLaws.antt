@@ -1,6 +1,6 @@
 -- Containment of patterns of any width: what it says, that it is an order, and the same by shifts and by intervals of addresses.
 -- Assumes nothing.
-use mathlib.Core.Path.{_≡_, refl, ap, sym, _∙_}
+use mathlib.Core.Path.{_≡_, refl, ap, ap₂, sym, _∙_}
 use mathlib.Core.Bool.{Bool, true, false, _&&_, _||_, or-true, and-false}
 use mathlib.Core.List.{_∷_, head-eq-of-cons-eq, tail-eq-of-cons-eq}
 use mathlib.Core.Logic.{⊎-elim}
@@ -51,6 +51,25 @@ module _ (w : ℕ) (p q : Pattern) where
   pub by-bits : (r : Bool) → p .offset ≡ q .offset → p .length ≤ q .length → r ≡ coversAddress w p (q .address) → r ≡ contains w p q
   unfolding contains
   by-bits r o h e = rw (eq-eqb (p .offset) (q .offset) o, le-leb (p .length) (q .length) h) e
+
+-- of two patterns one contains the other where the one that is no longer contains the other
+module _ (w : ℕ) (p q : Pattern) where
+  both-ways : p .length ≤ q .length → contains w q p ≡ true → contains w p q ≡ true
+  both-ways h t =
+      let i = contains-says w q p t in
+      let longer = i .longer in
+      let long : p .length ≡ q .length = omega arith in
+      let at : (a : ℕ) → bitsBetween w (q .offset) (q .length) a ≡ bitsBetween w (p .offset) (p .length) a
+      = λ a. ap₂ (λ m n. bitsBetween w m n a) (i .aligned) (sym long) in
+      says-contains w p q (record { aligned = sym (i .aligned); longer = h; begins = sym (at (p .address)) ∙ sym (i .begins) ∙ at (q .address) })
+
+  pub nested-longer : (r : Bool) → p .length ≤ q .length → r ≡ contains w p q → r ≡ (contains w p q || contains w q p)
+  nested-longer r h e =
+      e ∙ same-test (contains w p q) (contains w p q || contains w q p) (λ t. rw t)
+      (λ t. by-test (contains w p q) (λ u. u) (λ u. both-ways h (rw u at t)))
+
+  pub nested-shorter : (r : Bool) → q .length < p .length → r ≡ contains w q p → r ≡ (contains w p q || contains w q p)
+  nested-shorter r h e = e ∙ rw (← no-shorter w p q h)
 
 -- every pattern contains itself
 pub contains-self : (w : ℕ) (p : Pattern) → contains w p p ≡ true

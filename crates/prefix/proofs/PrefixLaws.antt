@@ -155,11 +155,11 @@ module _ (w : ℕ) (p q : Pattern) (r : Order) where
   unfolding prefixOrder
   by-offset h e = e ∙ ap ordered (decided (compare (p .offset) (q .offset)) _ (λ g. h (nat-order .only (p .offset) (q .offset) g)))
 
-  module _ (s t : Bool) (aligned : p .offset ≡ q .offset) (outer : s ≡ contains w p q) (inner : t ≡ contains w q p) where
-    pub by-length : s || t ≡ true → r ≡ ordered (compare (q .length) (p .length)) → r ≡ ordered (prefixOrder w p q)
+  module _ (nested : Bool) (aligned : p .offset ≡ q .offset) (is : nested ≡ (contains w p q || contains w q p)) where
+    pub by-length : nested ≡ true → r ≡ ordered (compare (q .length) (p .length)) → r ≡ ordered (prefixOrder w p q)
     unfolding prefixOrder
-    by-length e f = rw (eq-cmp (p .offset) (q .offset) aligned, ← outer, ← inner, e) f
+    by-length e f = rw (eq-cmp (p .offset) (q .offset) aligned, ← is, e) f
 
-    pub by-address : s || t ≡ false → r ≡ ordered (compare (p .address) (q .address)) → r ≡ ordered (prefixOrder w p q)
+    pub by-address : nested ≡ false → r ≡ ordered (compare (p .address) (q .address)) → r ≡ ordered (prefixOrder w p q)
     unfolding prefixOrder
-    by-address e f = rw (eq-cmp (p .offset) (q .offset) aligned, ← outer, ← inner, e) f
+    by-address e f = rw (eq-cmp (p .offset) (q .offset) aligned, ← is, e) f

@@ -1,6 +1,7 @@
 // Prefixes of addresses of any width up to 128 bits, which may begin behind an offset: whether one contains another or covers an
 // address, which of two comes first, and the prefix that a component's body spells.
 ghost use mathlib.Core.Path.{_≡_};
+ghost use mathlib.Core.Bool.{_||_};
 ghost use lib.Dec.{eqb};
 ghost use Prim.Native.Nat.{_-_, _/_, _%_, _^_, _≤_, compare};
 ghost use Rattle.octets.specs.Number.{numberAt};
@@ -127,6 +128,16 @@ pub fn compare_addresses(a: Address, b: Address) -> Order
     octets::compare_numbers(a.low as usize, b.low as usize)
 }
 
+// Whether one of two prefixes contains the other: none contains a shorter one.
+fn are_nested(width: u8, first: Prefix, second: Prefix) -> bool
+    ensures { λ r. ⌜ r ≡ (contains width (patternOf first) (patternOf second) || contains width (patternOf second) (patternOf first)) ⌝ }
+{
+    if first.length <= second.length {
+        return contains_prefix(width, first, second);
+    }
+    contains_prefix(width, second, first)
+}
+
 // Which of two prefixes comes first: that of the lower offset, then the more specific if one contains the other, else the lower address.
 pub fn compare_prefixes(width: u8, first: Prefix, second: Prefix) -> Order
     ensures { λ r. ⌜ r ≡ ordered (prefixOrder width (patternOf first) (patternOf second)) ⌝ }
@@ -134,8 +145,7 @@ pub fn compare_prefixes(width: u8, first: Prefix, second: Prefix) -> Order
     if first.offset != second.offset {
         return octets::compare_numbers(first.offset as usize, second.offset as usize);
     }
-    let nested = contains_prefix(width, first, second) | contains_prefix(width, second, first);
-    if nested {
+    if are_nested(width, first, second) {
         return octets::compare_numbers(second.length as usize, first.length as usize);
     }
     compare_addresses(first.address, second.address)
