@@ -60,6 +60,14 @@ module _ (family : Family) (v : List ℕ) where
   pub was-found : (at previous kind next : ℕ) → componentAt family v at previous ≡ Another kind next → Found family v at previous kind next
   was-found at previous kind next e = subst (Says family v at previous) e (cursor-says at previous)
 
+  -- a component that was found ends behind its place, and in the value
+  module _ (at previous kind next : ℕ) (answer : Next) (is : answer ≡ componentAt family v at previous) (found : answer ≡ Another kind next) where
+    pub ends-behind : at < next
+    ends-behind = let w = was-found at previous kind next (sym is ∙ found) .within in omega arith
+
+    pub ends-inside : next ≤ length v
+    ends-inside = was-found at previous kind next (sym is ∙ found) .within .1
+
   pub none-left : (at previous : ℕ) → componentAt family v at previous ≡ Nothing → length v ≤ at
   none-left at previous e = subst (Says family v at previous) e (cursor-says at previous)
 

@@ -3,8 +3,8 @@ pub mod Family
 pub mod Shape
 pub mod Operator
 pub mod Component
-pub mod Reader
 pub mod Value
+pub mod Reader
 pub mod Plain
 pub mod PlainComponent
 pub mod Reading

@@ -1,16 +1,17 @@
 // One rule (RFC 8955 section 4): its components, its plain spelling, reading one and writing one. `component_at` is the one cursor
 // of reading: it and the functions that it calls make every bounds check of that walk. `Reader`, a value with a place in it, is thin above
-// the cursor, and whoever walks a value asks `next_component`, which takes plain parameters. The plain spelling has a walk of its own,
-// octet by octet; only what fills or writes a buffer asks for its size.
+// the cursor: it tells what stands at its place, hands on the body that lies there, and is moved behind it. Whoever walks a value asks
+// `next_component` and `component_body`, which take plain parameters. The plain spelling has a walk of its own, octet by octet; only what
+// fills or writes a buffer asks for its size.
 ghost use mathlib.Core.Path.{_≡_};
 ghost use mathlib.Core.List.{_++_};
-ghost use Prim.Native.Nat.{_≤_};
+ghost use Prim.Native.Nat.{_<_, _≤_};
 ghost use lib.ListN.{length, drop};
 ghost use Rattle.rule.specs.Family.{ipv4};
 ghost use Rattle.rule.specs.Shape.{shapeOf};
 ghost use Rattle.rule.specs.Operator.{endsList, sizeOf};
 ghost use Rattle.rule.specs.Component.{pairAt, pairsFrom, leadOf, offsetAt, prefixEnd, bodyEnd, componentAt};
-ghost use Rattle.rule.specs.Reader.{readerAt, nextOf};
+ghost use Rattle.rule.specs.Reader.{readerAt, nextOf, behindOf, HandsOn};
 ghost use Rattle.rule.specs.Value.{mostValue, checkValue};
 ghost use Rattle.rule.specs.Plain.{expectedAtStart, bodyOf, patternAfter, after, operandAfter, withoutReserved, plainOperator, plainOperand, plainAddress, clearedOctet, plain};
 ghost use Rattle.rule.specs.Reading.{fieldSize, fieldLength, firstRule, oneRule};
@@ -334,16 +335,37 @@ pub fn component_at(family: Family, value: &[u8], at: usize, previous: u8) -> Ne
     }
 }
 
+// The body of the component at a place, which ends at `next`: the octets behind its type octet, as a part of the value.
+pub fn body_at(value: &[u8], at: usize, next: usize) -> &[u8]
+    requires { ⌜ (at < next) × (next ≤ length (now value)) ⌝ }
+    ensures { λ r. ⌜ HandsOn (value .entry) at next r ⌝ }
+{
+    let start = at + 1;
+    &value[start..next]
+}
+
 impl<'a> Reader<'a> {
-    // A reader at a place of a value.
-    pub fn new(family: Family, value: &'a [u8], at: usize, previous: u8) -> Reader<'a>
-        ensures { λ r. ⌜ r ≡ readerAt family (value .entry) at previous ⌝ }
+    // A reader of a value that has read nothing yet.
+    pub fn new(family: Family, value: &'a [u8]) -> Reader<'a>
+        ensures { λ r. ⌜ r ≡ readerAt family (value .entry) 0 0 ⌝ }
     {
         Reader {
             family,
             value,
-            at,
-            previous,
+            at: 0,
+            previous: 0,
+        }
+    }
+
+    // The reader moved behind a component of the type `kind`, or behind the head where `kind` is 0, which ends at `next`.
+    pub fn behind(self, kind: u8, next: usize) -> Reader<'a>
+        ensures { λ r. ⌜ r ≡ behindOf (self .entry) kind next ⌝ }
+    {
+        Reader {
+            family: self.family,
+            value: self.value,
+            at: next,
+            previous: kind,
         }
     }
 
@@ -353,13 +375,36 @@ impl<'a> Reader<'a> {
     {
         component_at(self.family, self.value, self.at, self.previous)
     }
+
+    // The body of the component at the reader's place, which ends at `next`.
+    pub fn body(self, next: usize) -> &'a [u8]
+        requires { ⌜ (self .at < next) × (next ≤ length (now (self .value))) ⌝ }
+        ensures { λ r. ⌜ HandsOn (self .entry .value) (self .entry .at) next r ⌝ }
+    {
+        body_at(self.value, self.at, next)
+    }
+}
+
+// A reader at a place of a value, behind a component of the type `previous` (0 at the start).
+pub fn reader_at<'a>(family: Family, value: &'a [u8], at: usize, previous: u8) -> Reader<'a>
+    ensures { λ r. ⌜ r ≡ readerAt family (value .entry) at previous ⌝ }
+{
+    Reader::new(family, value).behind(previous, at)
 }
 
 // What a reader at a place of a value finds there.
 pub fn next_component(family: Family, value: &[u8], at: usize, previous: u8) -> Next
     ensures { λ r. ⌜ r ≡ componentAt family (now (value .entry)) at previous ⌝ }
 {
-    Reader::new(family, value, at, previous).next()
+    reader_at(family, value, at, previous).next()
+}
+
+// The body that a reader at a place of a value hands on: of the component there, which ends at `next`.
+pub fn component_body(family: Family, value: &[u8], at: usize, previous: u8, next: usize) -> &[u8]
+    requires { ⌜ (at < next) × (next ≤ length (now value)) ⌝ }
+    ensures { λ r. ⌜ HandsOn (value .entry) at next r ⌝ }
+{
+    reader_at(family, value, at, previous).body(next)
 }
 
 // Refusals 1 to 7 of a value.
