@@ -2,7 +2,7 @@
 use mathlib.Core.Path.{_≡_, refl, sym, ap, ap₂, _∙_}
 use mathlib.Core.Bool.{true, false}
 use mathlib.Core.List.{List, [], _∷_}
-use Prim.Native.Nat.{ℕ, _+_, _-_, _<_, _≤_, min, compare, Ordering, Ordering·lt, Ordering·eq, Ordering·gt}
+use Prim.Native.Nat.{ℕ, _+_, _<_, _≤_, min, compare, Ordering, Ordering·lt, Ordering·eq, Ordering·gt}
 use native.Mathlib.Omega.{arith}
 use native.Mathlib.Decide.{decLt}
 use lib.ListN.{length, take}
@@ -22,9 +22,9 @@ use Rattle.rule.specs.declared.Checked.{Checked}
 use Rattle.rule.specs.declared.Shape.{Shape}
 use Rattle.rule.specs.Shape.{shapeOf}
 use Rattle.rule.specs.Component.{componentAt}
-use Rattle.rule.specs.Value.{Component, between, components}
+use Rattle.rule.specs.Value.{Component, component, between, components}
 use Rattle.rule.specs.Plain.{plain}
-use Rattle.rule.proofs.ValueLaws.{Found, was-found, components-more, components-none, components-refused}
+use Rattle.rule.proofs.ValueLaws.{was-found, components-more, components-none, components-refused}
 use Rattle.order.specs.declared.Turn.{Turn}
 use Rattle.order.specs.declared.Turn.the-variants.{Decided, Tied}
 use Rattle.order.specs.Precedence.{bodyOrder, componentOrder, componentsOrder, headsOrder, plainOrder, precedence}
@@ -114,19 +114,13 @@ module _ (family : Family) (v : List ℕ) (here : ℕ) (w : List ℕ) (there pre
     turn-second-refused number place e =
         record { says = rw (left-more family v here previous kind next (at-left ∙ found), left-refused family w there previous number place (at-right ∙ e)); ahead = tt }
 
-    pub left-found : Found family v here previous kind next
-    left-found = was-found family v here previous kind next (at-left ∙ found)
-
     module _ (other behind : ℕ) (also : right ≡ Another other behind) where
-      pub right-found : Found family w there previous other behind
-      right-found = was-found family w there previous other behind (at-right ∙ also)
-
-      pub turn-both : (order : Order) (turn : Turn)
-          → order ≡ ordered (componentOrder family (record { kind = kind; body = between v (here + 1) next }) (record { kind = other; body = between w (there + 1) behind }))
-          → turn ≡ turnFor order kind next behind → Turned family v here w there previous turn
+      pub turn-both : (body against : List ℕ) → body ≡ between v (here + 1) next → against ≡ between w (there + 1) behind → (order : Order) (turn : Turn)
+          → order ≡ ordered (componentOrder family (component kind body) (component other against)) → turn ≡ turnFor order kind next behind → Turned family v here w there previous turn
       unfolding componentsOrder
-      turn-both order turn e f =
-          rw (f, e) (go (componentOrder family (record { kind = kind; body = between v (here + 1) next }) (record { kind = other; body = between w (there + 1) behind })) refl)
+      turn-both body against b a order turn e f =
+          let same = ap₂ (λ (x y : List ℕ). ordered (componentOrder family (component kind x) (component other y))) b a in
+          rw (f, e, same) (go (componentOrder family (record { kind = kind; body = between v (here + 1) next }) (record { kind = other; body = between w (there + 1) behind })) refl)
         where
           both : ordered (componentsOrder family (componentsLeft family v here previous) (componentsLeft family w there previous))
               ≡ ordered (then (componentOrder family (record { kind = kind; body = between v (here + 1) next }) (record { kind = other; body = between w (there + 1) behind }))
@@ -137,7 +131,7 @@ module _ (family : Family) (v : List ℕ) (here : ℕ) (w : List ℕ) (there pre
               → Turned family v here w there previous (turnFor (ordered o) kind next behind)
           go Ordering·lt q = record { says = sym (both ∙ rw q); ahead = tt }
           go Ordering·eq q =
-              let inside = left-found .within in
+              let inside = was-found family v here previous kind next (at-left ∙ found) .within in
               let tied : ordered (componentsOrder family (componentsLeft family v here previous) (componentsLeft family w there previous))
               ≡ ordered (componentsOrder family (componentsLeft family v next kind) (componentsLeft family w behind other)) = both ∙ rw q in
               let e = ap (λ k. ordered (componentsOrder family (componentsLeft family v next kind) (componentsLeft family w behind k))) (same-kind family kind other _ _ q) in

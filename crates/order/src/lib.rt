@@ -100,15 +100,9 @@ pub fn compare_next(
                 kind: other,
                 next: behind,
             } => {
-                let start = here + 1;
-                let begin = there + 1;
-                let order = compare_components(
-                    family,
-                    kind,
-                    &first[start..next],
-                    other,
-                    &second[begin..behind],
-                );
+                let body = rule::component_body(family, first, here, previous, next);
+                let against = rule::component_body(family, second, there, previous, behind);
+                let order = compare_components(family, kind, body, other, against);
                 turn_for(order, kind, next, behind)
             }
         },

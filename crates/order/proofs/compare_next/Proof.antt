@@ -1,48 +1,15 @@
 -- Where both values have a component, its body lies in the value; then one law for each return.
-use native.Mathlib.Omega.{arith}
-use Rattle.rule.proofs.ValueLaws.{Found}
-use Rattle.order.proofs.TurnLaws.{left-found, right-found, turn-none, turn-refused, turn-second-none, turn-second-refused, turn-both}
 use borrow.Author.Needs.{needs}
+use Rattle.rule.proofs.ValueLaws.{ends-behind, ends-inside}
+use Rattle.order.proofs.TurnLaws.{turn-none, turn-refused, turn-second-none, turn-second-refused, turn-both}
 use Rattle.order.proofs.compare_next.Statement.{statement}
 use Rattle.order.proofs.compare_next.Tie as tie
 
-here-found : (c : tie.After-known-told2)
-    → Found (c .before .before .before .before .before .before .before .before .before .before .args .family) (c .before .before .before .before .before .before .before .before .before .before .args .first .now) (c .before .before .before .before .before .before .before .before .before .before .args .here) (c .before .before .before .before .before .before .before .before .before .before .args .previous)
-    (c .before .before .before .before .left .given .0 .0) (c .before .before .before .before .left .given .0 .1 .0)
-here-found c =
-    left-found _ _ _ (c .before .before .before .before .before .before .before .before .before .before .args .second .now) (c .before .before .before .before .before .before .before .before .before .before .args .there) _ _ _ (c .before .before .before .before .before .before .before .next-component .ensures)
-    (c .before .before .before .before .before .before .next-component2 .ensures) _ _ (c .before .before .before .before .left .given .1)
+component-body-requires : tie.Need-component-body-requires
+component-body-requires c κs = search (ends-behind, ends-inside, needs)
 
-there-found : (c : tie.After-known-told2)
-    → Found (c .before .before .before .before .before .before .before .before .before .before .args .family) (c .before .before .before .before .before .before .before .before .before .before .args .second .now) (c .before .before .before .before .before .before .before .before .before .before .args .there) (c .before .before .before .before .before .before .before .before .before .before .args .previous)
-    (c .before .right .given .0 .0) (c .before .right .given .0 .1 .0)
-there-found c =
-    right-found _ _ _ _ _ _ _ _ (c .before .before .before .before .before .before .before .next-component .ensures) (c .before .before .before .before .before .before .next-component2 .ensures) _ _ (c .before .before .before .before .left .given .1) _ _
-    (c .before .right .given .1)
-
-add-start : tie.Need-add-start
-add-start c = omega (arith, here-found c)
-
-add-begin : tie.Need-add-begin
-add-begin c = omega (arith, there-found c)
-
-sub-compare-components : tie.Need-sub-compare-components
-sub-compare-components c = omega (arith, here-found c)
-
-part-compare-components-start : tie.Need-part-compare-components-start
-part-compare-components-start c = omega (arith, here-found c)
-
-part-compare-components-end : tie.Need-part-compare-components-end
-part-compare-components-end c = omega (arith, here-found c)
-
-sub-compare-components-2 : tie.Need-sub-compare-components-2
-sub-compare-components-2 c = omega (arith, there-found (c .before))
-
-part-compare-components-start-2 : tie.Need-part-compare-components-start-2
-part-compare-components-start-2 c = omega (arith, there-found (c .before))
-
-part-compare-components-end-2 : tie.Need-part-compare-components-end-2
-part-compare-components-end-2 c = omega (arith, there-found (c .before))
+component-body-requires-2 : tie.Need-component-body-requires-2
+component-body-requires-2 c κs = search (ends-behind, ends-inside, needs)
 
 returns : tie.Need-returns
 returns c = search (turn-none, needs)
@@ -73,14 +40,8 @@ compare-next-spec =
     (λ c. search needs)
     (λ c. search needs)
     (λ c. search needs)
-    add-start
-    add-begin
-    sub-compare-components
-    part-compare-components-start
-    part-compare-components-end
-    sub-compare-components-2
-    part-compare-components-start-2
-    part-compare-components-end-2
+    component-body-requires
+    component-body-requires-2
     (λ c κs. search needs)
     (λ c κs. search needs)
     returns
