@@ -4,8 +4,8 @@ use mathlib.Core.Bool.{Bool, true, false, cond, not, _&&_, _||_, or-false}
 use mathlib.Core.List.{List, [], _∷_}
 use Prim.Native.Nat.{ℕ, _+_, _-_, _<_}
 use native.Mathlib.Omega.{arith}
-use lib.Dec.{ltb, eqb}
-use lib.ListN.{length, take, drop}
+use lib.Dec.{ltb}
+use lib.ListN.{length}
 use borrow.Author.Tests.{ltb-true, ne-eqb, not-true, not-false}
 use Rattle.octets.specs.Test.{every, oneHolds}
 use Rattle.octets.specs.Walk.{Walk}
@@ -18,7 +18,7 @@ use Rattle.rule.specs.declared.Next.the-variants.{Nothing, Another, Refused}
 use Rattle.rule.specs.declared.Checked.{Checked}
 use Rattle.rule.specs.Shape.{shapeOf}
 use Rattle.rule.specs.Component.{componentAt}
-use Rattle.rule.specs.Value.{Component, componentsFrom, components, component}
+use Rattle.rule.specs.Value.{Component, between, componentsFrom, components, component}
 use Rattle.rule.proofs.ValueLaws.{was-found, components-more, components-none, components-refused}
 use Rattle.packet.specs.declared.Field.{Field}
 use Rattle.packet.specs.declared.Field.the-variants.{Shown, Hidden}
@@ -120,11 +120,11 @@ module _ (family : Family) (v : List ℕ) (packet : Packet) (at previous : ℕ) 
   abbrev rest : Walk Component Checked → Bool
   rest w = every (componentMatches family packet) (w .items)
 
-  module _ (kind behind : ℕ) (r : Bool) (found : next ≡ Another kind behind)
-      (says : r ≡ componentMatches family packet (component kind (take (behind - (at + 1)) (drop (at + 1) v)))) where
+  module _ (kind behind : ℕ) (body : List ℕ) (r : Bool) (found : next ≡ Another kind behind) (handed : body ≡ between v (at + 1) behind)
+      (says : r ≡ componentMatches family packet (component kind body)) where
     one-more : matches family v packet ≡ r && matchesFrom family v packet behind kind
     unfolding every
-    one-more = so-far ∙ ap rest (components-more family v at previous kind behind (sym is ∙ found)) ∙ rw says
+    one-more = so-far ∙ ap rest (components-more family v at previous kind behind (sym is ∙ found)) ∙ rw (says, handed)
 
     pub rule-on : not r ≡ false → matches family v packet ≡ matchesFrom family v packet behind kind
     rule-on h = one-more ∙ rw (not-false r h)

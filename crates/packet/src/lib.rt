@@ -368,8 +368,8 @@ pub fn matches_rule(family: Family, value: &[u8], packet: Packet) -> bool
         let next = rule::next_component(family, value, at, previous);
         match next {
             Next::Another { kind, next } => {
-                let start = at + 1;
-                if !matches_component(family, kind, &value[start..next], packet) {
+                let body = rule::component_body(family, value, at, previous, next);
+                if !matches_component(family, kind, body, packet) {
                     return false;
                 }
                 at = next;

@@ -1,10 +1,9 @@
 -- The components from the place on decide what all of them do: those before it match. A component that was found lies in the value.
 use borrow.Author.Needs.{needs}
-use Prim.Native.Nat.{_+_, _-_, _<_, _≤_}
-use mathlib.Core.Path.{_≡_, sym, _∙_}
-use native.Mathlib.Omega.{arith}
+use Prim.Native.Nat.{_-_}
+use mathlib.Core.Path.{_≡_}
 use lib.ListN.{length}
-use Rattle.rule.proofs.ValueLaws.{was-found}
+use Rattle.rule.proofs.ValueLaws.{ends-behind, ends-inside}
 use Rattle.packet.specs.Match.{matches}
 use Rattle.packet.proofs.MatchLaws.{matchesFrom, from-start, rule-on, rule-out, rule-nearer, rule-end, rule-cut}
 use Rattle.packet.proofs.matches_rule.Statement.{statement}
@@ -16,12 +15,6 @@ Inv-loop family value packet at₀ previous₀ at previous = matches family valu
 abbrev μ-loop : tie.MeasureT-loop
 μ-loop family value packet at₀ previous₀ at previous = length value - at
 
-inside : (c : tie.After-known-told Inv-loop μ-loop)
-    → (c .before .before .before .before .loop .at + 1 < c .before .next .given .0 .1 .0)
-    × (c .before .next .given .0 .1 .0 ≤ length (c .before .before .before .before .before .before .args .value .now))
-inside c = let l = c .before .before .before .before .loop in
-    was-found _ _ (l .at) (l .previous) _ _ (sym (c .before .before .before .next-component .ensures) ∙ c .before .next .given .1) .within
-
 loop-holds : tie.Need-loop-holds Inv-loop μ-loop
 loop-holds c = search (from-start, needs)
 
@@ -31,17 +24,8 @@ next-component-requires c κs = search needs
 enum-known-next : tie.Need-enum-known-next Inv-loop μ-loop
 enum-known-next c = search needs
 
-add-start : tie.Need-add-start Inv-loop μ-loop
-add-start c = omega (arith, inside c)
-
-sub-matches-component : tie.Need-sub-matches-component Inv-loop μ-loop
-sub-matches-component c = omega (arith, inside c)
-
-part-matches-component-start : tie.Need-part-matches-component-start Inv-loop μ-loop
-part-matches-component-start c = omega (arith, inside c)
-
-part-matches-component-end : tie.Need-part-matches-component-end Inv-loop μ-loop
-part-matches-component-end c = omega (arith, inside c)
+component-body-requires : tie.Need-component-body-requires Inv-loop μ-loop
+component-body-requires c κs = search (ends-behind, ends-inside, needs)
 
 matches-component-requires : tie.Need-matches-component-requires Inv-loop μ-loop
 matches-component-requires c κs = search needs
@@ -76,10 +60,7 @@ matches-rule-spec =
     loop-holds
     next-component-requires
     enum-known-next
-    add-start
-    sub-matches-component
-    part-matches-component-start
-    part-matches-component-end
+    component-body-requires
     matches-component-requires
     returns
     loop-less
