@@ -13,7 +13,7 @@ use Rattle.rule.specs.declared.Next.the-variants.{Nothing, Another, Refused}
 use Rattle.rule.specs.declared.Checked.{Checked}
 use Rattle.rule.specs.Component.{componentAt}
 use Rattle.rule.specs.Value.{Component, between, componentsFrom, components}
-use Rattle.rule.proofs.ValueLaws.{Found, was-found, components-more, components-none, components-refused, components-ind}
+use Rattle.rule.proofs.ValueLaws.{was-found, components-more, components-none, components-refused, components-ind}
 use Rattle.route.specs.Destination.{Destination, Missing, At, destinationFor, destinationAmong, destinationOf}
 
 -- how `destination_for` comes to its answers
@@ -46,17 +46,14 @@ module _ (family : Family) (v : List ℕ) where
 
   -- how `destination_of` comes to its answers
   module _ (next : Next) (is : next ≡ componentAt family v (family .head) 0) where
-    pub first-found : (kind behind : ℕ) → next ≡ Another kind behind → Found family v (family .head) 0 kind behind
-    first-found kind behind e = was-found family v (family .head) 0 kind behind (sym is ∙ e)
-
-    pub by-first : (kind behind : ℕ) (r : Destination) → next ≡ Another kind behind
-        → r ≡ destinationFor family (record { kind = kind; body = between v (family .head + 1) behind }) Missing → r ≡ destinationOf family v
+    pub by-first : (kind behind : ℕ) (body : List ℕ) (r : Destination) → next ≡ Another kind behind → body ≡ between v (family .head + 1) behind
+        → r ≡ destinationFor family (record { kind = kind; body = body }) Missing → r ≡ destinationOf family v
     unfolding destinationOf components destinationAmong parts Later
-    by-first kind behind r e s =
-        let f = first-found kind behind e in
+    by-first kind behind body r e handed s =
+        let f = was-found family v (family .head) 0 kind behind (sym is ∙ e) in
         let given = f .given in
         let c = ap parts (components-more family v (family .head) 0 kind behind (sym is ∙ e)) in
-        s ∙ rw (c, later behind kind (omega arith))
+        s ∙ ap (λ (x : List ℕ). destinationFor family (record { kind = kind; body = x }) Missing) handed ∙ rw (c, later behind kind (omega arith))
 
     pub by-none : next ≡ Nothing → Missing ≡ destinationOf family v
     unfolding destinationOf components destinationAmong parts

@@ -290,8 +290,8 @@ pub fn destination_of(family: Family, value: &[u8]) -> Destination
     let start = family.head;
     match rule::next_component(family, value, start, 0) {
         Next::Another { kind, next } => {
-            let begin = start + 1;
-            destination_for(family, kind, &value[begin..next])
+            let body = rule::component_body(family, value, start, 0, next);
+            destination_for(family, kind, body)
         }
         Next::Nothing => Destination::Missing,
         Next::Refused {
