@@ -6,7 +6,7 @@ use mathlib.Core.List.{List}
 use Prim.Native.Nat.{ℕ, _+_, _-_, _^_, _<_, _≤_}
 use native.Mathlib.Omega.{arith}
 use lib.Dec.{leb, ltb}
-use lib.ListN.{length, take, drop}
+use lib.ListN.{length}
 use borrow.Author.Tests.{ltb-true, ltb-false, leb-false, lt-ltb, le-ltb, lt-leb, ne-eqb, not-true, not-false}
 use Rattle.octets.specs.Test.{every, sameList}
 use Rattle.octets.specs.Walk.{Walk}
@@ -20,7 +20,7 @@ use Rattle.rule.specs.declared.Next.the-variants.{Nothing, Another, Refused as 
 use Rattle.rule.specs.declared.Checked.{Checked}
 use Rattle.rule.specs.declared.Checked.the-variants.{Accepted, Refused}
 use Rattle.rule.specs.Component.{bodyEnd, componentAt}
-use Rattle.rule.specs.Value.{mostValue, Component, component, componentsFrom, components, checkValue}
+use Rattle.rule.specs.Value.{mostValue, between, Component, component, componentsFrom, components, checkValue}
 use Rattle.rule.specs.Plain.{plain}
 use Rattle.rule.proofs.ValueLaws.{was-found, components-more, components-none, components-refused, check-walk, accepted-small, accepted-head, accepted-some}
 use Rattle.rule.proofs.PlainWalkLaws.{plainBody, plain-each, body-alone}
@@ -69,17 +69,17 @@ module _ (family : Family) (v : List ℕ) where
 
   module _ (at previous : ℕ) (next : Next) (is : next ≡ componentAt family v at previous) (so-far : plainValue family v ≡ plainOn family v at previous) where
     module _ (kind behind : ℕ) (found : next ≡ Another kind behind) where
-      pub body-found : bodyEnd family kind (take (behind - (at + 1)) (drop (at + 1) v)) 0 ≡ At (length (take (behind - (at + 1)) (drop (at + 1) v)))
-      body-found = body-alone family kind v (at + 1) behind (was-found family v at previous kind behind (sym is ∙ found) .ends)
+      pub body-found : (body : List ℕ) → body ≡ between v (at + 1) behind → bodyEnd family kind body 0 ≡ At (length body)
+      body-found body handed = rw handed (body-alone family kind v (at + 1) behind (was-found family v at previous kind behind (sym is ∙ found) .ends))
 
       pub value-nearer : length v - behind < length v - at
       value-nearer = let w = was-found family v at previous kind behind (sym is ∙ found) .within in omega arith
 
-      module _ (r : Bool) (says : r ≡ plainBody family (component kind (take (behind - (at + 1)) (drop (at + 1) v)))) where
+      module _ (body : List ℕ) (r : Bool) (handed : body ≡ between v (at + 1) behind) (says : r ≡ plainBody family (component kind body)) where
         one-more : plainValue family v ≡ (isAccepted (componentsFrom family v (record { at = behind; previous = kind }) .ending)
             && (r && every (plainBody family) (componentsFrom family v (record { at = behind; previous = kind }) .items)))
         unfolding every
-        one-more = so-far ∙ ap (plainWalk family) (components-more family v at previous kind behind (sym is ∙ found)) ∙ rw says
+        one-more = so-far ∙ ap (plainWalk family) (components-more family v at previous kind behind (sym is ∙ found)) ∙ rw (says, handed)
 
         pub value-on : not r ≡ false → plainValue family v ≡ plainOn family v behind kind
         value-on h = one-more ∙ rw (not-false r h)

@@ -25,6 +25,7 @@ use rule::Expected;
 use rule::Family;
 use rule::MOST_VALUE;
 use rule::Next;
+use rule::component_body;
 use rule::next_component;
 use rule::offset_at;
 use rule::plain_address;
@@ -247,8 +248,8 @@ pub fn is_plain_value(family: Family, value: &[u8]) -> bool
         let next = next_component(family, value, at, previous);
         match next {
             Next::Another { kind, next } => {
-                let start = at + 1;
-                if !is_plain_body(family, kind, &value[start..next]) {
+                let body = component_body(family, value, at, previous, next);
+                if !is_plain_body(family, kind, body) {
                     return false;
                 }
                 at = next;

@@ -1,10 +1,10 @@
 -- The components from the place on decide what all of them do: those before it are plain. A component that was found lies in the value.
 use borrow.Author.Needs.{needs}
-use Prim.Native.Nat.{_+_, _-_, _<_, _≤_}
-use mathlib.Core.Path.{_≡_, sym, _∙_}
+use Prim.Native.Nat.{_-_}
+use mathlib.Core.Path.{_≡_}
 use native.Mathlib.Omega.{arith}
 use lib.ListN.{length}
-use Rattle.rule.proofs.ValueLaws.{was-found}
+use Rattle.rule.proofs.ValueLaws.{ends-behind, ends-inside}
 use Rattle.entry.specs.Entry.{plainValue}
 use Rattle.entry.proofs.ValueLaws.{plainOn, value-outside, value-starts, body-found, value-nearer, value-on, value-out, value-end, value-cut}
 use Rattle.entry.proofs.is_plain_value.Statement.{statement}
@@ -16,29 +16,14 @@ Inv-loop family value at₀ previous₀ at previous = plainValue family value �
 abbrev μ-loop : tie.MeasureT-loop
 μ-loop family value at₀ previous₀ at previous = length value - at
 
-inside : (c : tie.After-known-told Inv-loop μ-loop)
-    → (c .before .before .before .before .loop .at + 1 < c .before .next .given .0 .1 .0)
-    × (c .before .next .given .0 .1 .0 ≤ length (c .before .before .before .before .before .before .before .before .args .value .now))
-inside c = let l = c .before .before .before .before .loop in
-    was-found _ _ (l .at) (l .previous) _ _ (sym (c .before .before .before .next-component .ensures) ∙ c .before .next .given .1) .within
-
 returns : tie.Need-returns Inv-loop μ-loop
 returns c = search (value-outside, needs)
 
 loop-holds : tie.Need-loop-holds Inv-loop μ-loop
 loop-holds c = value-starts _ _ (λ i. omega (arith, c .before .before .shared-slice-known .given i)) (search needs)
 
-add-start : tie.Need-add-start Inv-loop μ-loop
-add-start c = omega (arith, inside c)
-
-sub-is-plain-body : tie.Need-sub-is-plain-body Inv-loop μ-loop
-sub-is-plain-body c = omega (arith, inside c)
-
-part-is-plain-body-start : tie.Need-part-is-plain-body-start Inv-loop μ-loop
-part-is-plain-body-start c = omega (arith, inside c)
-
-part-is-plain-body-end : tie.Need-part-is-plain-body-end Inv-loop μ-loop
-part-is-plain-body-end c = omega (arith, inside c)
+component-body-requires : tie.Need-component-body-requires Inv-loop μ-loop
+component-body-requires c κs = search (ends-behind, ends-inside, needs)
 
 is-plain-body-requires : tie.Need-is-plain-body-requires Inv-loop μ-loop
 is-plain-body-requires c κs = search (body-found, needs)
@@ -68,10 +53,7 @@ is-plain-value-spec =
     loop-holds
     (λ c κs. search needs)
     (λ c. search needs)
-    add-start
-    sub-is-plain-body
-    part-is-plain-body-start
-    part-is-plain-body-end
+    component-body-requires
     is-plain-body-requires
     returns-2
     loop-less
