@@ -40,5 +40,5 @@ lookup-no-T family t octets = by-test (soundTable family t) (λ s. rw s (go (pac
     go : (s : Sight) → NoT (lookedUp family t (shown s))
     go Unusable = tt
     go (Usable packet) =
-        let es = collected (hit family packet) (entries t) in
+        let es = collected (hit family noHead packet) (entries t) in
         by-test (eqb (length es) 0) (λ z. rw z tt) (λ z. rw z (onto-no-T noActions es refl))

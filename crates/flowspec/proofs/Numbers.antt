@@ -6,10 +6,9 @@ use mathlib.Core.List.{List, [], _∷_}
 use mathlib.Core.Logic.{_↔_, _⊎_, inl, inr, ⊎-elim}
 use Prim.Native.Nat.{ℕ, _<_, _≤_}
 use native.Mathlib.Omega.{arith}
-use lib.Dec.{ltb, eqb}
-use lib.ListN.{length}
+use lib.Dec.{eqb}
 use borrow.Author.Tests.{ne-eqb, not-false}
-use Rattle.octets.proofs.Cases.{by-test, apart}
+use Rattle.octets.proofs.Cases.{apart}
 use Rattle.rule.specs.declared.Family.{Family}
 use Rattle.rule.specs.declared.Checked.{Checked}
 use Rattle.rule.specs.declared.Checked.the-variants.{Accepted, Refused}
@@ -32,29 +31,7 @@ use Rattle.flowspec.specs.Numbers.{Yes, No, Accepts, OneToSeven, ReadNum
 use Rattle.flowspec.specs.Promise.{ReadsOne, WritesOne, ComparesTwo, JudgesOne, ReadsActions, Announces, Withdraws, LooksUp, LocatesFirst}
 use Rattle.flowspec.proofs.ChecksLaws.{number-at, value-at, all-hold}
 
--- a value is refused with a number from 1 to 7
-abbrev Numbered : Checked → Type 0
-Numbered Accepted = Unit {0}
-Numbered (Refused number place) = (1 ≤ number) × (number ≤ 7)
-
-value-numbered : (family : Family) (v : List ℕ) → Numbered (checkValue family v)
-unfolding checkValue
-value-numbered family v =
-    by-test (ltb 4095 (length v)) (λ t. rw t (omega arith, omega arith))
-    (λ t. by-test (eqb (length v) 0 || eqb (length v) (family .head)) (λ u. rw (t, u) (omega arith, omega arith))
-    (λ u. by-test (ltb (length v) (family .head)) (λ w. rw (t, u, w) (omega arith, omega arith)) (λ w. rw (t, u, w) walked)))
-  where
-    walked : Numbered (accepts family v (family .head) 0)
-    walked =
-        components-ind family v (λ at previous w. Numbered (w .ending)) (λ at previous e. tt)
-        (λ at previous number place e. let m = was-refused family v at previous number place e in (omega arith, omega arith))
-        (λ at previous kind next w e rest. rest) (family .head) 0
-
-rule-numbered : (family : Family) (rule : List ℕ) → Numbered (checkRule family rule)
-rule-numbered family rule =
-    by-test (ltb (length rule) (ruleEnd rule)) (λ t. rw t (omega arith, omega arith)) (λ t. rw t (value-numbered family (valueIn rule)))
-
--- so that no other check has its number, and it is not 0
+-- a refusal of 1 to 7 has no other check's number, and not 0
 other : (c : Checked) → Numbered c → (n : ℕ) → 7 < n → eqb (oneToSeven c .number) n ≡ false
 other Accepted h n k = ne-eqb 0 n (λ e. omega arith)
 other (Refused number place) h n k = ne-eqb number n (λ e. omega arith)

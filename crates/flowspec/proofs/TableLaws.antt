@@ -29,7 +29,7 @@ use Rattle.lookup.specs.declared.Verdict.the-variants.{Unmatched, Matched}
 use Rattle.table.specs.declared.Place.{Place}
 use Rattle.table.specs.Walk.{entries}
 use Rattle.table.specs.Sound.{soundness}
-use Rattle.table.specs.Lookup.{hit, verdictFor, firstPlace}
+use Rattle.lookup.specs.Lookup.{hit, verdictFor, firstPlace}
 use Rattle.table.specs.declared.Answer.{Answer}
 use Rattle.table.specs.Change.{announced, withdrawn, Ready, Leaves}
 use Rattle.table.proofs.LeaveLaws.{was-sound, was-ready, was-unsound}
@@ -165,15 +165,15 @@ module _ (family chosen : Family) (chose : chosen ≡ family) (t octets : List �
     locate-refused = rw (← chose) (located chosen t octets _ (rw (← is, e)) (omega arith) (omega arith))
 
   module _ (packet : Packet) (e : sees ≡ Shows packet) where
-    pub look-judged : (verdict : Verdict) → verdict ≡ verdictFor chosen packet (entries t) → LooksUp family t octets (Judged verdict) (t ∷ octets ∷ [])
+    pub look-judged : (verdict : Verdict) → verdict ≡ verdictFor chosen noHead packet (entries t) → LooksUp family t octets (Judged verdict) (t ∷ octets ∷ [])
     unfolding lookingUp
     look-judged verdict v = rw (← chose) (look-kept chosen t octets _ (rw (← is, e, v)))
 
-    pub locate-found : (place : Place) → (place ≡ firstPlace (hit chosen packet) 0 (entries t)) × ((place .start ≤ place .end) × (place .end ≤ length t))
+    pub locate-found : (place : Place) → (place ≡ firstPlace (hit chosen noHead packet) 0 (entries t)) × ((place .start ≤ place .end) × (place .end ≤ length t))
         → LocatesFirst family t octets (record { number = 0; start = place .start; end = place .end }) (t ∷ octets ∷ [])
     unfolding matchPlace lookingUp firstMatch
     locate-found place v =
-        rw (← chose) (located chosen t octets _ (rw (← is, e, ← v .0, ← judged-done (verdictFor chosen packet (entries t)))) (v .1 .0) (v .1 .1))
+        rw (← chose) (located chosen t octets _ (rw (← is, e, ← v .0, ← judged-done (verdictFor chosen noHead packet (entries t)))) (v .1 .0) (v .1 .1))
 
 -- where a first match was located is where it stands
 pub located-at : {family : Family} {t octets : List ℕ} {answer : MatchPlace} {kept : List (List ℕ)} → LocatesFirst family t octets answer kept

@@ -195,7 +195,7 @@ pub lookup-tells : (family : Family) (t packet : List ℕ) → lookupTold (looki
 unfolding lookingUp seen packetOf verdictFor verdictOf mergedOnto flagsOf
 lookup-tells family t packet =
     by-test (soundTable family t)
-    (λ s. by-test (isUnusable family packet) (λ u. rw (s, u)) (λ u. rw (s, u) (go (collected (hit family (fieldsOf family packet)) (entries t)))))
+    (λ s. by-test (isUnusable family packet) (λ u. rw (s, u)) (λ u. rw (s, u) (go (collected (hit family noHead (fieldsOf family packet)) (entries t)))))
     (λ s. rw s)
   where
     go : (rules : List Entry) → lookupTold (Judged (verdictOf (mergedOnto noActions rules) (length rules)))
@@ -207,7 +207,7 @@ pub locate-tells : (family : Family) (t packet : List ℕ) → matchPlaceTold (m
 unfolding matchPlace lookingUp firstMatch seen packetOf
 locate-tells family t packet =
     by-test (soundTable family t)
-    (λ s. by-test (isUnusable family packet) (λ u. rw (s, u)) (λ u. rw (s, u) (go (verdictFor family (fieldsOf family packet) (entries t)))))
+    (λ s. by-test (isUnusable family packet) (λ u. rw (s, u)) (λ u. rw (s, u) (go (verdictFor family noHead (fieldsOf family packet) (entries t)))))
     (λ s. rw s)
   where
     go : (v : Verdict) → _≡_ {A = Told} (record { number = verdictTold v .number; place = 0; values = firstMatchValues family t packet }) (done (firstMatchValues family t packet))

@@ -1,6 +1,6 @@
 -- 01's table of refusals as lists: what each call checks, in the order in which 01 names the numbers, and what a call says that goes
 -- through such a list. The first check that does not hold refuses the call.
-use Prim.Native.Nat.{ℕ, _+_}
+use Prim.Native.Nat.{ℕ}
 use mathlib.Core.Bool.{Bool, true, false, cond, not}
 use mathlib.Core.List.{List, [], _∷_}
 use lib.Dec.{leb}
@@ -31,6 +31,7 @@ use Rattle.flowspec.specs.Input.{Announcement, Policy}
 use Rattle.flowspec.specs.Feasibility.{isFeasible}
 use Rattle.flowspec.specs.Announce.{announcedEntry}
 use Rattle.flowspec.specs.Told.{Told, done, refused, placeValues}
+use Rattle.flowspec.specs.Look.{noHead}
 
 -- A check: whether it holds, and the number and the place of the refusal where it does not.
 pub record Check : Type 0 where
@@ -52,18 +53,6 @@ oneToSeven (Refused number place) = record { holds = false; number = number; pla
 abbrev pub told : List Check → List ℕ → Told
 told [] values = done values
 told (c ∷ cs) values = cond (c .holds) (told cs values) (refused (c .number) (c .place) (length values))
-
--- Where the rule ends that octets begin with: behind its length field and its value.
-abbrev pub ruleEnd : List ℕ → ℕ
-ruleEnd rule = fieldSize rule + fieldLength rule
-
--- The value of that rule.
-abbrev pub valueIn : List ℕ → List ℕ
-valueIn rule = valueOf rule (fieldSize rule) (fieldLength rule)
-
--- 1 where the "length field or value runs past the bytes", then the refusals of the value.
-abbrev pub checkRule : Family → List ℕ → Checked
-checkRule family rule = cond (ltb (length rule) (ruleEnd rule)) (Refused 1 0) (checkValue family (valueIn rule))
 
 -- No "bytes after the one rule".
 abbrev pub endsThere : List ℕ → Bool
@@ -158,11 +147,11 @@ lookupChecks family table packet = check (soundTable family table) 10 ∷ check 
 -- 01: "matched with the merged actions and the count collected": the count, then the values of the actions; each is 0 where no rule matches.
 abbrev pub lookupValues : Family → List ℕ → List ℕ → List ℕ
 lookupValues family table packet =
-    let rules = collected (hit family (fieldsOf family packet)) (entries table) in
+    let rules = collected (hit family noHead (fieldsOf family packet)) (entries table) in
     length rules ∷ valuesOf (mergedOnto noActions rules)
 
 -- Where the first match's record stands, 0 and 0 where there is none.
 abbrev pub firstMatchValues : Family → List ℕ → List ℕ → List ℕ
 firstMatchValues family table packet =
-    let found = firstPlace (hit family (fieldsOf family packet)) 0 (entries table) in
+    let found = firstPlace (hit family noHead (fieldsOf family packet)) 0 (entries table) in
     placeValues (found .start) (found .end)

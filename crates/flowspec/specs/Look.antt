@@ -2,7 +2,7 @@
 -- as a part of the lent table (empty if none, or if the lookup is refused)".
 use Prim.Native.Nat.{ℕ}
 use mathlib.Core.Bool.{cond}
-use mathlib.Core.List.{List}
+use mathlib.Core.List.{List, []}
 use Rattle.rule.specs.declared.Family.{Family}
 use Rattle.packet.specs.declared.Sight.{Sight}
 use Rattle.packet.specs.declared.Sight.the-variants.{Usable, Unusable}
@@ -34,7 +34,7 @@ noHead = []
 -- What a table says of a packet.
 abbrev pub lookedUp : Family → List ℕ → Seen → Looked
 lookedUp family t (NotSeen number) = Refused number 0
-lookedUp family t (Shows packet) = Judged (verdictFor family packet (entries t))
+lookedUp family t (Shows packet) = Judged (verdictFor family noHead packet (entries t))
 
 -- Looking a packet up.
 unfoldable pub lookingUp : Family → List ℕ → List ℕ → Looked
@@ -43,7 +43,7 @@ lookingUp family t octets = lookedUp family t (seen family t octets)
 -- Where the first match's record stands; nowhere is an empty part at octet 0.
 abbrev pub firstIn : Family → List ℕ → Seen → Place
 firstIn family t (NotSeen number) = record { start = 0; end = 0 }
-firstIn family t (Shows packet) = firstPlace (hit family packet) 0 (entries t)
+firstIn family t (Shows packet) = firstPlace (hit family noHead packet) 0 (entries t)
 
 -- The first match.
 unfoldable pub firstMatch : Family → List ℕ → List ℕ → Place

@@ -366,7 +366,7 @@ pub fn lookup(family: AddressFamily, table: &[u8], packet: &[u8]) -> Looked
     let family = family_of(family);
     match see(family, table, packet) {
         Seen::Refused(number) => Looked::Refused { number, place: 0 },
-        Seen::Shows(sight) => Looked::Judged(table::look_up(family, table, sight)),
+        Seen::Shows(sight) => Looked::Judged(lookup::look_up(family, b"", table, sight)),
     }
 }
 
@@ -382,7 +382,7 @@ pub fn first_match_place(family: AddressFamily, table: &[u8], packet: &[u8]) -> 
             end: 0,
         },
         Seen::Shows(sight) => {
-            let place = table::first_place(family, table, sight);
+            let place = lookup::first_place(family, b"", table, sight);
             MatchPlace {
                 number: 0,
                 start: place.start,

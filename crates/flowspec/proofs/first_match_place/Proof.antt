@@ -25,6 +25,6 @@ first-match-place-spec =
     see-requires
     (λ c. search needs)
     (λ c. search needs)
-    first-place-requires
+    (λ c. search needs) first-place-requires
     returns
     returns-2)

@@ -20,4 +20,4 @@ returns-2 c = search (look-judged, needs)
 pub lookup-spec : {M : Type 1} → statement M
 lookup-spec =
     tie.close
-    (tie.spec (λ c κs. search needs) see-requires (λ c. search needs) (λ c. search needs) look-up-requires returns returns-2)
+    (tie.spec (λ c κs. search needs) see-requires (λ c. search needs) (λ c. search needs) (λ c. search needs) look-up-requires returns returns-2)
