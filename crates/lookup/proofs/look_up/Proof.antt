@@ -6,7 +6,7 @@ use native.Mathlib.Omega.{arith}
 use lib.ListN.{length}
 use Rattle.table.specs.declared.NextRecord.the-variants.{Record}
 use Rattle.table.specs.Walk.{recordAt}
-use Rattle.table.proofs.WalkLaws.{was-found}
+use Rattle.table.proofs.WalkLaws.{Found, was-found}
 use Rattle.table.proofs.EntryLaws.{length-there}
 use Rattle.lookup.proofs.LookupLaws.{Looking, look-starts, look-end, look-unsound, look-missed, look-goes-on, look-stops}
 use Rattle.lookup.proofs.look_up.Statement.{statement}
@@ -18,8 +18,19 @@ Inv-loop family head table packet at₀ count₀ actions₀ at count actions = L
 abbrev μ-loop : tie.MeasureT-loop
 μ-loop family head table packet at₀ count₀ actions₀ at count actions = length table - at
 
-found-here : (c : tie.After-known-told Inv-loop μ-loop) → recordAt (c .before .before .before .before .before .before .before .before .args .table .now) (c .before .before .before .before .loop .at) ≡ Record (c .before .next .given .0 .0)
-found-here c = sym (c .before .before .before .record-at .ensures) ∙ c .before .next .given .1
+-- where a record was found: the turn of the loop, the function's start, and what is known
+module _ (c : tie.After-known-told Inv-loop μ-loop) where
+  abbrev turn : tie.At-loop Inv-loop μ-loop
+  turn = c .before .before .before .before
+
+  abbrev start : tie.Start Inv-loop μ-loop
+  start = turn .before .before .before .before
+
+  found-here : recordAt (start .args .table .now) (turn .loop .at) ≡ Record (c .before .next .given .0 .0)
+  found-here = sym (c .before .before .before .record-at .ensures) ∙ c .before .next .given .1
+
+  found : Found (start .args .table .now) (turn .loop .at) (c .before .next .given .0 .0)
+  found = was-found _ _ _ found-here
 
 no-actions-requires : tie.Need-no-actions-requires Inv-loop μ-loop
 no-actions-requires c κs = search needs
@@ -46,27 +57,27 @@ enum-known-next : tie.Need-enum-known-next Inv-loop μ-loop
 enum-known-next c = search needs
 
 sub-judge-record : tie.Need-sub-judge-record Inv-loop μ-loop
-sub-judge-record c = omega (arith, was-found _ (c .before .before .before .before .loop .at) _ (found-here c))
+sub-judge-record c = omega (arith, found c)
 
 part-judge-record-start : tie.Need-part-judge-record-start Inv-loop μ-loop
-part-judge-record-start c = omega (arith, was-found _ (c .before .before .before .before .loop .at) _ (found-here c))
+part-judge-record-start c = omega (arith, found c)
 
 part-judge-record-end : tie.Need-part-judge-record-end Inv-loop μ-loop
-part-judge-record-end c = omega (arith, was-found _ (c .before .before .before .before .loop .at) _ (found-here c))
+part-judge-record-end c = omega (arith, found c)
 
 judge-record-requires : tie.Need-judge-record-requires Inv-loop μ-loop
 judge-record-requires c κs = let k = c .before in
-    (k .before .before .before .before .before .before .before .before .pre, omega (arith, was-found _ (k .before .before .before .before .loop .at) _ (found-here k), length-there _ (k .before .before .before .before .loop .at) _ (found-here k)))
+    (start k .pre, omega (arith, found k, length-there _ (turn k .loop .at) _ (found-here k)))
 
 enum-told-3 : tie.Need-enum-told-3 Inv-loop μ-loop
 enum-told-3 c = search needs
 
 loop-less : tie.Need-loop-less Inv-loop μ-loop
-loop-less c = let k = c .before .before .before .before in omega (arith, was-found _ (k .before .before .before .before .loop .at) _ (found-here k))
+loop-less c = let k = c .before .before .before .before in omega (arith, found k)
 
 loop-again : tie.Need-loop-again Inv-loop μ-loop
 loop-again c = let k = c .before .before .before .before in
-    look-missed _ _ _ _ _ _ _ (k .before .before .before .before .loop .inv) _ (found-here k) _ (c .before .before .judge-record .ensures) (c .enum-told3 .given .1)
+    look-missed _ _ _ _ _ _ _ (turn k .loop .inv) _ (found-here k) _ (c .before .before .judge-record .ensures) (c .enum-told3 .given .1)
 
 enum-known-more : tie.Need-enum-known-more Inv-loop μ-loop
 enum-known-more c = search needs
@@ -75,14 +86,14 @@ merge-requires : tie.Need-merge-requires Inv-loop μ-loop
 merge-requires c κs = search needs
 
 add-count : tie.Need-add-count Inv-loop μ-loop
-add-count c = let k = c .before .before .before .before .before .before in omega (arith, k .before .before .before .before .loop .inv .few, k .before .before .before .before .loop .inv .within, was-found _ (k .before .before .before .before .loop .at) _ (found-here k))
+add-count c = let k = c .before .before .before .before .before .before in omega (arith, turn k .loop .inv .few, turn k .loop .inv .within, found k)
 
 loop-less-2 : tie.Need-loop-less-2 Inv-loop μ-loop
-loop-less-2 c = let k = c .before .before .before .before .before .before in omega (arith, was-found _ (k .before .before .before .before .loop .at) _ (found-here k))
+loop-less-2 c = let k = c .before .before .before .before .before .before in omega (arith, found k)
 
 loop-again-2 : tie.Need-loop-again-2 Inv-loop μ-loop
 loop-again-2 c = let k = c .before .before .before .before .before .before in
-    look-goes-on _ _ _ _ _ _ _ (k .before .before .before .before .loop .inv) _ (found-here k) _ (c .before .before .before .before .judge-record .ensures) _ _ (c .before .before .more .given .1) (c .merge .ensures)
+    look-goes-on _ _ _ _ _ _ _ (turn k .loop .inv) _ (found-here k) _ (c .before .before .before .before .judge-record .ensures) _ _ (c .before .before .more .given .1) (c .merge .ensures)
 
 enum-known-more-2 : tie.Need-enum-known-more-2 Inv-loop μ-loop
 enum-known-more-2 c = search needs
@@ -91,7 +102,7 @@ merge-requires-2 : tie.Need-merge-requires-2 Inv-loop μ-loop
 merge-requires-2 c κs = search needs
 
 add-verdict-of : tie.Need-add-verdict-of Inv-loop μ-loop
-add-verdict-of c = let k = c .before .before .before .before .before .before in omega (arith, k .before .before .before .before .loop .inv .few, k .before .before .before .before .loop .inv .within, was-found _ (k .before .before .before .before .loop .at) _ (found-here k))
+add-verdict-of c = let k = c .before .before .before .before .before .before in omega (arith, turn k .loop .inv .few, turn k .loop .inv .within, found k)
 
 verdict-of-requires-3 : tie.Need-verdict-of-requires-3 Inv-loop μ-loop
 verdict-of-requires-3 c κs = search needs
@@ -104,7 +115,7 @@ returns-2 c = search (look-unsound, needs)
 
 returns-3 : tie.Need-returns-3 Inv-loop μ-loop
 returns-3 c = let k = c .before .before .before .before .before .before .before in
-    look-stops _ _ _ _ _ _ _ (k .before .before .before .before .loop .inv) _ (found-here k) _ (c .before .before .before .before .before .judge-record .ensures) _ _ _ (c .before .before .before .more2 .given .1) (c .before .merge2 .ensures) (c .verdict-of3 .ensures)
+    look-stops _ _ _ _ _ _ _ (turn k .loop .inv) _ (found-here k) _ (c .before .before .before .before .before .judge-record .ensures) _ _ _ (c .before .before .before .more2 .given .1) (c .before .merge2 .ensures) (c .verdict-of3 .ensures)
 
 pub look-up-spec : {M : Type 1} → statement M
 look-up-spec =
