@@ -1,13 +1,12 @@
 // Which of two rules of a family comes first (RFC 8955 section 5.1). Values are compared in their plain spelling.
 ghost use mathlib.Core.Path.{_≡_};
-ghost use Prim.Native.Nat.{_≤_};
-ghost use lib.ListN.{length};
 ghost use Rattle.octets.specs.Order.{ordered};
 ghost use Rattle.rule.specs.Family.{Fits};
-ghost use Rattle.rule.specs.Value.{mostValue, components, component};
+ghost use Rattle.rule.specs.Value.{components, component, checkValue};
 ghost use Rattle.order.specs.Precedence.{bodyOrder, componentOrder, componentsOrder, headsOrder, plainOrder, precedence};
 ghost use Rattle.order.specs.Turn.{runsOut, turnFor, Turned};
 use octets::Order;
+use rule::Checked;
 use rule::Family;
 use rule::Next;
 
@@ -153,9 +152,9 @@ pub fn compare_plain(family: Family, first: &[u8], second: &[u8]) -> Order
     }
 }
 
-// Two values: their plain spellings are built in working arrays and compared there.
+// Two accepted values: their plain spellings are built in working arrays and compared there.
 pub fn compare_values(family: Family, first: &[u8], second: &[u8]) -> Order
-    requires { ⌜ Fits family × ((length (now first) ≤ mostValue) × (length (now second) ≤ mostValue)) ⌝ }
+    requires { ⌜ Fits family × ((checkValue family (now first) ≡ Checked.Accepted) × (checkValue family (now second) ≡ Checked.Accepted)) ⌝ }
     ensures { λ r. ⌜ r ≡ ordered (precedence family (now (first .entry)) (now (second .entry))) ⌝ }
 {
     let size = first.len();

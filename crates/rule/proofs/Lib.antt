@@ -10,6 +10,7 @@ pub mod ComponentsLaws
 pub mod PlainLaws
 pub mod ClearedLaws
 pub mod SpellingLaws
+pub mod PassingLaws
 pub mod PlainWalkLaws
 pub mod FillLaws
 pub mod ReadingLaws

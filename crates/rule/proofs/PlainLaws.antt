@@ -1,6 +1,6 @@
--- The plain spelling, octet by octet. What clearing keeps of an octet is computed at all 256. Assumes nothing.
+-- The plain spelling, octet by octet. Assumes nothing.
 use mathlib.Core.Path.{_≡_, refl, sym, ap, _∙_}
-use mathlib.Core.Bool.{Bool, true, false}
+use mathlib.Core.Bool.{true, false}
 use mathlib.Core.List.{List, [], _∷_}
 use Prim.Native.Nat.{ℕ, suc, _+_, _-_, _*_, _/_, _%_, _^_, _<_, _≤_}
 use native.Mathlib.Omega.{arith}
@@ -10,12 +10,9 @@ use lib.ListN.{length, getD}
 use lib.Pow.{pow-add, split}
 use borrow.Author.Tests.{eq-eqb, ne-eqb, le-leb, lt-leb}
 use Rattle.rule.specs.declared.Family.{Family}
-use Rattle.rule.specs.declared.Shape.{Shape}
 use Rattle.rule.specs.declared.Expected.{Expected}
-use Rattle.rule.specs.declared.Expected.the-variants.{Head, Kind, Length, Offset, Address, Operator, Operand}
-use Rattle.rule.specs.Shape.{shapeOf}
-use Rattle.rule.specs.Operator.{endsList, sizeOf}
-use Rattle.rule.specs.Plain.{expectedAtStart, bodyOf, patternAfter, operandAfter, after, plainOperator, plainOperand, plainAddress, clearedOctet, plainFrom, plain}
+use Rattle.rule.specs.declared.Expected.the-variants.{Head, Kind, Length, Offset, Address}
+use Rattle.rule.specs.Plain.{expectedAtStart, patternAfter, after, plainOperand, plainAddress, clearedOctet, plainFrom, plain}
 
 -- what the shifts of `plain_address` leave
 pub shifted : (x k : ℕ) → x < 256 → x / 2 ^ k * 2 ^ k % 2 ^ 32 ≡ x / 2 ^ k * 2 ^ k
@@ -81,20 +78,8 @@ module _ (family : Family) where
   unfolding expectedAtStart
   starts-with-head h = rw (ne-eqb (family .head) 0 h)
 
--- how `expected_after` comes to each of its answers
+-- what is expected behind a prefix's length octet and behind its offset
 module _ (family : Family) (e : Expected) (x : ℕ) where
-  pub after-head-last : (left : ℕ) → e ≡ Head left → left ≤ 1 → Kind ≡ after family e x
-  unfolding after
-  after-head-last left h k = rw (h, le-leb left 1 k)
-
-  pub after-head : (left : ℕ) → e ≡ Head left → 1 < left → Head (left - 1) ≡ after family e x
-  unfolding after
-  after-head left h k = rw (h, lt-leb left 1 k)
-
-  pub after-kind : (r : Expected) → e ≡ Kind → r ≡ bodyOf family x → r ≡ after family e x
-  unfolding after
-  after-kind r h k = rw h k
-
   pub after-length-offset : e ≡ Length → family .offsets ≡ true → Offset x ≡ after family e x
   unfolding after
   after-length-offset h t = rw (h, t)
@@ -106,50 +91,3 @@ module _ (family : Family) (e : Expected) (x : ℕ) where
   pub after-offset : (length : ℕ) (r : Expected) → e ≡ Offset length → r ≡ patternAfter length x → r ≡ after family e x
   unfolding after
   after-offset length r h k = rw h k
-
-  pub after-address-last : (left : ℕ) → e ≡ Address left → left ≤ 8 → Kind ≡ after family e x
-  unfolding after
-  after-address-last left h k = rw (h, le-leb left 8 k)
-
-  pub after-address : (left : ℕ) → e ≡ Address left → 8 < left → Address (left - 8) ≡ after family e x
-  unfolding after
-  after-address left h k = rw (h, lt-leb left 8 k)
-
-  pub after-operator : (kind size : ℕ) (first ends : Bool) → e ≡ Operator kind first → size ≡ sizeOf x → ends ≡ endsList x
-      → Operand kind size ends ≡ after family e x
-  unfolding after
-  after-operator kind size first ends h s t = rw (h, s, t)
-
-  pub after-operand : (kind left : ℕ) (last : Bool) (r : Expected) → e ≡ Operand kind left last → r ≡ operandAfter kind left last → r ≡ after family e x
-  unfolding after
-  after-operand kind left last r h k = rw h k
-
-  -- how `cleared_octet` comes to each of its answers
-  pub cleared-head : (left : ℕ) → e ≡ Head left → x ≡ clearedOctet family e x
-  unfolding clearedOctet
-  cleared-head left h = rw h
-
-  pub cleared-kind : e ≡ Kind → x ≡ clearedOctet family e x
-  unfolding clearedOctet
-  cleared-kind h = rw h
-
-  pub cleared-length : e ≡ Length → x ≡ clearedOctet family e x
-  unfolding clearedOctet
-  cleared-length h = rw h
-
-  pub cleared-offset : (length : ℕ) → e ≡ Offset length → x ≡ clearedOctet family e x
-  unfolding clearedOctet
-  cleared-offset length h = rw h
-
-  pub cleared-address : (left r : ℕ) → e ≡ Address left → r ≡ plainAddress left x → r ≡ clearedOctet family e x
-  unfolding clearedOctet
-  cleared-address left r h k = rw h k
-
-  module _ (shape : Shape) (kind : ℕ) (is : shape ≡ shapeOf family kind) where
-    pub cleared-operator : (r : ℕ) (first : Bool) → e ≡ Operator kind first → r ≡ plainOperator (shape .bitmask) first x → r ≡ clearedOctet family e x
-    unfolding clearedOctet
-    cleared-operator r first h k = rw (h, ← is) k
-
-    pub cleared-operand : (left r : ℕ) (last : Bool) → e ≡ Operand kind left last → r ≡ plainOperand (shape .ignored) x → r ≡ clearedOctet family e x
-    unfolding clearedOctet
-    cleared-operand left r last h k = rw (h, ← is) k

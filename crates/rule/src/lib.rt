@@ -1,8 +1,7 @@
 // One rule (RFC 8955 section 4): its components, its plain spelling, reading one and writing one. `component_at` is the one cursor
 // of reading: it and the functions that it calls make every bounds check of that walk. `Reader`, a value with a place in it, is thin above
-// the cursor: it tells what stands at its place, hands on the body that lies there, and is moved behind it. Whoever walks a value asks
-// `next_component` and `component_body`, which take plain parameters. The plain spelling has a walk of its own, octet by octet; only what
-// fills or writes a buffer asks for its size.
+// the cursor, and whoever walks a value asks `next_component`, which takes plain parameters, as does what makes a
+// value's spelling plain, body by body; only what fills or writes a buffer asks for its size.
 ghost use mathlib.Core.Path.{_≡_};
 ghost use mathlib.Core.List.{_++_};
 ghost use Prim.Native.Nat.{_<_, _≤_};
@@ -13,7 +12,7 @@ ghost use Rattle.rule.specs.Operator.{endsList, sizeOf};
 ghost use Rattle.rule.specs.Component.{pairAt, pairsFrom, leadOf, offsetAt, prefixEnd, bodyEnd, componentAt};
 ghost use Rattle.rule.specs.Reader.{readerAt, nextOf, behindOf, HandsOn};
 ghost use Rattle.rule.specs.Value.{mostValue, checkValue};
-ghost use Rattle.rule.specs.Plain.{expectedAtStart, bodyOf, patternAfter, after, operandAfter, withoutReserved, plainOperator, plainOperand, plainAddress, clearedOctet, plain};
+ghost use Rattle.rule.specs.Plain.{bodyOf, withoutReserved, plainOperator, plainOperand, plainAddress, plainFrom, plain};
 ghost use Rattle.rule.specs.Reading.{fieldSize, fieldLength, firstRule, oneRule};
 ghost use Rattle.rule.specs.Writing.{lengthField, intoRoom, filled, writing, afterWriting};
 ghost use Rattle.octets.specs.Store.{stored};
@@ -450,88 +449,6 @@ pub fn check_value(family: Family, value: &[u8]) -> Checked
 
 // ---- Plain spelling ----
 
-// What is expected where a value begins.
-pub fn expected_at_start(family: Family) -> Expected
-    ensures { λ r. ⌜ r ≡ expectedAtStart family ⌝ }
-{
-    if family.head == 0 {
-        return Expected::Kind;
-    }
-    Expected::Head(family.head)
-}
-
-// What is expected behind a type octet.
-pub fn body_of(family: Family, kind: u8) -> Expected
-    ensures { λ r. ⌜ r ≡ bodyOf family kind ⌝ }
-{
-    let shape = shape_of(family, kind);
-    if shape.prefix {
-        return Expected::Length;
-    }
-    Expected::Operator { kind, first: true }
-}
-
-// What is expected behind the octet x, which is as expected.
-pub fn expected_after(family: Family, expected: Expected, x: u8) -> Expected
-    ensures { λ r. ⌜ r ≡ after family expected x ⌝ }
-{
-    match expected {
-        Expected::Head(left) => {
-            if left <= 1 {
-                return Expected::Kind;
-            }
-            Expected::Head(left - 1)
-        }
-        Expected::Kind => body_of(family, x),
-        Expected::Length => {
-            if family.offsets {
-                return Expected::Offset(x);
-            }
-            pattern_after(x, 0)
-        }
-        Expected::Offset(length) => pattern_after(length, x),
-        Expected::Address(left) => {
-            if left <= 8 {
-                return Expected::Kind;
-            }
-            Expected::Address(left - 8)
-        }
-        Expected::Operator { kind, first: _ } => {
-            let left = size_of(x);
-            let last = ends_list(x);
-            Expected::Operand { kind, left, last }
-        }
-        Expected::Operand { kind, left, last } => operand_after(kind, left, last),
-    }
-}
-
-// What is expected behind a prefix's length and offset.
-pub fn pattern_after(length: u8, offset: u8) -> Expected
-    ensures { λ r. ⌜ r ≡ patternAfter length offset ⌝ }
-{
-    if length <= offset {
-        return Expected::Kind;
-    }
-    Expected::Address(length - offset)
-}
-
-// What is expected behind an octet of a value.
-pub fn operand_after(kind: u8, left: usize, last: bool) -> Expected
-    ensures { λ r. ⌜ r ≡ operandAfter kind left last ⌝ }
-{
-    if 1 < left {
-        return Expected::Operand {
-            kind,
-            left: left - 1,
-            last,
-        };
-    }
-    if last {
-        return Expected::Kind;
-    }
-    Expected::Operator { kind, first: false }
-}
-
 // An operator with its reserved bits cleared.
 pub fn without_reserved(bitmask: bool, x: u8) -> u8
     ensures { λ r. ⌜ r ≡ withoutReserved bitmask x ⌝ }
@@ -573,40 +490,71 @@ pub fn plain_address(left: u8, x: u8) -> u8
     (kept << ignored) as u8
 }
 
-// The octet x with the bits that are to be ignored cleared.
-pub fn cleared_octet(family: Family, expected: Expected, x: u8) -> u8
-    ensures { λ r. ⌜ r ≡ clearedOctet family expected x ⌝ }
+// Clears the bits past the length of a prefix's body, which only its last octet can have.
+fn clear_prefix(family: Family, body: &mut [u8])
+    requires { ⌜ prefixEnd family (now body) 0 ≡ BodyEnd.At (length (now body)) ⌝ }
+    ensures { λ _. ⌜ now (body .exit) ≡ plainFrom family Expected.Length (now (body .entry)) ⌝ }
 {
-    match expected {
-        Expected::Head(_) => x,
-        Expected::Kind => x,
-        Expected::Length => x,
-        Expected::Offset(_) => x,
-        Expected::Address(left) => plain_address(left, x),
-        Expected::Operator { kind, first } => {
-            plain_operator(shape_of(family, kind).bitmask, first, x)
-        }
-        Expected::Operand {
-            kind,
-            left: _,
-            last: _,
-        } => plain_operand(shape_of(family, kind).ignored, x as u64) as u8,
+    let bits = body[0] - offset_at(family, body, 1);
+    let kept = bits % 8;
+    if kept == 0 {
+        return;
+    }
+    let place = body.len() - 1;
+    let last = body[place];
+    body[place] = plain_address(kept, last);
+}
+
+// Clears the bits of a body of a type that are to be ignored: in a list those of each operator and of the first octet of its value, since
+// a value that loses bits has no other.
+fn clear_body(family: Family, kind: u8, body: &mut [u8])
+    requires { ⌜ bodyEnd family kind (now body) 0 ≡ BodyEnd.At (length (now body)) ⌝ }
+    ensures { λ _. ⌜ now (body .exit) ≡ plainFrom family (bodyOf family kind) (now (body .entry)) ⌝ }
+{
+    let shape = shape_of(family, kind);
+    if shape.prefix {
+        clear_prefix(family, body);
+        return;
+    }
+    let mut first = true;
+    let mut at = 0;
+    while at < body.len() {
+        let operator = body[at];
+        let start = at + 1;
+        let octet = body[start];
+        body[at] = plain_operator(shape.bitmask, first, operator);
+        body[start] = plain_operand(shape.ignored, octet as u64) as u8;
+        first = false;
+        at = start + size_of(operator);
     }
 }
 
-// Fills the front of a working array with the plain spelling of a value.
+// Fills the front of a working array with the plain spelling of an accepted value: stores the value there and clears its bodies.
 pub fn fill_plain(family: Family, value: &[u8], work: &mut [u8])
-    requires { ⌜ length (now value) ≤ length (now work) ⌝ }
+    requires { ⌜ (checkValue family (now value) ≡ Checked.Accepted) × (length (now value) ≤ length (now work)) ⌝ }
     ensures { λ _. ⌜ now (work .exit) ≡ plain family (now (value .entry)) ++ drop (length (now (value .entry))) (now (work .entry)) ⌝ }
 {
-    let mut expected = expected_at_start(family);
-    let mut i = 0;
-    while i < value.len() {
-        let x = value[i];
-        let octet = cleared_octet(family, expected, x);
-        work[i] = octet;
-        expected = expected_after(family, expected, x);
-        i += 1;
+    store(work, 0, value);
+    let mut at = family.head;
+    let mut previous = 0;
+    loop {
+        match next_component(family, value, at, previous) {
+            Next::Another { kind, next } => {
+                let start = at + 1;
+                clear_body(family, kind, &mut work[start..next]);
+                at = next;
+                previous = kind;
+            }
+            Next::Nothing => {
+                return;
+            }
+            Next::Refused {
+                number: _,
+                place: _,
+            } => {
+                return;
+            }
+        }
     }
 }
 
@@ -701,7 +649,7 @@ pub fn write_length(size: usize, buffer: &mut [u8])
 
 // Writes an accepted value as a rule in its plain spelling where there is room.
 pub fn write_accepted(family: Family, value: &[u8], buffer: &mut [u8]) -> Writing
-    requires { ⌜ length (now value) ≤ mostValue ⌝ }
+    requires { ⌜ checkValue family (now value) ≡ Checked.Accepted ⌝ }
     ensures { λ r. ⌜ (r ≡ intoRoom family (now (value .entry)) (length (now (buffer .entry))) Checked.Accepted) × (now (buffer .exit) ≡ filled family (now (value .entry)) (now (buffer .entry)) r) ⌝ }
 {
     let size = value.len();

@@ -1,9 +1,23 @@
 -- Each working array begins with the plain spelling of its value.
+use native.Mathlib.Omega.{arith}
+use Rattle.rule.proofs.ValueLaws.{accepted-small}
 use Rattle.rule.proofs.WritingLaws.{front-plain, front-length}
 use Rattle.order.proofs.TurnLaws.{spelled-order}
 use borrow.Author.Needs.{needs}
 use Rattle.order.proofs.compare_values.Statement.{statement}
 use Rattle.order.proofs.compare_values.Tie as tie
+
+fill-plain-requires : tie.Need-fill-plain-requires
+fill-plain-requires c κs = let ok = c .before .before .before .pre .1 .0 in (ok, omega (arith, accepted-small _ _ ok))
+
+fill-plain-requires-2 : tie.Need-fill-plain-requires-2
+fill-plain-requires-2 c κs = let ok = c .before .before .before .before .before .before .pre .1 .1 in (ok, omega (arith, accepted-small _ _ ok))
+
+array-share-prefix-work : tie.Need-array-share-prefix-work
+array-share-prefix-work c = omega (arith, accepted-small _ _ (c .before .before .before .before .before .before .before .before .pre .1 .0))
+
+array-share-prefix-space : tie.Need-array-share-prefix-space
+array-share-prefix-space c = omega (arith, accepted-small _ _ (c .before .before .before .before .before .before .before .before .before .pre .1 .1))
 
 slice-aggregate-compare-plain : tie.Need-slice-aggregate-compare-plain
 slice-aggregate-compare-plain c = front-length _ _ _ _ (c .before .before .before .before .before .fill-plain .ensures)
@@ -22,12 +36,12 @@ compare-values-spec =
     tie.close
     (tie.spec
     (λ c. search needs)
-    (λ c κs. search needs)
+    fill-plain-requires
     (λ c. search needs)
-    (λ c κs. search needs)
-    (λ c. search needs)
+    fill-plain-requires-2
+    array-share-prefix-work
     slice-aggregate-compare-plain
-    (λ c. search needs)
+    array-share-prefix-space
     slice-aggregate-compare-plain-2
     (λ c κs. search needs)
     returns)

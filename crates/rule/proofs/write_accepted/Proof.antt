@@ -1,4 +1,5 @@
 -- The plain spelling stands at the front of the working array; it is stored behind the length field where both fit.
+use Rattle.rule.proofs.ValueLaws.{accepted-small}
 use Rattle.rule.proofs.WritingLaws.{front-length, no-room, room-left, write-in-a-row}
 use mathlib.Core.Path.{refl}
 use native.Mathlib.Omega.{arith}
@@ -6,8 +7,20 @@ use borrow.Author.Needs.{needs}
 use Rattle.rule.proofs.write_accepted.Statement.{statement}
 use Rattle.rule.proofs.write_accepted.Tie as tie
 
+add-total : tie.Need-add-total
+add-total c = omega (arith, accepted-small _ _ (c .before .before .before .pre))
+
 returns : tie.Need-returns
 returns c = (no-room _ (c .before .before .before .before .args .value .now) (c .before .before .before .before .args .buffer .now) _ (c .before .field-size-for .ensures .0) (c .if1 .taken), refl)
+
+fill-plain-requires : tie.Need-fill-plain-requires
+fill-plain-requires c κs = let ok = c .before .before .before .before .before .pre in (ok, omega (arith, accepted-small _ _ ok))
+
+write-length-requires : tie.Need-write-length-requires
+write-length-requires c κs = search (accepted-small, needs)
+
+array-share-prefix-work : tie.Need-array-share-prefix-work
+array-share-prefix-work c = omega (arith, accepted-small _ _ (c .before .before .before .before .before .before .before .before .before .before .before .before .pre))
 
 slice-aggregate-store : tie.Need-slice-aggregate-store
 slice-aggregate-store c = front-length _ _ _ _ (c .before .before .before .before .before .before .before .fill-plain .ensures)
@@ -33,12 +46,12 @@ write-accepted-spec =
     tie.close
     (tie.spec
     (λ c κs. search needs)
-    (λ c. search needs)
+    add-total
     returns
     (λ c. search needs)
-    (λ c κs. search needs)
-    (λ c κs. search needs)
-    (λ c. search needs)
+    fill-plain-requires
+    write-length-requires
+    array-share-prefix-work
     slice-aggregate-store
     store-requires
     (λ c. search needs)

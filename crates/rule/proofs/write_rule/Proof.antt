@@ -1,13 +1,12 @@
 -- A value that is refused is not written, and one that is accepted is.
 use mathlib.Core.Path.{sym, _∙_}
-use Rattle.rule.proofs.ValueLaws.{accepted-small}
 use Rattle.rule.proofs.WritingLaws.{write-accepted, write-refused}
 use borrow.Author.Needs.{needs}
 use Rattle.rule.proofs.write_rule.Statement.{statement}
 use Rattle.rule.proofs.write_rule.Tie as tie
 
 write-accepted-requires : tie.Need-write-accepted-requires
-write-accepted-requires c κs = accepted-small _ _ (sym (c .before .before .before .check-value .ensures) ∙ c .before .enum-told .given .1)
+write-accepted-requires c κs = sym (c .before .before .before .check-value .ensures) ∙ c .before .enum-told .given .1
 
 returns : tie.Need-returns
 returns c = let says = c .before .before .write-accepted .ensures in

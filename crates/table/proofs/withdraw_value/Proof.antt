@@ -8,7 +8,7 @@ use Rattle.table.proofs.withdraw_value.Statement.{statement}
 use Rattle.table.proofs.withdraw_value.Tie as tie
 
 fill-plain-requires : tie.Need-fill-plain-requires
-fill-plain-requires c κs = omega (arith, accepted-small _ _ (c .before .before .before .pre .1))
+fill-plain-requires c κs = let ok = c .before .before .before .pre .1 in (ok, omega (arith, accepted-small _ _ ok))
 
 array-share-prefix-work : tie.Need-array-share-prefix-work
 array-share-prefix-work c = omega (arith, accepted-small _ _ (c .before .before .before .before .before .before .pre .1))
