@@ -28,15 +28,13 @@ announce-value-requires c κs = let k = c .before .before in
     announce-requires _ _ (k .before .before .before .before .before .before .before .before .before .family-of .ensures) _ _ _ _ (k .before .before .before .before .before .before .before .sound-table .ensures) _ (k .before .before .before .before .before .used .given .1) _ (k .before .before .before .ask .ensures) _ _ _ _ (k .before .start .given .1) (search (chosen-fits, needs))
 
 returns : tie.Need-returns
-returns c = announce-unsound _ _ (c .before .before .before .before .family-of .ensures) _ _ _ _ (c .before .before .sound-table .ensures) (c .enum-told .given .1)
+returns c = search (announce-unsound, needs)
 
 returns-2 : tie.Need-returns-2
-returns-2 c = announce-refused _ _ (c .before .before .before .before .before .before .before .before .before .family-of .ensures) _ _ _ _ (c .before .before .before .before .before .before .before .sound-table .ensures) _ (c .before .before .before .before .before .used .given .1) _ (c .before .before .before .ask .ensures) _ _ (c .before .number .given .1)
+returns-2 c = search (announce-refused, needs)
 
 returns-3 : tie.Need-returns-3
-returns-3 c = let k = c .before .before .before .before .before .before in
-    announce-done _ _ (k .before .before .before .before .before .before .before .before .before .family-of .ensures) _ _ _ _ (k .before .before .before .before .before .before .before .sound-table .ensures) _ (k .before .before .before .before .before .used .given .1) _ (k .before .before .before .ask .ensures) _ _ _ _ (k .before .start .given .1) _ _ _
-    (c .before .before .before .announce-value .ensures) (c .change-of .ensures)
+returns-3 c = search (announce-done, needs)
 
 pub announce-spec : {M : Type 1} → statement M
 announce-spec =

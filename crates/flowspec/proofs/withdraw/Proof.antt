@@ -8,8 +8,7 @@ use Rattle.flowspec.proofs.withdraw.Statement.{statement}
 use Rattle.flowspec.proofs.withdraw.Tie as tie
 
 rule-read : (c : tie.After-known-told3) → ReadRule (c .before .before .before .before .before .before .before .before .before .family-of .result) (c .before .before .before .before .before .before .before .before .before .before .before .before .args .rule .now) (c .before .start .given .0 .0) (c .before .start .given .0 .1 .0)
-rule-read c =
-    withdraw-rule _ _ (c .before .before .before .before .before .before .before .before .before .family-of .ensures) _ _ _ (c .before .before .before .before .before .before .before .sound-table .ensures) _ (c .before .before .before .before .before .used .given .1) _ (c .before .before .before .one-rule .ensures) _ _ (c .before .start .given .1)
+rule-read c = search (withdraw-rule, needs)
 
 sound-table-requires : tie.Need-sound-table-requires
 sound-table-requires c κs = search (chosen-fits, needs)
@@ -25,15 +24,13 @@ withdraw-value-requires c κs = let k = c .before .before in
     withdraw-requires _ _ (k .before .before .before .before .before .before .before .before .before .family-of .ensures) _ _ _ (k .before .before .before .before .before .before .before .sound-table .ensures) _ (k .before .before .before .before .before .used .given .1) _ (k .before .before .before .one-rule .ensures) _ _ (k .before .start .given .1) (search (chosen-fits, needs))
 
 returns : tie.Need-returns
-returns c = withdraw-unsound _ _ (c .before .before .before .before .family-of .ensures) _ _ _ (c .before .before .sound-table .ensures) (c .enum-told .given .1)
+returns c = search (withdraw-unsound, needs)
 
 returns-2 : tie.Need-returns-2
-returns-2 c = withdraw-refused _ _ (c .before .before .before .before .before .before .before .before .before .family-of .ensures) _ _ _ (c .before .before .before .before .before .before .before .sound-table .ensures) _ (c .before .before .before .before .before .used .given .1) _ (c .before .before .before .one-rule .ensures) _ _ (c .before .number .given .1)
+returns-2 c = search (withdraw-refused, needs)
 
 returns-3 : tie.Need-returns-3
-returns-3 c = let k = c .before .before .before .before .before .before in
-    withdraw-done _ _ (k .before .before .before .before .before .before .before .before .before .family-of .ensures) _ _ _ (k .before .before .before .before .before .before .before .sound-table .ensures) _ (k .before .before .before .before .before .used .given .1) _ (k .before .before .before .one-rule .ensures) _ _ (k .before .start .given .1)
-    _ _ _ (c .before .before .before .withdraw-value .ensures) (c .change-of .ensures)
+returns-3 c = search (withdraw-done, needs)
 
 pub withdraw-spec : {M : Type 1} → statement M
 withdraw-spec =
