@@ -5,13 +5,12 @@ use mathlib.Core.Path.{_≡_, refl, sym, ap, ap₂, _∙_}
 use mathlib.Core.Bool.{true, false}
 use mathlib.Core.List.{List}
 use Prim.Native.Nat.{ℕ, _^_, _<_, Ordering·eq}
-use lib.ListN.{length}
 use Rattle.octets.proofs.Cases.{by-test, apart}
 use Rattle.octets.proofs.Facts.{Octets}
-use Rattle.sorted.specs.Table.{lookup, insert}
+use Rattle.sorted.specs.Table.{lookup}
 use Rattle.sorted.specs.History.{isHeld}
 use Rattle.sorted.proofs.HistoryLaws.{not-held}
-use Rattle.sorted.proofs.TableLaws.{insert-again, remove-insert, remove-absent, lookup-insert, insert-swap}
+use Rattle.sorted.proofs.TableLaws.{remove-absent}
 use Rattle.rule.specs.declared.Family.{Family}
 use Rattle.rule.specs.declared.Reading.the-variants.{Rule}
 use Rattle.rule.specs.Family.{Fits}
@@ -23,10 +22,10 @@ use Rattle.order.proofs.KeyLaws.{key-order, keys-plain, one-order}
 use Rattle.action.specs.declared.Actions.{Actions}
 use Rattle.entry.specs.Entry.{Entry, entryKey, possible}
 use Rattle.table.specs.Walk.{entries}
-use Rattle.table.specs.Sound.{tableOf, soundTable, Encodes}
+use Rattle.table.specs.Sound.{soundTable, Encodes}
 use Rattle.table.specs.Change.{holds, removed, hasRoom, inserted, withdrawn}
-use Rattle.table.proofs.LeaveLaws.{inserted-encodes, inserted-long}
-use Rattle.table.proofs.SoundLaws.{sound-encodes, encodes-sound, encodes-entries}
+use Rattle.table.proofs.SoundLaws.{sound-encodes}
+use Rattle.table.proofs.AgainLaws.{sound-with, room-again, inserted-again, holds-with, removed-again, inserted-either}
 use Rattle.flowspec.specs.declared.Change.{Change}
 use Rattle.flowspec.specs.declared.Change.the-variants.{Done, Refused}
 use Rattle.flowspec.specs.declared.Comparison.the-variants.{Same}
@@ -38,46 +37,6 @@ use Rattle.flowspec.specs.Compare.{compareRules}
 use Rattle.flowspec.specs.Promise.{Announces, Withdraws}
 use Rattle.flowspec.proofs.AskLaws.{octets-value, asked-from}
 use Rattle.history.proofs.HistoryLaws.{asked-could}
-
-module _ (family : Family) (t : List ℕ) (c : Encodes family t (entries t)) where
-  -- the table with an entry encodes its entries with that one, in a buffer of the same length
-  with-entry : (e : Entry) → possible family e ≡ true → hasRoom family t e ≡ true
-      → Encodes family (inserted family t e) (insert keyOrder (entryKey family) e (entries t)) × (length (inserted family t e) ≡ length t)
-  with-entry e ok room = (inserted-encodes family t (entries t) c e ok room, inserted-long family t (entries t) c e ok room)
-
-  module _ (e : Entry) (ok : possible family e ≡ true) (room : hasRoom family t e ≡ true) where
-    entries-with : entries (inserted family t e) ≡ insert keyOrder (entryKey family) e (entries t)
-    entries-with = encodes-entries family (inserted family t e) (insert keyOrder (entryKey family) e (entries t)) (with-entry e ok room .0)
-
-    sound-with : soundTable family (inserted family t e) ≡ true
-    sound-with = encodes-sound family (inserted family t e) (insert keyOrder (entryKey family) e (entries t)) (with-entry e ok room .0)
-
-    -- putting an entry in again finds room and changes nothing
-    room-again : hasRoom family (inserted family t e) e ≡ true
-    unfolding hasRoom
-    room-again =
-        rw (entries-with, with-entry e ok room .1, insert-again keyOrder (entryKey family) key-order e e (entries t) refl) room
-
-    inserted-again : inserted family (inserted family t e) e ≡ inserted family t e
-    unfolding inserted
-    inserted-again = rw (entries-with, with-entry e ok room .1, insert-again keyOrder (entryKey family) key-order e e (entries t) refl)
-
-    -- what was put in is held, and taken out again leaves the table without its rule
-    holds-with : holds family (inserted family t e) (entryKey family e) ≡ true
-    unfolding holds
-    holds-with = rw (entries-with, lookup-insert keyOrder (entryKey family) key-order (entryKey family e) e (entries t), key-order .same (entryKey family e))
-
-    removed-again : removed family (inserted family t e) (entryKey family e) ≡ removed family t (entryKey family e)
-    unfolding removed
-    removed-again = rw (entries-with, with-entry e ok room .1, remove-insert keyOrder (entryKey family) key-order e (entries t))
-
-    -- two entries of different rules may be put in in either order
-    inserted-either : (x : Entry) → possible family x ≡ true → hasRoom family t x ≡ true → (entryKey family e ≡ entryKey family x → ⊥)
-        → entries (inserted family t x) ≡ insert keyOrder (entryKey family) x (entries t) → length (inserted family t x) ≡ length t
-        → inserted family (inserted family t e) x ≡ inserted family (inserted family t x) e
-    unfolding inserted
-    inserted-either x fine space differ has long =
-        rw (entries-with, with-entry e ok room .1, has, long) (ap (tableOf (length t)) (sym (insert-swap keyOrder (entryKey family) key-order e x (entries t) (c .rising) differ)))
 
 module _ (family : Family) (policy : Policy) (a : Announcement) where
   -- what a done announcement asked, what it found, and what it left
@@ -204,7 +163,7 @@ module _ (family : Family) (fits : Fits family) (policy : Policy) (a b : Announc
       let apart-keys : entryKey family e ≡ entryKey family f → ⊥ = λ same.
       differ (same-rule family fits (a .rule) (b .rule) (x .start) (x .size) (y .start) (y .size) o p (read family policy a o small t octets first k one)
       (read family policy b p little t octets second m three) same) in
-      let either = inserted-either family t whole e can (x .room) f also (y .room) apart-keys (entries-with family t whole f also (y .room)) (with-entry family t whole f also (y .room) .1) in
+      let either = inserted-either family t whole e can (x .room) f also (y .room) apart-keys in
       z .is ∙ ap₂ (inserted family) (x .is) (one-entry family policy b first both t second z y)
       ∙ either
       ∙ sym (w .is ∙ ap₂ (inserted family) (y .is) (one-entry family policy a second all t first w x))

@@ -8,3 +8,4 @@ pub mod SoundLaws
 pub mod ChangeLaws
 pub mod CallLaws
 pub mod LeaveLaws
+pub mod AgainLaws
