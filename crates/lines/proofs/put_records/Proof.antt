@@ -6,7 +6,7 @@ use native.Mathlib.Omega.{arith}
 use lib.ListN.{length}
 use Rattle.table.specs.declared.NextRecord.the-variants.{Record}
 use Rattle.table.specs.Walk.{recordAt}
-use Rattle.table.proofs.WalkLaws.{was-found}
+use Rattle.table.proofs.WalkLaws.{Found, was-found}
 use Rattle.table.proofs.EntryLaws.{length-there}
 use Rattle.lines.proofs.ListLaws.{left-none, Printing, print-starts, print-done, print-more}
 use Rattle.lines.proofs.put_records.Statement.{statement}
@@ -18,8 +18,19 @@ Inv-loop table out₀ at place₀ end₀ out place end = Printing table out₀ a
 abbrev μ-loop : tie.MeasureT-loop
 μ-loop table out₀ at place₀ end₀ out place end = length table - place
 
-found-here : (c : tie.After-put-record-arg Inv-loop μ-loop) → recordAt (c .before .before .before .before .before .before .before .before .args .table .now) (c .before .before .before .before .before .loop .place) ≡ Record (c .before .before .next .given .0 .0)
-found-here c = sym (c .before .before .before .before .record-at .ensures) ∙ c .before .before .next .given .1
+-- where a record was found: the turn of the loop, the function's start, and what is known
+module _ (c : tie.After-put-record-arg Inv-loop μ-loop) where
+  abbrev turn : tie.At-loop Inv-loop μ-loop
+  turn = c .before .before .before .before .before
+
+  abbrev start : tie.Start Inv-loop μ-loop
+  start = turn .before .before .before
+
+  found-here : recordAt (start .args .table .now) (turn .loop .place) ≡ Record (c .before .before .next .given .0 .0)
+  found-here = sym (c .before .before .before .before .record-at .ensures) ∙ c .before .before .next .given .1
+
+  found : Found (start .args .table .now) (turn .loop .place) (c .before .before .next .given .0 .0)
+  found = was-found _ _ _ found-here
 
 loop-holds : tie.Need-loop-holds Inv-loop μ-loop
 loop-holds c = print-starts _ _ _
@@ -37,27 +48,27 @@ returns : tie.Need-returns Inv-loop μ-loop
 returns c = print-done _ _ _ _ _ _ (c .before .before .loop .inv) (left-none _ _ _ (c .before .record-at .ensures) (c .match .keys2))
 
 sub-put-record : tie.Need-sub-put-record Inv-loop μ-loop
-sub-put-record c = omega (arith, was-found _ (c .before .before .before .before .before .loop .place) _ (found-here c))
+sub-put-record c = omega (arith, found c)
 
 part-put-record-start : tie.Need-part-put-record-start Inv-loop μ-loop
-part-put-record-start c = omega (arith, was-found _ (c .before .before .before .before .before .loop .place) _ (found-here c))
+part-put-record-start c = omega (arith, found c)
 
 part-put-record-end : tie.Need-part-put-record-end Inv-loop μ-loop
-part-put-record-end c = omega (arith, was-found _ (c .before .before .before .before .before .loop .place) _ (found-here c))
+part-put-record-end c = omega (arith, found c)
 
 put-record-requires : tie.Need-put-record-requires Inv-loop μ-loop
 put-record-requires c κs =
     let k = c .before in
-    let f = was-found _ (k .before .before .before .before .before .loop .place) _ (found-here k) in
-    let long = length-there _ (k .before .before .before .before .before .loop .place) _ (found-here k) in
-    let few = k .before .before .before .before .before .loop .inv .few in
-    (omega (arith, k .before .before .before .before .before .before .before .before .pre), omega (arith, k .before .before .before .before .before .before .before .before .pre))
+    let f = found k in
+    let long = length-there _ (turn k .loop .place) _ (found-here k) in
+    let few = turn k .loop .inv .few in
+    (omega (arith, start k .pre), omega (arith, start k .pre))
 
 loop-less : tie.Need-loop-less Inv-loop μ-loop
-loop-less c = let k = c .before .before .before .before in omega (arith, was-found _ (k .before .before .before .before .before .loop .place) _ (found-here k))
+loop-less c = let k = c .before .before .before .before in omega (arith, found k)
 
 loop-again : tie.Need-loop-again Inv-loop μ-loop
-loop-again c = let k = c .before .before .before .before in print-more _ _ _ _ _ _ (k .before .before .before .before .before .loop .inv) _ (found-here k) _ _ (c .before .before .put-record .ensures)
+loop-again c = let k = c .before .before .before .before in print-more _ _ _ _ _ _ (turn k .loop .inv) _ (found-here k) _ _ (c .before .before .put-record .ensures)
 
 pub put-records-spec : {M : Type 1} → statement M
 put-records-spec =

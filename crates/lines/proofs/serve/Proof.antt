@@ -1,5 +1,6 @@
 -- What the line was read as decides which case of the definition was served.
-use Prim.Native.Nat.{_≤_}
+use Prim.Native.Nat.{ℕ, _≤_}
+use mathlib.Core.List.{List}
 use mathlib.Core.Path.{sym}
 use native.Mathlib.Omega.{arith}
 use lib.ListN.{length, length-take, length-drop}
@@ -10,14 +11,21 @@ use borrow.Author.Needs.{needs}
 use Rattle.lines.proofs.serve.Statement.{statement}
 use Rattle.lines.proofs.serve.Tie as tie
 
-announced : (c : tie.After-known-told2) → (c .before .rule .given .0 .0 ≤ c .before .rule .given .0 .1 .0) × ((c .before .rule .given .0 .1 .0 ≤ length (c .before .before .before .before .before .before .before .before .args .line .now)) × ((c .before .rule .given .0 .1 .1 .1 .0 ≤ length (c .before .before .before .before .before .before .before .before .args .line .now)) × (length (c .before .before .before .before .before .before .before .before .args .line .now) ≤ mostSigns)))
+-- where the line was read: its signs
+abbrev signs : tie.After-read-line → List ℕ
+signs c = c .before .before .before .before .before .args .line .now
+
+announced : (c : tie.After-known-told2)
+    → (c .before .rule .given .0 .0 ≤ c .before .rule .given .0 .1 .0)
+    × ((c .before .rule .given .0 .1 .0 ≤ length (signs (c .before .before .before)))
+    × ((c .before .rule .given .0 .1 .1 .1 .0 ≤ length (signs (c .before .before .before))) × (length (signs (c .before .before .before)) ≤ mostSigns)))
 announced c = announce-places _ _ (c .before .before .before .read-line .ensures) _ _ _ _ (c .before .rule .given .1)
 
-withdrawn : (c : tie.After-known-told3) → (c .before .rule2 .given .0 .0 ≤ length (c .before .before .before .before .before .before .before .before .args .line .now)) × (length (c .before .before .before .before .before .before .before .before .args .line .now) ≤ mostSigns)
+withdrawn : (c : tie.After-known-told3) → (c .before .rule2 .given .0 .0 ≤ length (signs (c .before .before .before))) × (length (signs (c .before .before .before)) ≤ mostSigns)
 withdrawn c = withdraw-places _ _ (c .before .before .before .read-line .ensures) _ (c .before .rule2 .given .1)
 
 returns : tie.Need-returns
-returns c = serve-routed _ _ _ _ _ _ (c .before .before .before .before .before .before .before .before .before .before .read-line .ensures) _ _ _ _ (c .before .before .before .before .before .before .before .before .address .given .1) _ _ _ (c .before .before .before .before .serve-route .ensures)
+returns c = search (serve-routed, needs)
 
 sub-serve-announce : tie.Need-sub-serve-announce
 sub-serve-announce c = omega (arith, announced (c .before))
@@ -50,16 +58,16 @@ serve-withdraw-requires : tie.Need-serve-withdraw-requires
 serve-withdraw-requires c κs = let w = withdrawn (c .before .before .before) in simp (length-take, length-drop) (omega arith)
 
 returns-2 : tie.Need-returns-2
-returns-2 c = serve-announced _ _ _ _ _ _ (c .before .before .before .before .before .before .before .before .before .before .before .before .before .before .read-line .ensures) _ _ _ _ (c .before .before .before .before .before .before .before .before .before .before .before .before .rule .given .1) _ _ _ _ (c .before .before .before .before .before .before .before .before .before .before .least .ensures) (c .before .before .before .before .serve-announce .ensures)
+returns-2 c = search (serve-announced, needs)
 
 returns-3 : tie.Need-returns-3
-returns-3 c = serve-withdrawn _ _ _ _ _ _ (c .before .before .before .before .before .before .before .before .before .before .before .read-line .ensures) _ (c .before .before .before .before .before .before .before .before .before .rule2 .given .1) _ _ _ (c .before .before .before .before .serve-withdraw .ensures)
+returns-3 c = search (serve-withdrawn, needs)
 
 returns-4 : tie.Need-returns-4
-returns-4 c = serve-listed _ _ _ _ _ _ (c .before .before .before .before .before .before .before .read-line .ensures) (c .before .before .before .before .before .enum-told .given .1) _ _ (c .before .before .put-list .ensures)
+returns-4 c = search (serve-listed, needs)
 
 returns-5 : tie.Need-returns-5
-returns-5 c = serve-unknown _ _ _ _ _ _ (c .before .before .before .before .before .before .read-line .ensures) (c .before .before .before .before .enum-told2 .given .1) _ _ (c .before .before .put-unknown .ensures)
+returns-5 c = search (serve-unknown, needs)
 
 pub serve-spec : {M : Type 1} → statement M
 serve-spec =
