@@ -14,35 +14,21 @@ use Rattle.rule.specs.declared.Expected.the-variants.{Length, Operator}
 use Rattle.rule.specs.declared.BodyEnd.the-variants.{At}
 use Rattle.rule.specs.Shape.{shapeOf}
 use Rattle.rule.specs.Operator.{sizeOf}
-use Rattle.rule.specs.Component.{pairsFrom, offsetAt, prefixEnd, bodyEnd}
+use Rattle.rule.specs.Component.{pairsFrom, offsetAt, prefixEnd}
 use Rattle.rule.specs.Plain.{bodyOf, after, plainOperator, plainOperand, plainAddress, clearedOctet, plainFrom}
 use Rattle.rule.proofs.OperatorLaws.{size-positive}
-use Rattle.rule.proofs.ComponentLaws.{lead-some}
 use Rattle.rule.proofs.PlainWalkLaws.{plainFromHere, pair-there, pair-plain, none-plain, prefix-there, prefix-whole-octets, prefix-last-octet}
 
 -- how `is_plain_prefix` comes to each of its answers
-module _ (family : Family) (body : List ℕ) (alone : prefixEnd family body 0 ≡ At (length body)) where
-  pub prefix-some : 0 < length body
-  prefix-some =
-      let whole = prefix-there family body alone .whole in
-      let lead = lead-some family in
-      omega arith
+module _ (family : Family) (body : List ℕ) (alone : prefixEnd family body 0 ≡ At (length body)) (offset : ℕ) (is : offset ≡ offsetAt family body 1) where
+  pub prefix-all : (getD body 0 0 - offset) % 8 ≡ 0 → true ≡ plainFromHere family Length body
+  prefix-all h = sym (prefix-whole-octets family body (prefix-there family body alone) (rw is at h))
 
-  pub last-inside : length body - 1 < length body
-  last-inside = let some = prefix-some in omega arith
-
-  module _ (offset : ℕ) (is : offset ≡ offsetAt family body 1) where
-    pub offset-below : offset ≤ getD body 0 0
-    offset-below = rw is (prefix-there family body alone .below)
-
-    pub prefix-all : (getD body 0 0 - offset) % 8 ≡ 0 → true ≡ plainFromHere family Length body
-    prefix-all h = sym (prefix-whole-octets family body (prefix-there family body alone) (rw is at h))
-
-    pub prefix-last : (r : ℕ) → ((getD body 0 0 - offset) % 8 ≡ 0 → ⊥) → r ≡ plainAddress ((getD body 0 0 - offset) % 8) (getD body (length body - 1) 0)
-        → eqb r (getD body (length body - 1) 0) ≡ plainFromHere family Length body
-    prefix-last r h e =
-        let kept = ap (λ n. (getD body 0 0 - n) % 8) is in
-        sym (prefix-last-octet family body (prefix-there family body alone) (λ z. h (kept ∙ z)) ∙ rw (← kept, ← e))
+  pub prefix-last : (r : ℕ) → ((getD body 0 0 - offset) % 8 ≡ 0 → ⊥) → r ≡ plainAddress ((getD body 0 0 - offset) % 8) (getD body (length body - 1) 0)
+      → eqb r (getD body (length body - 1) 0) ≡ plainFromHere family Length body
+  prefix-last r h e =
+      let kept = ap (λ n. (getD body 0 0 - n) % 8) is in
+      sym (prefix-last-octet family body (prefix-there family body alone) (λ z. h (kept ∙ z)) ∙ rw (← kept, ← e))
 
 -- how `is_plain_pair` comes to its answer
 pub pair-answer : (family : Family) (kind operator octet plainly value : ℕ) (first : Bool) (shape : Shape) → shape ≡ shapeOf family kind
@@ -90,21 +76,12 @@ module _ (family : Family) (kind : ℕ) (body : List ℕ) where
               ends = λ l. pair-there (shapeOf family kind .largest) body at (left .ends inside) .onward l .1;
             })
 
--- how `is_plain_body` comes to each of its answers, and what it asks of a prefix and of a list
-module _ (family : Family) (kind : ℕ) (body : List ℕ) (shape : Shape) (is : shape ≡ shapeOf family kind) where
-  pub as-prefix : bodyEnd family kind body 0 ≡ At (length body) → shape .prefix ≡ true → prefixEnd family body 0 ≡ At (length body)
-  unfolding bodyEnd
-  as-prefix e h = rw (← is, h) at e
+-- how `is_plain_body` comes to each of its answers
+module _ (family : Family) (kind : ℕ) (body : List ℕ) (shape : Shape) (is : shape ≡ shapeOf family kind) (r : Bool) where
+  pub body-prefix : shape .prefix ≡ true → r ≡ plainFromHere family Length body → r ≡ plainFromHere family (bodyOf family kind) body
+  unfolding bodyOf
+  body-prefix h e = rw (← is, h) e
 
-  pub as-list : bodyEnd family kind body 0 ≡ At (length body) → shape .prefix ≡ false → pairsFrom (shapeOf family kind .largest) body 0 .ending ≡ At (length body)
-  unfolding bodyEnd
-  as-list e h = let p : shapeOf family kind .prefix ≡ false = ap (λ (s : Shape). s .prefix) (sym is) ∙ h in rw p at e
-
-  module _ (r : Bool) where
-    pub body-prefix : shape .prefix ≡ true → r ≡ plainFromHere family Length body → r ≡ plainFromHere family (bodyOf family kind) body
-    unfolding bodyOf
-    body-prefix h e = rw (← is, h) e
-
-    pub body-list : shape .prefix ≡ false → r ≡ plainFromHere family (Operator kind true) body → r ≡ plainFromHere family (bodyOf family kind) body
-    unfolding bodyOf
-    body-list h e = rw (← is, h) e
+  pub body-list : shape .prefix ≡ false → r ≡ plainFromHere family (Operator kind true) body → r ≡ plainFromHere family (bodyOf family kind) body
+  unfolding bodyOf
+  body-list h e = rw (← is, h) e

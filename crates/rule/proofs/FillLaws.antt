@@ -4,7 +4,7 @@ use mathlib.Core.Path.{_≡_, refl, sym, ap, ap₂, _∙_}
 use mathlib.Core.Bool.{Bool, true, false, cond}
 use mathlib.Core.List.{List, [], _∷_, _++_, map, append-nil, append-assoc}
 use mathlib.Core.Logic.{⊎-elim}
-use Prim.Native.Nat.{ℕ, zero, suc, _+_, _-_, _*_, _/_, _%_, _<_, _≤_}
+use Prim.Native.Nat.{ℕ, zero, suc, _+_, _-_, _%_, _<_, _≤_}
 use native.Mathlib.Omega.{arith}
 use native.Mathlib.Decide.{decLt}
 use native.Mathlib.Nat.{add-zero, zero-add}
@@ -19,7 +19,7 @@ use Rattle.octets.proofs.Facts.{Octets}
 use Rattle.octets.proofs.StoreLaws.{length-stored}
 use Rattle.rule.specs.declared.Family.{Family}
 use Rattle.rule.specs.declared.Shape.{Shape}
-use Rattle.rule.specs.declared.Expected.the-variants.{Kind, Length, Address, Operator, Operand}
+use Rattle.rule.specs.declared.Expected.the-variants.{Kind, Length, Operator, Operand}
 use Rattle.rule.specs.declared.BodyEnd.the-variants.{At}
 use Rattle.rule.specs.declared.Next.{Next}
 use Rattle.rule.specs.declared.Next.the-variants.{Nothing, Another, Refused as RefusedNext}
@@ -27,71 +27,29 @@ use Rattle.rule.specs.declared.Checked.{Checked}
 use Rattle.rule.specs.declared.Checked.the-variants.{Accepted, Refused}
 use Rattle.rule.specs.Shape.{shapeOf}
 use Rattle.rule.specs.Operator.{endsList, sizeOf}
-use Rattle.rule.specs.Component.{pairsFrom, leadOf, offsetAt, prefixEnd, bodyEnd, componentAt}
+use Rattle.rule.specs.Component.{pairsFrom, offsetAt, prefixEnd, bodyEnd, componentAt}
 use Rattle.rule.specs.Value.{Component, spelled, between, componentsFrom, components, checkValue}
-use Rattle.rule.specs.Plain.{bodyOf, patternAfter, operandAfter, after, plainOperator, plainOperand, plainAddress, clearedOctet, plainFrom, plain}
+use Rattle.rule.specs.Plain.{bodyOf, operandAfter, after, plainOperator, plainOperand, plainAddress, clearedOctet, plainFrom, plain}
 use Rattle.rule.specs.PlainComponent.{plainComponent}
 use Rattle.rule.proofs.ShapeLaws.{one-octet-or-whole}
 use Rattle.rule.proofs.OperatorLaws.{size-positive}
-use Rattle.rule.proofs.ComponentLaws.{lead-some}
 use Rattle.rule.proofs.ValueLaws.{Found, was-found, none-left, components-more, components-none, components-refused, accepts, accepted-head, accepted-walk}
-use Rattle.rule.proofs.ComponentsLaws.{between-length, PrefixBody}
-use Rattle.rule.proofs.PlainLaws.{length-plain-from, whole-octet, whole-operand, pattern-some}
+use Rattle.rule.proofs.ComponentsLaws.{between-length}
+use Rattle.rule.proofs.PlainLaws.{length-plain-from, whole-operand}
 use Rattle.rule.proofs.SpellingLaws.{plain-whole}
-use Rattle.rule.proofs.PassingLaws.{plainBehind, all-plain, octet-cleared, octet-passed, lead-passed, pattern-passed, value-passed}
-use Rattle.rule.proofs.PlainWalkLaws.{body-alone, prefix-there, PairThere, pair-there}
+use Rattle.rule.proofs.PassingLaws.{plainBehind, all-plain, octet-cleared, value-passed, prefix-passed, prefix-cleared}
+use Rattle.rule.proofs.PlainWalkLaws.{body-alone, PairThere, pair-there, prefix-there, as-list}
 
 -- how `clear_prefix` comes to what it leaves
-module _ (family : Family) (body : List ℕ) (alone : prefixEnd family body 0 ≡ At (length body)) where
-  there : PrefixBody family body
-  there = prefix-there family body alone
+module _ (family : Family) (body : List ℕ) (alone : prefixEnd family body 0 ≡ At (length body)) (offset : ℕ) (is : offset ≡ offsetAt family body 1) where
+  pub prefix-kept : (getD body 0 0 - offset) % 8 ≡ 0 → body ≡ plainFrom family Length body
+  prefix-kept h = sym (prefix-passed family body (prefix-there family body alone) (rw is at h))
 
-  pub prefix-some : 0 < length body
-  prefix-some = let whole = there .whole in let lead = lead-some family in omega arith
-
-  module _ (offset : ℕ) (is : offset ≡ offsetAt family body 1) where
-    abbrev left : ℕ
-    left = getD body 0 0 - offset
-
-    abbrev place : ℕ
-    place = length body - 1
-
-    pub offset-below : offset ≤ getD body 0 0
-    offset-below = rw is (there .below)
-
-    -- all is plain but the pattern's last octet, where there is one
-    to-last : 0 < left → plainFrom family Length body ≡ plainBehind family (Address (left - 8 * ((left - 1) / 8))) place body
-    to-last some =
-        let whole = there .whole in
-        let n = (left - 1) / 8 in
-        let at-last : leadOf family + n ≡ place = omega arith in
-        lead-passed family body (omega arith)
-        ∙ rw (← is, ← pattern-some (getD body 0 0) offset (omega arith), ← at-last) (pattern-passed family n left (leadOf family) body (omega arith) (omega arith))
-
-    pub prefix-kept : left % 8 ≡ 0 → body ≡ plainFrom family Length body
-    unfolding clearedOctet
-    prefix-kept all =
-        let whole = there .whole in
-        elim (decLt 0 left) [
-          | yes h ↦
-              let kept : left - 8 * ((left - 1) / 8) ≡ 8 = omega arith in
-              let last = getD body place 0 in
-              let some = prefix-some in
-              sym (to-last h
-              ∙ rw kept (octet-passed family (Address 8) place body (omega arith) (sym (whole-octet 8 last (omega arith))))
-              ∙ all-plain family (after family (Address 8) last) (place + 1) body (omega arith))
-          | no h ↦ sym (lead-passed family body (omega arith) ∙ all-plain family (patternAfter (getD body 0 0) (offsetAt family body 1)) (leadOf family) body (omega arith))
-        ]
-
-    pub prefix-cleared : (x : ℕ) → (left % 8 ≡ 0 → ⊥) → x ≡ plainAddress (left % 8) (getD body place 0) → set body place x ≡ plainFrom family Length body
-    unfolding clearedOctet
-    prefix-cleared x some e =
-        let kept : left - 8 * ((left - 1) / 8) ≡ left % 8 = omega arith in
-        let last = getD body place 0 in
-        let inside = prefix-some in
-        sym (to-last (omega arith)
-        ∙ rw kept (octet-cleared family (Address (left % 8)) place body x (omega arith) e)
-        ∙ all-plain family (after family (Address (left % 8)) last) (place + 1) (set body place x) (simp length-set (omega arith)))
+  pub prefix-clear : (x : ℕ) → ((getD body 0 0 - offset) % 8 ≡ 0 → ⊥) → x ≡ plainAddress ((getD body 0 0 - offset) % 8) (getD body (length body - 1) 0)
+      → set body (length body - 1) x ≡ plainFrom family Length body
+  prefix-clear x h e =
+      let kept = ap (λ n. (getD body 0 0 - n) % 8) is in
+      sym (prefix-cleared family body (prefix-there family body alone) (λ z. h (kept ∙ z)) ∙ rw (← kept, ← e))
 
 module _ (family : Family) (kind : ℕ) where
   abbrev shapeHere : Shape
@@ -137,15 +95,11 @@ pub record Clearing (kind : ℕ) (shape : Shape) (body work : List ℕ) (first :
   pub rest : drop at work ≡ drop at body
   pub ends : at < length body → pairsFrom (shape .largest) body at .ending ≡ At (length body)
 
--- what `clear_body` asks of a prefix, and what it leaves of one
-module _ (family : Family) (kind : ℕ) (body : List ℕ) (shape : Shape) (is : shape ≡ shapeOf family kind) (t : shape .prefix ≡ true) where
-  pub as-prefix : bodyEnd family kind body 0 ≡ At (length body) → prefixEnd family body 0 ≡ At (length body)
-  unfolding bodyEnd
-  as-prefix e = rw (← is, t) at e
-
-  pub cleared-prefix : (work : List ℕ) → work ≡ plainFrom family Length body → work ≡ plainFrom family (bodyOf family kind) body
-  unfolding bodyOf
-  cleared-prefix work e = rw (← is, t) e
+-- what `clear_body` leaves of a prefix
+pub cleared-prefix : (family : Family) (kind : ℕ) (body work : List ℕ) (shape : Shape) → shape ≡ shapeOf family kind → shape .prefix ≡ true
+    → work ≡ plainFrom family Length body → work ≡ plainFrom family (bodyOf family kind) body
+unfolding bodyOf
+cleared-prefix family kind body work shape is t e = rw (← is, t) e
 
 -- how it goes along a list, and what it leaves of one
 pub list-nearer : (work : List ℕ) (at size x y : ℕ) → at < length work → length (set (set work at x) (at + 1) y) - (at + 1 + size) < length work - at
@@ -153,14 +107,8 @@ list-nearer work at size x y h = simp length-set (omega arith)
 
 module _ (kind : ℕ) (shape : Shape) (body : List ℕ) where
   pub list-starts : (family : Family) → shape ≡ shapeOf family kind → shape .prefix ≡ false → bodyEnd family kind body 0 ≡ At (length body) → Clearing kind shape body body true 0
-  unfolding bodyEnd
-  list-starts family is t e =
-      record {
-        completes = λ f same. refl;
-        long = refl;
-        rest = refl;
-        ends = λ h. rw (← is, t) at e;
-      }
+  list-starts family is t alone =
+      record { completes = λ f same. refl; long = refl; rest = refl; ends = λ h. rw is (as-list family kind body shape is alone t) }
 
   module _ (work : List ℕ) (first : Bool) (at : ℕ) (so-far : Clearing kind shape body work first at) where
     pub list-cleared : (family : Family) → shape ≡ shapeOf family kind → shape .prefix ≡ false → length work ≤ at → work ≡ plainFrom family (bodyOf family kind) body

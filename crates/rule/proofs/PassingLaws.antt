@@ -1,13 +1,14 @@
 -- Going along octets of which those from a place on are still to be spelled plainly: the octet at the place is cleared, or passed over where
--- it loses no bit, as the length and the offset of a prefix do, all octets of its pattern but the last, and a value that no bit of is
+-- it loses no bit, as the length and the offset of a prefix do, all octets of its pattern but the last, and a value of which no bit is
 -- ignored. Assumes nothing.
 use mathlib.Core.Path.{_≡_, refl, sym, ap, _∙_}
 use mathlib.Core.Bool.{Bool, false, cond}
 use mathlib.Core.List.{List, _++_, append-nil}
-use Prim.Native.Nat.{ℕ, zero, suc, _+_, _-_, _*_, _<_, _≤_}
+use Prim.Native.Nat.{ℕ, zero, suc, _+_, _-_, _*_, _/_, _%_, _<_, _≤_}
 use native.Mathlib.Omega.{arith}
+use native.Mathlib.Decide.{decLt}
 use native.Mathlib.Numerals.{add-one}
-use lib.ListN.{length, getD, take, drop, set, drop-of-length-le}
+use lib.ListN.{length, getD, take, drop, set, length-set, drop-of-length-le}
 use lib.Seq.{drop-cons, take-all, take-suc-set, drop-set-lt, append-snoc, set-getD}
 use borrow.Author.Tests.{lt-leb, lt-ltb}
 use Rattle.octets.proofs.Cases.{by-test}
@@ -16,9 +17,10 @@ use Rattle.rule.specs.declared.Expected.{Expected}
 use Rattle.rule.specs.declared.Expected.the-variants.{Kind, Length, Offset, Address, Operator, Operand}
 use Rattle.rule.specs.Shape.{shapeOf}
 use Rattle.rule.specs.Component.{leadOf, offsetAt}
-use Rattle.rule.specs.Plain.{patternAfter, operandAfter, after, clearedOctet, plainFrom}
+use Rattle.rule.specs.Plain.{patternAfter, operandAfter, after, plainAddress, clearedOctet, plainFrom}
 use Rattle.rule.proofs.ComponentLaws.{lead-with, lead-without, lead-some, offset-with, offset-without}
-use Rattle.rule.proofs.PlainLaws.{whole-octet, whole-operand, after-length-offset, after-length, after-offset}
+use Rattle.rule.proofs.ComponentsLaws.{PrefixBody}
+use Rattle.rule.proofs.PlainLaws.{whole-octet, whole-operand, pattern-some, after-length-offset, after-length, after-offset}
 
 module _ (family : Family) where
   -- the octets up to a place as they are, and behind them, where the next is as expected, the plain spelling of the rest
@@ -83,3 +85,42 @@ module _ (family : Family) where
       let z : i + suc (suc n) ≡ i + 1 + suc n = omega arith in
       octet-passed (Operand kind (suc (suc n)) last) i s (omega arith) (whole-operand (shapeOf family kind .ignored) (getD s i 0) none)
       ∙ rw (lt-ltb 1 (suc (suc n)) (omega arith), more, z) (value-passed kind n (i + 1) last s none (omega arith))
+
+-- a prefix is plain where its bits end with an octet, and else but for its last octet
+module _ (family : Family) (body : List ℕ) (p : PrefixBody family body) where
+  abbrev pub left : ℕ
+  left = getD body 0 0 - offsetAt family body 1
+
+  abbrev pub lastOctet : ℕ
+  lastOctet = getD body (length body - 1) 0
+
+  to-last : 0 < left → plainFrom family Length body ≡ plainBehind family (Address (left - 8 * ((left - 1) / 8))) (length body - 1) body
+  to-last some =
+      let whole = p .whole in
+      let n = (left - 1) / 8 in
+      let place : leadOf family + n ≡ length body - 1 = omega arith in
+      lead-passed family body (omega arith)
+      ∙ rw (← pattern-some (getD body 0 0) (offsetAt family body 1) (omega arith), ← place) (pattern-passed family n left (leadOf family) body (omega arith) (omega arith))
+
+  pub prefix-passed : left % 8 ≡ 0 → plainFrom family Length body ≡ body
+  unfolding clearedOctet
+  prefix-passed all =
+      let whole = p .whole in
+      elim (decLt 0 left) [
+        | yes h ↦
+            let kept : left - 8 * ((left - 1) / 8) ≡ 8 = omega arith in
+            to-last h
+            ∙ rw kept (octet-passed family (Address 8) (length body - 1) body (omega arith) (sym (whole-octet 8 lastOctet (omega arith))))
+            ∙ all-plain family (after family (Address 8) lastOctet) (length body - 1 + 1) body (omega arith)
+        | no h ↦ lead-passed family body (omega arith) ∙ all-plain family (patternAfter (getD body 0 0) (offsetAt family body 1)) (leadOf family) body (omega arith)
+      ]
+
+  pub prefix-cleared : (left % 8 ≡ 0 → ⊥) → plainFrom family Length body ≡ set body (length body - 1) (plainAddress (left % 8) lastOctet)
+  unfolding clearedOctet
+  prefix-cleared some =
+      let whole = p .whole in
+      let kept : left - 8 * ((left - 1) / 8) ≡ left % 8 = omega arith in
+      let x = plainAddress (left % 8) lastOctet in
+      to-last (omega arith)
+      ∙ rw kept (octet-cleared family (Address (left % 8)) (length body - 1) body x (omega arith) refl)
+      ∙ all-plain family (after family (Address (left % 8)) lastOctet) (length body - 1 + 1) (set body (length body - 1) x) (simp length-set (omega arith))

@@ -4,14 +4,14 @@ use mathlib.Core.Path.{_≡_, refl, sym, ap, ap₂, subst, _∙_}
 use mathlib.Core.Bool.{Bool, true, false, cond, _&&_, and-true, and-false, and-assoc}
 use mathlib.Core.List.{List, [], _∷_, _++_, map}
 use mathlib.Core.Logic.{⊎-elim}
-use Prim.Native.Nat.{ℕ, zero, suc, _+_, _-_, _*_, _/_, _%_, _<_, _≤_}
+use Prim.Native.Nat.{ℕ, zero, suc, _+_, _-_, _/_, _%_, _<_, _≤_}
 use native.Mathlib.Omega.{arith}
 use native.Mathlib.Decide.{decLt}
 use native.Mathlib.Numerals.{add-one}
 use lib.Dec.{leb, ltb, eqb}
-use lib.ListN.{length, getD, drop, length-drop, drop-of-length-le}
-use lib.Seq.{drop-cons, drop-drop, getD-drop}
-use borrow.Author.Tests.{lt-leb, lt-ltb, eq-eqb}
+use lib.ListN.{length, getD, take, drop, set, take-append-drop, drop-of-length-le}
+use lib.Seq.{drop-cons}
+use borrow.Author.Tests.{lt-leb, eq-eqb}
 use Rattle.octets.specs.Test.{every, sameList}
 use Rattle.octets.specs.Walk.{Walk}
 use Rattle.octets.proofs.Cases.{by-test, apart}
@@ -20,7 +20,7 @@ use Rattle.octets.proofs.TestLaws.{list-same}
 use Rattle.rule.specs.declared.Family.{Family}
 use Rattle.rule.specs.declared.Shape.{Shape}
 use Rattle.rule.specs.declared.Expected.{Expected}
-use Rattle.rule.specs.declared.Expected.the-variants.{Kind, Length, Offset, Address, Operator, Operand}
+use Rattle.rule.specs.declared.Expected.the-variants.{Kind, Length, Operator, Operand}
 use Rattle.rule.specs.declared.NextPair.{NextPair}
 use Rattle.rule.specs.declared.NextPair.the-variants.{More, Last, Refused as RefusedPair}
 use Rattle.rule.specs.declared.BodyEnd.{BodyEnd}
@@ -30,14 +30,15 @@ use Rattle.rule.specs.Shape.{shapeOf}
 use Rattle.rule.specs.Operator.{endsList, sizeOf}
 use Rattle.rule.specs.Component.{pairAt, Pair, pairsFrom, leadOf, offsetAt, prefixEnd, bodyEnd}
 use Rattle.rule.specs.Value.{Component, spelled, between, headOf, components, checkValue}
-use Rattle.rule.specs.Plain.{bodyOf, patternAfter, operandAfter, after, plainOperator, plainOperand, plainAddress, clearedOctet, plainFrom, plain}
+use Rattle.rule.specs.Plain.{bodyOf, operandAfter, after, plainOperator, plainOperand, plainAddress, clearedOctet, plainFrom, plain}
 use Rattle.rule.specs.PlainComponent.{plainComponent}
 use Rattle.rule.proofs.ShapeLaws.{one-octet-or-whole}
 use Rattle.rule.proofs.OperatorLaws.{size-positive}
-use Rattle.rule.proofs.ComponentLaws.{pair-last, pair-more, pair-cases, lead-with, lead-without, lead-some, offset-with, offset-without, prefix-cases, prefix-begins, prefix-whole, pairs-more, pairs-last, pairs-refused, pairs-ind, more-within, last-within, EndWithin, body-within}
+use Rattle.rule.proofs.ComponentLaws.{pair-last, pair-more, pair-cases, lead-some, prefix-cases, prefix-begins, prefix-whole, pairs-more, pairs-last, pairs-refused, pairs-ind, more-within, last-within, EndWithin, body-within}
 use Rattle.rule.proofs.ComponentsLaws.{between-octet, between-length, PrefixBody, prefix-body, spelled-whole}
-use Rattle.rule.proofs.PlainLaws.{length-plain-from, whole-octet, whole-operand, pattern-some, after-length-offset, after-length, after-offset}
+use Rattle.rule.proofs.PlainLaws.{length-plain-from, whole-operand}
 use Rattle.rule.proofs.SpellingLaws.{plain-whole}
+use Rattle.rule.proofs.PassingLaws.{plainBehind, value-passed, left, lastOctet, prefix-passed, prefix-cleared}
 
 -- whether octets, the first of which is as expected, are their own plain spelling
 abbrev pub plainFromHere : Family → Expected → List ℕ → Bool
@@ -191,33 +192,32 @@ pub none-plain : (family : Family) (e : Expected) (s : List ℕ) (i : ℕ) → l
 unfolding plainFrom sameList
 none-plain family e s i h = rw (drop-of-length-le s h)
 
+-- and so are octets where those passed over are not looked at
+passed-plain : (family : Family) (s : List ℕ) (e f : Expected) (i j : ℕ) → plainBehind family e i s ≡ plainBehind family f j s
+    → plainFromHere family e (drop i s) ≡ plainFromHere family f (drop j s)
+passed-plain family s e f i j h = sym (behind e i) ∙ ap (λ (l : List ℕ). sameList l s) h ∙ behind f j
+  where
+    behind : (e : Expected) (i : ℕ) → sameList (plainBehind family e i s) s ≡ plainFromHere family e (drop i s)
+    behind e i =
+        ap (sameList (plainBehind family e i s)) (sym (take-append-drop i s))
+        ∙ same-parts (take i s) (take i s) (plainFrom family e (drop i s)) (drop i s) refl ∙ rw (list-same (take i s))
+
 module _ (family : Family) (kind : ℕ) where
   abbrev shape : Shape
   shape = shapeOf family kind
 
-  -- octets of a value of which no bit is ignored
-  whole-value : (n : ℕ) (last : Bool) → shape .ignored ≡ 0 → (s : List ℕ)
-      → plainFromHere family (Operand kind (suc n) last) s ≡ plainFromHere family (cond last Kind (Operator kind false)) (drop (suc n) s)
-  unfolding plainFrom sameList after clearedOctet operandAfter
-  whole-value n last h [] = refl
-  whole-value zero last h (x ∷ s) = rw (plainFrom, sameList, whole-operand (shape .ignored) x h, eq-eqb x x refl)
-  whole-value (suc n) last h (x ∷ s) =
-      let more : suc (suc n) - 1 ≡ suc n = omega arith in
-      rw (plainFrom, sameList, whole-operand (shape .ignored) x h, eq-eqb x x refl, lt-ltb 1 (suc (suc n)) (omega arith), more)
-      (whole-value n last h s)
-
   -- a value is plain where its first octet is
-  value-plain : (s : List ℕ) (i n : ℕ) (last : Bool) → 1 ≤ n → n ≤ shape .largest → i < length s
+  value-plain : (s : List ℕ) (i n : ℕ) (last : Bool) → 1 ≤ n → n ≤ shape .largest → i + n ≤ length s
       → plainFromHere family (Operand kind n last) (drop i s)
       ≡ (eqb (plainOperand (shape .ignored) (getD s i 0)) (getD s i 0) && plainFromHere family (cond last Kind (Operator kind false)) (drop (i + n) s))
   unfolding after clearedOctet operandAfter
-  value-plain s i zero last some allowed there = absurd (omega arith)
-  value-plain s i (suc n) last some allowed there =
+  value-plain s i zero last some allowed fits = absurd (omega arith)
+  value-plain s i (suc n) last some allowed fits =
       ⊎-elim
-      (λ narrow. let one : n ≡ 0 = omega arith in rw one (octet-plain family (Operand kind 1 last) s i there))
+      (λ narrow. let one : n ≡ 0 = omega arith in rw one (octet-plain family (Operand kind 1 last) s i (omega arith)))
       (λ none.
-      whole-value n last none (drop i s)
-      ∙ rw (whole-operand (shape .ignored) (getD s i 0) none, eq-eqb (getD s i 0) (getD s i 0) refl, drop-drop (suc n) i s))
+      passed-plain family s (Operand kind (suc n) last) (cond last Kind (Operator kind false)) i (i + suc n) (value-passed family kind n i last s none fits)
+      ∙ rw (whole-operand (shape .ignored) (getD s i 0) none, eq-eqb (getD s i 0) (getD s i 0) refl))
       (one-octet-or-whole family kind)
 
   -- from a pair on a list is plain where the pair's operator and the first octet of its value are, and the list behind the pair
@@ -253,46 +253,6 @@ module _ (family : Family) (kind : ℕ) where
                 ∙ sym (none-plain family (Operator kind false) body n (omega arith))
           ]
 
-module _ (family : Family) where
-  -- a prefix is plain where its pattern is
-  lead-plain : (body : List ℕ) → leadOf family ≤ length body
-      → plainFromHere family Length body ≡ plainFromHere family (patternAfter (getD body 0 0) (offsetAt family body 1)) (drop (leadOf family) body)
-  unfolding clearedOctet
-  lead-plain body h =
-      let bits = getD body 0 0 in
-      let offset = getD body 1 0 in
-      let some = lead-some family in
-      octet-plain family Length body 0 (omega arith)
-      ∙ by-test (family .offsets)
-      (λ t.
-      let lead = lead-with family t in
-      rw (eq-eqb bits bits refl, ← after-length-offset family Length bits refl t, lead, offset-with family body 1 t)
-      (octet-plain family (Offset bits) body 1 (omega arith)
-      ∙ rw (eq-eqb offset offset refl, ← after-offset family (Offset bits) offset bits (patternAfter bits offset) refl refl)))
-      (λ t. rw (eq-eqb bits bits refl, ← after-length family Length bits (patternAfter bits 0) refl t refl, lead-without family t, offset-without family body 1 t))
-
-  -- octets of a pattern before its last one
-  address-passes : (n left : ℕ) → 8 * n < left → (s : List ℕ)
-      → plainFromHere family (Address left) s ≡ plainFromHere family (Address (left - 8 * n)) (drop n s)
-  unfolding plainFrom sameList after clearedOctet
-  address-passes zero left h s = let e : left - 8 * 0 ≡ left = omega arith in rw e
-  address-passes (suc n) left h [] = refl
-  address-passes (suc n) left h (x ∷ s) =
-      let e : left - 8 * suc n ≡ left - 8 - 8 * n = omega arith in
-      rw (plainFrom, sameList, ← whole-octet left x (omega arith), eq-eqb x x refl, lt-leb left 8 (omega arith), e)
-      (address-passes n (left - 8) (omega arith) s)
-
-  -- a pattern is plain where its last octet is
-  last-plain : (left : ℕ) (s : List ℕ) → 1 ≤ left → length s ≡ (left + 7) / 8
-      → plainFromHere family (Address left) s ≡ eqb (plainAddress (left - 8 * ((left - 1) / 8)) (getD s (length s - 1) 0)) (getD s (length s - 1) 0)
-  unfolding plainFrom sameList clearedOctet
-  last-plain left s some long =
-      let n = (left - 1) / 8 in
-      let e : length s - 1 ≡ n = omega arith in
-      address-passes n left (omega arith) s
-      ∙ rw (e, drop-cons s n 0 (omega arith), plainFrom, sameList, drop-of-length-le s {i = suc n} (omega arith))
-      (and-true (eqb (plainAddress (left - 8 * n) (getD s n 0)) (getD s n 0)))
-
 -- octets that are just one prefix
 pub prefix-there : (family : Family) (body : List ℕ) → prefixEnd family body 0 ≡ At (length body) → PrefixBody family body
 prefix-there family body e =
@@ -302,37 +262,41 @@ prefix-there family body e =
     record { within = k; below = l; begins = prefix-begins family body 0 (length body) e; whole = omega arith })
     e
 
+module _ (family : Family) (body : List ℕ) (alone : prefixEnd family body 0 ≡ At (length body)) where
+  pub prefix-some : 0 < length body
+  prefix-some = let whole = prefix-there family body alone .whole in let lead = lead-some family in omega arith
+
+  pub last-inside : length body - 1 < length body
+  last-inside = let some = prefix-some in omega arith
+
+  pub offset-below : (offset : ℕ) → offset ≡ offsetAt family body 1 → offset ≤ getD body 0 0
+  offset-below offset is = rw is (prefix-there family body alone .below)
+
+-- a body of a type is a prefix or a list
+module _ (family : Family) (kind : ℕ) (body : List ℕ) (shape : Shape) (is : shape ≡ shapeOf family kind) (alone : bodyEnd family kind body 0 ≡ At (length body)) where
+  pub as-prefix : shape .prefix ≡ true → prefixEnd family body 0 ≡ At (length body)
+  unfolding bodyEnd
+  as-prefix h = rw (← is, h) at alone
+
+  pub as-list : shape .prefix ≡ false → pairsFrom (shapeOf family kind .largest) body 0 .ending ≡ At (length body)
+  unfolding bodyEnd
+  as-list h = let p : shapeOf family kind .prefix ≡ false = ap (λ (s : Shape). s .prefix) (sym is) ∙ h in rw p at alone
+
+-- octets of which one is exchanged are as they were where that one is
+exchanged : (s : List ℕ) (i x : ℕ) → i < length s → sameList (set s i x) s ≡ eqb x (getD s i 0)
+unfolding sameList
+exchanged [] i x h = absurd (omega arith)
+exchanged (y ∷ s) zero x h = rw (list-same s) (and-true (eqb x y))
+exchanged (y ∷ s) (suc i) x h = rw (eq-eqb y y refl) (exchanged s i x (omega arith))
+
 module _ (family : Family) (body : List ℕ) (p : PrefixBody family body) where
-  abbrev left : ℕ
-  left = getD body 0 0 - offsetAt family body 1
-
-  abbrev lastOctet : ℕ
-  lastOctet = getD body (length body - 1) 0
-
-  pattern-last : 1 ≤ left → plainFromHere family Length body ≡ eqb (plainAddress (left - 8 * ((left - 1) / 8)) lastOctet) lastOctet
-  pattern-last some =
-      let whole = p .whole in
-      let lead = leadOf family in
-      let rest = drop lead body in
-      let l = length-drop lead body in
-      let place : lead + (length rest - 1) ≡ length body - 1 = omega arith in
-      lead-plain family body (omega arith)
-      ∙ rw (← pattern-some (getD body 0 0) (offsetAt family body 1) (omega arith))
-      (last-plain family left rest some (omega arith) ∙ rw (getD-drop lead body (length rest - 1) 0, place))
-
   -- all bits of the pattern's octets are kept
-  pub prefix-whole-octets : left % 8 ≡ 0 → plainFromHere family Length body ≡ true
-  prefix-whole-octets all =
-      let whole = p .whole in
-      elim (decLt 0 left) [
-        | yes h ↦
-            let kept : left - 8 * ((left - 1) / 8) ≡ 8 = omega arith in
-            pattern-last h ∙ rw (kept, ← whole-octet 8 lastOctet (omega arith)) (eq-eqb lastOctet lastOctet refl)
-        | no h ↦ lead-plain family body (omega arith) ∙ none-plain family (patternAfter (getD body 0 0) (offsetAt family body 1)) body (leadOf family) (omega arith)
-      ]
+  pub prefix-whole-octets : left family body p % 8 ≡ 0 → plainFromHere family Length body ≡ true
+  prefix-whole-octets all = rw (prefix-passed family body p all) (list-same body)
 
   -- or some of its last octet's
-  pub prefix-last-octet : (left % 8 ≡ 0 → ⊥) → plainFromHere family Length body ≡ eqb (plainAddress (left % 8) lastOctet) lastOctet
+  pub prefix-last-octet : (left family body p % 8 ≡ 0 → ⊥) → plainFromHere family Length body ≡ eqb (plainAddress (left family body p % 8) (lastOctet family body p)) (lastOctet family body p)
   prefix-last-octet some =
-      let kept : left - 8 * ((left - 1) / 8) ≡ left % 8 = omega arith in
-      rw kept at (pattern-last (omega arith))
+      let whole = p .whole in
+      let lead = lead-some family in
+      rw (prefix-cleared family body p some) (exchanged body (length body - 1) (plainAddress (left family body p % 8) (lastOctet family body p)) (omega arith))

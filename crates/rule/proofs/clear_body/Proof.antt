@@ -4,7 +4,8 @@ use Prim.Native.Nat.{_+_, _-_}
 use native.Mathlib.Omega.{arith}
 use lib.ListN.{length}
 use Rattle.rule.proofs.PlainLaws.{operand-small}
-use Rattle.rule.proofs.FillLaws.{Clearing, as-prefix, cleared-prefix, list-starts, value-some, list-nearer, list-on, list-cleared}
+use Rattle.rule.proofs.PlainWalkLaws.{as-prefix}
+use Rattle.rule.proofs.FillLaws.{Clearing, cleared-prefix, list-starts, value-some, list-nearer, list-on, list-cleared}
 use Rattle.rule.proofs.clear_body.Statement.{statement}
 use Rattle.rule.proofs.clear_body.Tie as tie
 

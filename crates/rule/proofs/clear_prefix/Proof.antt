@@ -1,6 +1,6 @@
 -- The body is just one prefix, so that its last octet is the pattern's last one.
-use native.Mathlib.Omega.{arith}
-use Rattle.rule.proofs.FillLaws.{prefix-some, offset-below, prefix-kept, prefix-cleared}
+use Rattle.rule.proofs.PlainWalkLaws.{prefix-some, last-inside, offset-below}
+use Rattle.rule.proofs.FillLaws.{prefix-kept, prefix-clear}
 use borrow.Author.Needs.{needs}
 use Rattle.rule.proofs.clear_prefix.Statement.{statement}
 use Rattle.rule.proofs.clear_prefix.Tie as tie
@@ -18,13 +18,13 @@ sub-place : tie.Need-sub-place
 sub-place c = search (prefix-some, needs)
 
 slice-read-last : tie.Need-slice-read-last
-slice-read-last c = let a = c .before .before .before .before .before .before in omega (arith, prefix-some _ (a .args .body .now) (a .pre))
+slice-read-last c = search (last-inside, needs)
 
 slice-write-body : tie.Need-slice-write-body
-slice-write-body c = let a = c .before .before .before .before .before .before .before in omega (arith, prefix-some _ (a .args .body .now) (a .pre))
+slice-write-body c = search (last-inside, needs)
 
 returns-2 : tie.Need-returns-2
-returns-2 c = search (prefix-cleared, needs)
+returns-2 c = search (prefix-clear, needs)
 
 pub clear-prefix-spec : {M : Type 1} → statement M
 clear-prefix-spec =
