@@ -7,13 +7,12 @@ use lib.ListN.{take, drop}
 use Rattle.octets.specs.Order.{ordered}
 use Rattle.octets.specs.declared.Order.{Order}
 use Rattle.rule.specs.declared.Family.{Family}
+use Rattle.rule.specs.declared.Checked.the-variants.{Accepted}
 use Rattle.rule.specs.declared.Reading.{Reading}
 use Rattle.rule.specs.declared.Reading.the-variants.{Rule, Refused as NotRead}
-use Rattle.rule.specs.declared.Checked.the-variants.{Accepted}
-use Rattle.rule.specs.Family.{ipv4, Fits}
 use Rattle.rule.specs.Value.{checkValue}
 use Rattle.rule.specs.Reading.{oneRule}
-use Rattle.rule.proofs.ReadingLaws.{ReadRule, one-read}
+use Rattle.rule.proofs.ReadingLaws.{ReadRule}
 use Rattle.order.specs.Precedence.{precedence}
 use Rattle.flowspec.specs.declared.Comparison.{Comparison}
 use Rattle.flowspec.specs.declared.Comparison.the-variants.{Refused}
@@ -21,7 +20,6 @@ use Rattle.flowspec.specs.Compare.{comparisonOf, compareRules}
 use Rattle.flowspec.specs.Told.{comparisonTold}
 use Rattle.flowspec.specs.Promise.{ComparesTwo}
 use Rattle.flowspec.proofs.ToldLaws.{compare-tells}
-use Rattle.flowspec.proofs.TableLaws.{four-fits}
 
 -- a promise from the equation for the answer
 kept : (family : Family) (a b : List ℕ) (answer : Comparison) → answer ≡ compareRules family a b → ComparesTwo family a b answer (a ∷ b ∷ [])
@@ -38,18 +36,14 @@ module _ (family chosen : Family) (chose : chosen ≡ family) (a b : List ℕ) (
     compare-second-refused number place e = rw (← chose) (kept chosen a b _ (rw (← is, read, ← other-is, e)))
 
     module _ (begin extent : ℕ) (also : right ≡ Rule begin extent) where
-      pub second-read : ReadRule ipv4 b begin extent
-      second-read = one-read ipv4 b begin extent (second-is ∙ also)
-
-      pub compare-requires : Fits family × ((checkValue family (take (start + size - start) (drop start a)) ≡ Accepted)
-          × (checkValue family (take (begin + extent - begin) (drop begin b)) ≡ Accepted))
-      compare-requires =
-          (four-fits family four, (rw (four, add-sub-cancel-left start size) (first-read .accepted), rw (four, add-sub-cancel-left begin extent) (second-read .accepted)))
-
       pub compare-both : (which : Order) (answer : Comparison)
           → which ≡ ordered (precedence chosen (take (start + size - start) (drop start a)) (take (begin + extent - begin) (drop begin b)))
           → answer ≡ comparisonOf which → ComparesTwo family a b answer (a ∷ b ∷ [])
       unfolding compareRules
       compare-both which answer e f =
-          let g = rw (four, add-sub-cancel-left start size, add-sub-cancel-left begin extent) at e in
-          kept a b answer (f ∙ ap comparisonOf g ∙ rw (first-is, read, second-is, also))
+          let g = rw (add-sub-cancel-left start size, add-sub-cancel-left begin extent) at e in
+          rw (← chose) (kept chosen a b answer (f ∙ ap comparisonOf g ∙ rw (← is, read, ← other-is, also)))
+
+-- a value that was read is accepted
+pub value-accepted : (family : Family) (s : List ℕ) (start size : ℕ) → ReadRule family s start size → checkValue family (take (start + size - start) (drop start s)) ≡ Accepted
+value-accepted family s start size r = rw (add-sub-cancel-left start size) (r .accepted)

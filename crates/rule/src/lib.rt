@@ -1,7 +1,8 @@
 // One rule (RFC 8955 section 4): its components, its plain spelling, reading one and writing one. `component_at` is the one cursor
 // of reading: it and the functions that it calls make every bounds check of that walk. `Reader`, a value with a place in it, is thin above
-// the cursor, and whoever walks a value asks `next_component`, which takes plain parameters, as does what makes a
-// value's spelling plain, body by body; only what fills or writes a buffer asks for its size.
+// the cursor: it tells what stands at its place, hands on the body that lies there, and is moved behind it. Whoever walks a value asks
+// `next_component` and `component_body`, which take plain parameters, as does what makes a value's spelling plain, body by body; only what
+// fills or writes a buffer asks for its size.
 ghost use mathlib.Core.Path.{_≡_};
 ghost use mathlib.Core.List.{_++_};
 ghost use Prim.Native.Nat.{_<_, _≤_};

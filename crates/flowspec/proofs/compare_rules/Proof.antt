@@ -1,9 +1,9 @@
 -- One law for each return: a refusal of the first rule, one of the second, and the order of both values.
 use mathlib.Core.Path.{sym, _∙_}
 use native.Mathlib.Omega.{arith}
-use Rattle.rule.specs.Family.{ipv4}
-use Rattle.rule.proofs.ReadingLaws.{ReadRule}
-use Rattle.flowspec.proofs.CompareLaws.{first-read, second-read, compare-requires, compare-first-refused, compare-second-refused, compare-both}
+use Rattle.rule.proofs.ReadingLaws.{ReadRule, one-read}
+use Rattle.flowspec.proofs.CompareLaws.{value-accepted, compare-first-refused, compare-second-refused, compare-both}
+use Rattle.flowspec.proofs.FamiliesLaws.{chosen-fits}
 use borrow.Author.Needs.{needs}
 use Rattle.flowspec.proofs.compare_rules.Statement.{statement}
 use Rattle.flowspec.proofs.compare_rules.Tie as tie
@@ -27,8 +27,7 @@ part-compare-values-end-2 : tie.Need-part-compare-values-end-2
 part-compare-values-end-2 c = omega (arith, right-read (c .before))
 
 compare-values-requires : tie.Need-compare-values-requires
-compare-values-requires c κs = let k = c .before .before in
-    compare-requires _ _ _ (k .before .before .before .before .before .before .before .before .ipv4 .ensures) _ _ (k .before .before .before .before .before .before .before .one-rule .ensures) (k .before .before .before .before .before .before .one-rule2 .ensures) _ _ (k .before .before .before .before .left2 .given .1) _ _ (k .before .right2 .given .1)
+compare-values-requires c κs = (search (chosen-fits, needs), (value-accepted _ _ _ _ (left-read (c .before .before)), value-accepted _ _ _ _ (right-read (c .before .before))))
 
 returns : tie.Need-returns
 returns c = search (compare-first-refused, needs)
