@@ -6,7 +6,7 @@ use mathlib.Core.Bool.{true, false}
 use mathlib.Core.List.{List, [], _∷_, _++_, map}
 use Rattle.octets.specs.Number.{numberAt, octetsOf}
 use Rattle.octets.specs.Test.{oneHolds}
-use Rattle.rate.specs.Rate.{scaled, wholePart, wholeOf, rateOfParts, rateOf}
+use Rattle.rate.specs.Rate.{scaled, numberFor, numberOfParts, rateOfParts, rateOf}
 use Rattle.action.specs.declared.Actions.{Actions}
 use Rattle.action.specs.declared.Reading.{Reading}
 use Rattle.action.specs.declared.Reading.the-variants.{Read, Unsound}
@@ -40,12 +40,12 @@ pub types : map (λ type. flags type 0x3f80_0003)
     (0x8006 ∷ 0x800c ∷ 0x8007 ∷ 0x8008 ∷ 0x8108 ∷ 0x8208 ∷ 0x8009
     ∷ 0x8005 ∷ 0x800a ∷ 0x800b ∷ 0x800d ∷ 0x0006 ∷ 0x8106 ∷ 0x8206 ∷ 0x4006 ∷ 0x810c ∷ 0x000c ∷ 0x8107 ∷ 0x0007 ∷ 0x8308 ∷ 0x0008 ∷ 0x8109 ∷ 0x0009 ∷ [])
     ≡ 1 ∷ 2 ∷ 12 ∷ 32 ∷ 32 ∷ 32 ∷ 16 ∷ 0 ∷ 0 ∷ 0 ∷ 0 ∷ 0 ∷ 0 ∷ 0 ∷ 0 ∷ 0 ∷ 0 ∷ 0 ∷ 0 ∷ 0 ∷ 0 ∷ 0 ∷ 0 ∷ []
-unfolding octetsOf numberAt oneHolds scaled wholePart wholeOf rateOfParts rateOf firstOf smallerOf ofType smallest first ruleActions communitiesAt actionsOf flagsOf
+unfolding octetsOf numberAt oneHolds scaled numberFor numberOfParts rateOfParts rateOf firstOf smallerOf ofType smallest first ruleActions communitiesAt actionsOf flagsOf
 types = refl
 
 -- 0x01 alone is T, 0x02 alone is S, both are both, and no other bit of the six octets is either.
 pub samples : map (λ low. flags 0x8007 low) (0 ∷ 0x01 ∷ 0x02 ∷ 0x03 ∷ 0xfc ∷ 0xff ∷ 0xffff_ffff_fffc ∷ []) ≡ 0 ∷ 8 ∷ 4 ∷ 12 ∷ 0 ∷ 12 ∷ 0 ∷ []
-unfolding octetsOf numberAt oneHolds scaled wholePart wholeOf rateOfParts rateOf firstOf smallerOf ofType smallest first ruleActions communitiesAt actionsOf flagsOf
+unfolding octetsOf numberAt oneHolds scaled numberFor numberOfParts rateOfParts rateOf firstOf smallerOf ofType smallest first ruleActions communitiesAt actionsOf flagsOf
 samples = refl
 
 -- At most 64 communities, and no part of one.
@@ -73,7 +73,7 @@ pub rules : map answer
     ∷ (13 ∷ []) ∷ (13 ∷ [])
     ∷ (13 ∷ [])
     ∷ (0 ∷ 0 ∷ 0 ∷ 0 ∷ 0 ∷ []) ∷ []
-unfolding octetsOf numberAt oneHolds scaled wholePart wholeOf rateOfParts rateOf firstOf smallerOf ofType smallest first ruleActions communitiesAt actionsOf flagsOf
+unfolding octetsOf numberAt oneHolds scaled numberFor numberOfParts rateOfParts rateOf firstOf smallerOf ofType smallest first ruleActions communitiesAt actionsOf flagsOf
 rules = refl
 
 -- Each flag of a record by itself.

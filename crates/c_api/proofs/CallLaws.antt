@@ -16,7 +16,7 @@ use Rattle.action.specs.declared.Reading.the-variants.{Read, Unsound}
 use Rattle.action.specs.Actions.{valuesOf}
 use Rattle.lookup.specs.declared.Verdict.{Verdict}
 use Rattle.lookup.specs.declared.Verdict.the-variants.{Unmatched, Matched}
-use Rattle.flowspec.specs.declared.Looked.the-variants.{Judged}
+use Rattle.flowspec.specs.declared.Looked.the-variants.{Answered}
 use Rattle.flowspec.specs.declared.MatchPlace.{MatchPlace}
 use Rattle.flowspec.specs.Told.{Told, readingTold, actionsTold, verdictTold, lookupTold, matchPlaceTold}
 use Rattle.flowspec.specs.Look.{matchPlace}
@@ -69,7 +69,7 @@ pub actions-done : (actions : Actions) (values entry : List ℕ) → values ≡ 
 actions-done actions values entry h = rw h (done (valuesOf actions) entry)
 
 -- looking up: a packet that is judged
-pub lookup-done : (verdict : Verdict) (values entry : List ℕ) → values ≡ verdictTold verdict .values → Returns (lookupTold (Judged verdict)) entry 0 values
+pub lookup-done : (verdict : Verdict) (values entry : List ℕ) → values ≡ verdictTold verdict .values → Returns (lookupTold (Answered verdict)) entry 0 values
 lookup-done Unmatched values entry h = rw h (done (verdictTold Unmatched .values) entry)
 lookup-done (Matched actions count) values entry h = rw h (done (verdictTold (Matched actions count) .values) entry)
 

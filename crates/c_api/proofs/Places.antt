@@ -23,8 +23,8 @@ use Rattle.route.specs.Route.{soundRoutes}
 use Rattle.action.specs.declared.Reading.{Reading as ActionsReading}
 use Rattle.action.specs.declared.Reading.the-variants.{Read, Unsound}
 use Rattle.action.specs.Actions.{actionsOf}
-use Rattle.packet.specs.declared.Sight.{Sight}
-use Rattle.packet.specs.declared.Sight.the-variants.{Usable, Unusable}
+use Rattle.packet.specs.declared.Reading.{Reading as PacketReading}
+use Rattle.packet.specs.declared.Reading.the-variants.{Usable, Unusable}
 use Rattle.packet.specs.Packet.{packetOf}
 use Rattle.entry.specs.Entry.{Entry}
 use Rattle.table.specs.Sound.{soundTable}
@@ -34,17 +34,17 @@ use Rattle.flowspec.specs.declared.Comparison.the-variants.{First, Second, Same
 use Rattle.flowspec.specs.declared.Feasibility.{Feasibility}
 use Rattle.flowspec.specs.declared.Feasibility.the-variants.{Feasible, Refused as NotFeasible}
 use Rattle.flowspec.specs.declared.Request.{Request}
-use Rattle.flowspec.specs.declared.Request.the-variants.{Announce, Refused as NotAsked}
+use Rattle.flowspec.specs.declared.Request.the-variants.{Announce, Refused as NoRequest}
 use Rattle.flowspec.specs.declared.Change.{Change}
 use Rattle.flowspec.specs.declared.Change.the-variants.{Done, Refused as NotDone}
 use Rattle.flowspec.specs.declared.Looked.{Looked}
-use Rattle.flowspec.specs.declared.Looked.the-variants.{Judged, Refused as NotLookedUp}
+use Rattle.flowspec.specs.declared.Looked.the-variants.{Answered, Refused as NotLookedUp}
 use Rattle.flowspec.specs.Told.{changeTold}
 use Rattle.flowspec.specs.Compare.{comparisonOf, compareRead, compareRules}
 use Rattle.flowspec.specs.Input.{Announcement, Policy}
 use Rattle.flowspec.specs.Feasibility.{readWithRoutes, isFeasible, feasibilityOf, judgeRead, judgement}
-use Rattle.flowspec.specs.Announce.{announcedEntry, changeOf, askedBy, asked, announcedBy, announcing, withdrawnBy, withdrawing}
-use Rattle.flowspec.specs.Look.{shown, seen, lookedUp, lookingUp}
+use Rattle.flowspec.specs.Announce.{announcedEntry, changeOf, requestFor, requestOf, announcedBy, announcing, withdrawnBy, withdrawing}
+use Rattle.flowspec.specs.Look.{openingOf, opening, lookedUp, lookingUp}
 
 -- ---- comparing ----
 
@@ -118,15 +118,15 @@ changes number h =
     by-test (eqb number 0) (λ t. rw t tt) (λ t. let n = eqb-false number 0 t in rw t (placeless number (omega arith) h))
 
 abbrev Asks : Request → Type 0
-Asks (NotAsked number place) = Refusal number place
+Asks (NoRequest number place) = Refusal number place
 Asks (Announce start size actions feasible) = Unit {0}
 
 module _ (family : Family) (policy : Policy) (a : Announcement) where
-  asks : Asks (asked family policy a)
-  unfolding asked
+  asks : Asks (requestOf family policy a)
+  unfolding requestOf
   asks = go (readWithRoutes family (policy .routes) (a .rule)) (with-says family (policy .routes) (a .rule)) (actionsOf (a .communities))
     where
-      go : (r : Reading) → Reads r → (acts : ActionsReading) → Asks (askedBy family policy a r acts)
+      go : (r : Reading) → Reads r → (acts : ActionsReading) → Asks (requestFor family policy a r acts)
       go (NotRead number place) h acts = h
       go (Rule start size) h Unsound = placeless 13 (omega arith) (omega arith)
       go (Rule start size) h (Read actions) = tt
@@ -136,7 +136,7 @@ module _ (family : Family) (policy : Policy) (a : Announcement) where
   unfolding announcing
   not-announced t number place e =
       subst Changes e
-      (by-test (soundTable family t) (λ s. rw s (go (asked family policy a) asks))
+      (by-test (soundTable family t) (λ s. rw s (go (requestOf family policy a) asks))
       (λ s. rw s (placeless 10 (omega arith) (omega arith))))
     where
       told : (n : Entry) (feasible : Bool) → announced family t n feasible .number ≤ 16
@@ -144,7 +144,7 @@ module _ (family : Family) (policy : Policy) (a : Announcement) where
       told n false = omega arith
 
       go : (r : Request) → Asks r → Changes (announcedBy family a t r .answer)
-      go (NotAsked number place) h = h
+      go (NoRequest number place) h = h
       go (Announce start size actions feasible) h =
           let n : Entry = announcedEntry family a start size actions in
           changes (announced family t n feasible .number) (told n feasible)
@@ -168,13 +168,13 @@ not-withdrawn family rule t number place e =
 
 abbrev Looks : Looked → Type 0
 Looks (NotLookedUp number place) = Refusal number place
-Looks (Judged verdict) = Unit {0}
+Looks (Answered verdict) = Unit {0}
 
 pub not-looked-up : (family : Family) (t octets : List ℕ) (number place : ℕ) → lookingUp family t octets ≡ NotLookedUp number place → Refusal number place
-unfolding lookingUp seen
+unfolding lookingUp opening
 not-looked-up family t octets number place e =
     subst Looks e (by-test (soundTable family t) (λ s. rw s (go (packetOf family octets))) (λ s. rw s (placeless 10 (omega arith) (omega arith))))
   where
-    go : (s : Sight) → Looks (lookedUp family t (shown s))
+    go : (s : PacketReading) → Looks (lookedUp family t (openingOf s))
     go Unusable = placeless 12 (omega arith) (omega arith)
     go (Usable packet) = tt

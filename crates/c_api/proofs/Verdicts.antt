@@ -11,8 +11,8 @@ use Rattle.action.specs.declared.Actions.{Actions}
 use Rattle.action.specs.Actions.{noActions}
 use Rattle.action.specs.Merging.{merged}
 use Rattle.action.proofs.MergingLaws.{merged-no-T}
-use Rattle.packet.specs.declared.Sight.{Sight}
-use Rattle.packet.specs.declared.Sight.the-variants.{Usable, Unusable}
+use Rattle.packet.specs.declared.Reading.{Reading as PacketReading}
+use Rattle.packet.specs.declared.Reading.the-variants.{Usable, Unusable}
 use Rattle.packet.specs.Packet.{packetOf}
 use Rattle.entry.specs.Entry.{Entry}
 use Rattle.lookup.specs.declared.Verdict.the-variants.{Unmatched, Matched}
@@ -20,8 +20,8 @@ use Rattle.table.specs.Walk.{entries}
 use Rattle.table.specs.Sound.{soundTable}
 use Rattle.lookup.specs.Lookup.{hit, collected, mergedOnto, verdictOf, verdictFor}
 use Rattle.flowspec.specs.declared.Looked.{Looked}
-use Rattle.flowspec.specs.declared.Looked.the-variants.{Judged, Refused}
-use Rattle.flowspec.specs.Look.{shown, seen, noHead, lookedUp, lookingUp}
+use Rattle.flowspec.specs.declared.Looked.the-variants.{Answered, Refused}
+use Rattle.flowspec.specs.Look.{openingOf, opening, noHead, lookedUp, lookingUp}
 
 onto-no-T : (a : Actions) (es : List Entry) → a .onward ≡ false → mergedOnto a es .onward ≡ false
 unfolding mergedOnto
@@ -29,15 +29,15 @@ onto-no-T a [] h = h
 onto-no-T a (e ∷ es) h = onto-no-T (merged a (e .actions)) es (merged-no-T a (e .actions))
 
 abbrev pub NoT : Looked → Type 0
-NoT (Judged Unmatched) = Unit {0}
-NoT (Judged (Matched actions count)) = actions .onward ≡ false
+NoT (Answered Unmatched) = Unit {0}
+NoT (Answered (Matched actions count)) = actions .onward ≡ false
 NoT (Refused number place) = Unit {0}
 
 pub lookup-no-T : (family : Family) (t octets : List ℕ) → NoT (lookingUp family t octets)
-unfolding lookingUp seen verdictFor verdictOf
+unfolding lookingUp opening verdictFor verdictOf
 lookup-no-T family t octets = by-test (soundTable family t) (λ s. rw s (go (packetOf family octets))) (λ s. rw s tt)
   where
-    go : (s : Sight) → NoT (lookedUp family t (shown s))
+    go : (s : PacketReading) → NoT (lookedUp family t (openingOf s))
     go Unusable = tt
     go (Usable packet) =
         let es = collected (hit family noHead packet) (entries t) in

@@ -184,7 +184,7 @@ pub extern "C" fn flowspec4_lookup(table: &[u8], packet: &[u8], out: &mut [u64; 
 {
     match flowspec::lookup(AddressFamily::Ipv4, table, packet) {
         Looked::Refused { number, place } => word_of(number, place),
-        Looked::Judged(verdict) => {
+        Looked::Answered(verdict) => {
             *out = words_of(verdict);
             0
         }

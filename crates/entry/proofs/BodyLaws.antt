@@ -15,7 +15,7 @@ use Rattle.rule.specs.declared.BodyEnd.the-variants.{At}
 use Rattle.rule.specs.Shape.{shapeOf}
 use Rattle.rule.specs.Operator.{sizeOf}
 use Rattle.rule.specs.Component.{pairsFrom, offsetAt, prefixEnd}
-use Rattle.rule.specs.Plain.{bodyOf, after, plainOperator, plainOperand, plainAddress, clearedOctet, plainFrom}
+use Rattle.rule.specs.Plain.{bodyOf, after, plainOperator, plainOperand, plainPattern, clearedOctet, plainFrom}
 use Rattle.rule.proofs.OperatorLaws.{size-positive}
 use Rattle.rule.proofs.PlainWalkLaws.{plainFromHere, pair-there, pair-plain, none-plain, prefix-there, prefix-whole-octets, prefix-last-octet}
 
@@ -24,7 +24,7 @@ module _ (family : Family) (body : List ℕ) (alone : prefixEnd family body 0 �
   pub prefix-all : (getD body 0 0 - offset) % 8 ≡ 0 → true ≡ plainFromHere family Length body
   prefix-all h = sym (prefix-whole-octets family body (prefix-there family body alone) (rw is at h))
 
-  pub prefix-last : (r : ℕ) → ((getD body 0 0 - offset) % 8 ≡ 0 → ⊥) → r ≡ plainAddress ((getD body 0 0 - offset) % 8) (getD body (length body - 1) 0)
+  pub prefix-last : (r : ℕ) → ((getD body 0 0 - offset) % 8 ≡ 0 → ⊥) → r ≡ plainPattern ((getD body 0 0 - offset) % 8) (getD body (length body - 1) 0)
       → eqb r (getD body (length body - 1) 0) ≡ plainFromHere family Length body
   prefix-last r h e =
       let kept = ap (λ n. (getD body 0 0 - n) % 8) is in

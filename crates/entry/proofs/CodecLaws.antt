@@ -26,7 +26,7 @@ use Rattle.action.proofs.GivenLaws.{Fine, by-fine}
 use Rattle.action.proofs.PossibleLaws.{could, sixBits, redirectType}
 use Rattle.action.specs.Possible.{couldBe}
 use Rattle.entry.specs.Entry.{Entry, plainValue, possible}
-use Rattle.entry.specs.Record.{lengthWidth, headWidths, widthOf, headCost, writtenFields, readFields, fieldsOf, recordOf, actionsIn, entryOf, Measured, goodRecord}
+use Rattle.entry.specs.Record.{lengthWidth, headWidths, widthOf, headCost, writtenFields, readFields, headNumbers, recordOf, actionsIn, entryOf, Measured, goodRecord}
 use Rattle.entry.proofs.ValueLaws.{Possible, is-possible}
 use Rattle.entry.proofs.RecordLaws.{Fit, length-written, fields-back, back-fields}
 
@@ -124,8 +124,8 @@ redirect-small n h =
     (λ t. by-test (eqb type 0x8108) (λ u. omega (arith, eqb-true type 0x8108 u))
     (λ u. by-test (eqb type 0x8208) (λ w. omega (arith, eqb-true type 0x8208 w)) (λ w. let z : false ≡ true = rw (t, u, w) at h in apart (cc))))
 
-head-fits : (family : Family) (e : Entry) → Possible family e → Fit headWidths (fieldsOf e)
-unfolding fieldsOf
+head-fits : (family : Family) (e : Entry) → Possible family e → Fit headWidths (headNumbers e)
+unfolding headNumbers
 head-fits family e p =
     let v = p .value in
     let o = p .originates in
@@ -148,32 +148,32 @@ head-actions s a flags dscp bytes packets redirect f d b p r h =
 -- the record of an entry
 
 pub length-record : (e : Entry) → length (recordOf e) ≡ headCost + length (e .value)
-unfolding recordOf fieldsOf
-length-record e = simp length-append (omega (arith, length-written headWidths (fieldsOf e) refl))
+unfolding recordOf headNumbers
+length-record e = simp length-append (omega (arith, length-written headWidths (headNumbers e) refl))
 
 pub value-record : (e : Entry) → drop headCost (recordOf e) ≡ e .value
-unfolding recordOf fieldsOf
-value-record e = drop-at (writtenFields headWidths (fieldsOf e)) (e .value) headCost (length-written headWidths (fieldsOf e) refl)
+unfolding recordOf headNumbers
+value-record e = drop-at (writtenFields headWidths (headNumbers e)) (e .value) headCost (length-written headWidths (headNumbers e) refl)
 
 module _ (family : Family) (e : Entry) (ok : possible family e ≡ true) where
   -- whatever follows a record, its head is read again
-  pub head-back : (rest : List ℕ) → readFields headWidths (recordOf e ++ rest) 0 ≡ fieldsOf e
+  pub head-back : (rest : List ℕ) → readFields headWidths (recordOf e ++ rest) 0 ≡ headNumbers e
   unfolding recordOf
   head-back rest =
-      let w : List ℕ = writtenFields headWidths (fieldsOf e) in
-      rw (append-assoc w (e .value) rest) (fields-back [] headWidths (fieldsOf e) (e .value ++ rest) (head-fits family e (is-possible family e ok)))
+      let w : List ℕ = writtenFields headWidths (headNumbers e) in
+      rw (append-assoc w (e .value) rest) (fields-back [] headWidths (headNumbers e) (e .value ++ rest) (head-fits family e (is-possible family e ok)))
 
-  fields-alone : readFields headWidths (recordOf e) 0 ≡ fieldsOf e
+  fields-alone : readFields headWidths (recordOf e) 0 ≡ headNumbers e
   fields-alone = rw append-nil at (head-back [])
 
   -- so is its length field
   pub size-back : (rest : List ℕ) → numberAt 2 (recordOf e ++ rest) 0 ≡ length (e .value)
-  unfolding readFields fieldsOf
+  unfolding readFields headNumbers
   size-back rest = ap (λ (l : List ℕ). getD l 0 0) (head-back rest)
 
   -- an entry that is written is read again
   pub read-written : entryOf (recordOf e) ≡ e
-  unfolding entryOf fieldsOf
+  unfolding entryOf headNumbers
   read-written =
       let fields = fields-alone in
       let value = value-record e in
@@ -182,7 +182,7 @@ module _ (family : Family) (e : Entry) (ok : possible family e ≡ true) where
       λ i. record { originator = getD (fields i) 1 0; actions = actions i; value = value i }
 
   flags-octet : getD (recordOf e) (place 2) 0 ≡ flagsOf (e .actions)
-  unfolding readFields fieldsOf
+  unfolding readFields headNumbers
   flags-octet = sym (one-octet (recordOf e) (place 2)) ∙ ap (λ (l : List ℕ). getD l 2 0) fields-alone
 
   -- and its record could be
@@ -213,13 +213,13 @@ module _ (family : Family) (r : List ℕ) (good : goodRecord family r ≡ true) 
 
 -- octets that are read are written as they stood, where they are as many as their length field says and have no other flag than the six
 written-back : (r : List ℕ) → Octets r → Measured r → getD r (place 2) 0 < 64 → recordOf (entryOf r) ≡ r
-unfolding recordOf entryOf fieldsOf readFields actionsIn
+unfolding recordOf entryOf headNumbers readFields actionsIn
 written-back r o long small =
     let n : length (drop headCost r) ≡ numberAt lengthWidth r 0 = length-drop headCost r ∙ omega arith in
     let f
     = flags-back (numberAt 1 r (place 2)) (numberAt 1 r (place 3)) (numberAt 8 r (place 4)) (numberAt 8 r (place 5)) (numberAt 8 r (place 6))
     (rw (one-octet r (place 2)) small) in
-    let fields : fieldsOf (entryOf r) ≡ readFields headWidths r 0
+    let fields : headNumbers (entryOf r) ≡ readFields headWidths r 0
     = ap₂ (λ (a b : ℕ). a ∷ numberAt 4 r (place 1) ∷ b ∷ numberAt 1 r (place 3) ∷ numberAt 8 r (place 4) ∷ numberAt 8 r (place 5) ∷ numberAt 8 r (place 6) ∷ []) n f in
     ap (λ (l : List ℕ). writtenFields headWidths l ++ drop headCost r) fields
     ∙ ap (λ (l : List ℕ). l ++ drop headCost r) (back-fields headWidths r 0 o (omega arith)) ∙ take-append-drop headCost r

@@ -14,7 +14,7 @@ use Rattle.octets.proofs.NumberLaws.{length-octetsOf, number-octets, octets-num
 use Rattle.octets.proofs.StoreLaws.{stored-none, stored-then, length-stored}
 use Rattle.action.specs.Actions.{valuesOf}
 use Rattle.entry.specs.Entry.{Entry}
-use Rattle.entry.specs.Record.{headWidths, widthOf, headCost, writtenFields, readFields, fieldsOf, recordOf}
+use Rattle.entry.specs.Record.{headWidths, widthOf, headCost, writtenFields, readFields, headNumbers, recordOf}
 
 -- as many numbers as widths, each within its width
 abbrev pub Fit : List ℕ → List ℕ → Type 0
@@ -106,8 +106,8 @@ pub record-stored : (t head all values : List ℕ) (at : ℕ) (e : Entry) → va
     (writtenFields headWidths
     (length (e .value) ∷ e .originator ∷ getD values 0 0 ∷ getD values 1 0 ∷ getD values 2 0 ∷ getD values 3 0 ∷ getD values 4 0 ∷ []))
     → all ≡ stored head (at + headCost) (e .value) → all ≡ stored t at (recordOf e)
-unfolding recordOf fieldsOf
+unfolding recordOf headNumbers
 record-stored t head all values at e is room h k =
-    let w : List ℕ = writtenFields headWidths (fieldsOf e) in
-    let l : length w ≡ headCost = length-written headWidths (fieldsOf e) refl in
+    let w : List ℕ = writtenFields headWidths (headNumbers e) in
+    let l : length w ≡ headCost = length-written headWidths (headNumbers e) refl in
     k ∙ rw (h, is) (ap (λ n. stored (stored t at w) (at + n) (e .value)) (sym l) ∙ stored-then t at w (e .value) (omega arith))

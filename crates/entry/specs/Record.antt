@@ -43,13 +43,13 @@ readFields [] s at = []
 readFields (width ∷ widths) s at = numberAt width s at ∷ readFields widths s (at + width)
 
 -- The fields of a head, in order: value length, originator, flags, DSCP, byte rate, packet rate, redirect community.
-unfoldable pub fieldsOf : Entry → List ℕ
-fieldsOf e =
+unfoldable pub headNumbers : Entry → List ℕ
+headNumbers e =
     length (e .value) ∷ e .originator ∷ valuesOf (e .actions)
 
 -- The record of an entry.
 unfoldable pub recordOf : Entry → List ℕ
-recordOf e = writtenFields headWidths (fieldsOf e) ++ e .value
+recordOf e = writtenFields headWidths (headNumbers e) ++ e .value
 
 -- A field and whether its flag is set; `bit` is the flag's value. The number is taken as it stands, also where the flag is not set.
 abbrev pub fieldIf : ℕ → ℕ → ℕ → Given

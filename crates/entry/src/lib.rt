@@ -28,9 +28,9 @@ use rule::Next;
 use rule::component_body;
 use rule::next_component;
 use rule::offset_at;
-use rule::plain_address;
 use rule::plain_operand;
 use rule::plain_operator;
+use rule::plain_pattern;
 use rule::shape_of;
 use rule::size_of;
 
@@ -190,7 +190,7 @@ fn is_plain_prefix(family: Family, body: &[u8]) -> bool
         return true;
     }
     let last = body[body.len() - 1];
-    plain_address(kept, last) == last
+    plain_pattern(kept, last) == last
 }
 
 // Whether an operator, a list's first or a later one, and the first octet of its value are their own plain spelling.

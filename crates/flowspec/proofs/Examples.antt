@@ -4,18 +4,18 @@ use mathlib.Core.List.{[], _∷_, map}
 use Rattle.octets.specs.Test.{every, oneHolds, sameList}
 use Rattle.octets.specs.Number.{numberAt}
 use Rattle.octets.specs.Walk.{walk}
-use Rattle.prefix.specs.Prefix.{bits, coversAddress, contains, prefixOrder, prefixOf}
+use Rattle.prefix.specs.Prefix.{bits, coversAddress, contains, prefixOrder, patternIn}
 use Rattle.rule.specs.Operator.{endsList, sizeOf}
 use Rattle.rule.specs.Shape.{shapeOf}
 use Rattle.rule.specs.Component.{pairAt, pairsFrom, leadOf, offsetAt, prefixEnd, bodyEnd, componentAt}
 use Rattle.rule.specs.Value.{componentsFrom, components, checkValue}
-use Rattle.rule.specs.Plain.{expectedAtStart, bodyOf, patternAfter, operandAfter, after, withoutReserved, plainOperator, plainOperand, plainAddress, clearedOctet, plainFrom, plain}
+use Rattle.rule.specs.Plain.{expectedAtStart, bodyOf, patternAfter, operandAfter, after, withoutReserved, plainOperator, plainOperand, plainPattern, clearedOctet, plainFrom, plain}
 use Rattle.rule.specs.declared.Reading.the-variants.{Rule}
 use Rattle.rule.specs.Family.{ipv4}
 use Rattle.rule.specs.Reading.{fieldSize, fieldLength, firstRule, oneRule}
 use Rattle.rule.specs.Writing.{lengthField}
 use Rattle.order.specs.Precedence.{bodyOrder, componentOrder, componentsOrder, plainOrder, precedence}
-use Rattle.rate.specs.Rate.{scaled, wholePart, wholeOf, rateOfParts, rateOf}
+use Rattle.rate.specs.Rate.{scaled, numberFor, numberOfParts, rateOfParts, rateOf}
 use Rattle.packet.specs.Header.{isUnusable, fragmentData}
 use Rattle.packet.specs.Transport.{transportOctets, transportFields}
 use Rattle.packet.specs.Packet.{fieldsOf, packetOf}
@@ -26,9 +26,9 @@ use Rattle.flowspec.specs.Examples.{Example, answerTo, examples}
 
 pub marked : map (λ (e : Example). answerTo (e .asks)) examples ≡ map (λ (e : Example). e .expects) examples
 unfolding
-    answerTo numberAt walk bits sameList coversAddress contains prefixOrder prefixOf endsList sizeOf shapeOf leadOf offsetAt pairAt pairsFrom prefixEnd bodyEnd componentAt
-    componentsFrom components checkValue expectedAtStart bodyOf patternAfter operandAfter after withoutReserved plainOperator plainOperand plainAddress clearedOctet plainFrom plain fieldSize fieldLength lengthField
-    bodyOrder componentOrder componentsOrder plainOrder precedence scaled wholePart wholeOf rateOfParts rateOf isUnusable fragmentData transportOctets transportFields fieldsOf packetOf
+    answerTo numberAt walk bits sameList coversAddress contains prefixOrder patternIn endsList sizeOf shapeOf leadOf offsetAt pairAt pairsFrom prefixEnd bodyEnd componentAt
+    componentsFrom components checkValue expectedAtStart bodyOf patternAfter operandAfter after withoutReserved plainOperator plainOperand plainPattern clearedOctet plainFrom plain fieldSize fieldLength lengthField
+    bodyOrder componentOrder componentsOrder plainOrder precedence scaled numberFor numberOfParts rateOfParts rateOf isUnusable fragmentData transportOctets transportFields fieldsOf packetOf
     numericHolds every oneHolds groupsFrom groups listHolds holdsFor bodyHolds fieldMatches fieldsFor bodyCovers componentMatches matches
 marked = refl
 

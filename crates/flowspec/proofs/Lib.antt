@@ -5,7 +5,7 @@ pub mod ChecksLaws
 pub mod CompareLaws
 pub mod WriteLaws
 pub mod FeasibilityLaws
-pub mod AskLaws
+pub mod RequestLaws
 pub mod TableLaws
 pub mod Unique
 pub mod Refusals

@@ -12,7 +12,7 @@ use Rattle.lookup.specs.declared.Verdict.the-variants.{Unmatched, Matched}
 use Rattle.flowspec.specs.declared.Comparison.the-variants.{First, Second, Same, Refused as NotCompared}
 use Rattle.flowspec.specs.declared.Feasibility.the-variants.{Feasible, Refused as NotFeasible}
 use Rattle.flowspec.specs.declared.Change.the-variants.{Done, Refused as NotDone}
-use Rattle.flowspec.specs.declared.Looked.the-variants.{Judged, Refused as NotLookedUp}
+use Rattle.flowspec.specs.declared.Looked.the-variants.{Answered, Refused as NotLookedUp}
 use Rattle.flowspec.specs.Told.{Told, readingTold, writingTold, comparisonTold, feasibilityTold, actionsTold, changeTold, lookupTold, matchPlaceTold}
 
 -- an answer, and what is expected of it: its number, its place and its values
@@ -42,9 +42,9 @@ module _ (number place start size octets end count : ℕ) (actions : Actions) wh
       ∷ expect (actionsTold Unsound) 13 0 (0 ∷ 0 ∷ 0 ∷ 0 ∷ 0 ∷ [])
       ∷ expect (changeTold Done) 0 0 []
       ∷ expect (changeTold (NotDone number place)) number place []
-      ∷ expect (lookupTold (Judged (Matched actions count))) 0 0
+      ∷ expect (lookupTold (Answered (Matched actions count))) 0 0
       (count ∷ flagsOf actions ∷ actions .marking .number ∷ actions .bytes .number ∷ actions .packets .number ∷ actions .redirect .number ∷ [])
-      ∷ expect (lookupTold (Judged Unmatched)) 0 0 (0 ∷ 0 ∷ 0 ∷ 0 ∷ 0 ∷ 0 ∷ [])
+      ∷ expect (lookupTold (Answered Unmatched)) 0 0 (0 ∷ 0 ∷ 0 ∷ 0 ∷ 0 ∷ 0 ∷ [])
       ∷ expect (lookupTold (NotLookedUp number place)) number place (0 ∷ 0 ∷ 0 ∷ 0 ∷ 0 ∷ 0 ∷ [])
       ∷ expect (matchPlaceTold (record { number = number; start = start; end = end })) number 0 (start ∷ (end - start) ∷ [])
       ∷ []

@@ -36,19 +36,19 @@ use Rattle.table.specs.Sound.{tableOf, soundTable, Encodes}
 use Rattle.table.specs.Change.{holds, removed, hasRoom, announced, withdrawn}
 use Rattle.table.proofs.ChangeLaws.{encoded, removed-none, value-octets}
 use Rattle.flowspec.specs.declared.Request.{Request}
-use Rattle.flowspec.specs.declared.Request.the-variants.{Announce, Refused as NotAsked}
+use Rattle.flowspec.specs.declared.Request.the-variants.{Announce, Refused as NoRequest}
 use Rattle.flowspec.specs.declared.Change.{Change}
 use Rattle.flowspec.specs.declared.Change.the-variants.{Done, Refused}
 use Rattle.flowspec.specs.Input.{Announcement, Policy}
 use Rattle.flowspec.specs.Feasibility.{readWithRoutes, isFeasible}
-use Rattle.flowspec.specs.Announce.{announcedEntry, Outcome, changeOf, outcome, askedBy, asked, announcedBy, announcing, withdrawnBy, withdrawing}
+use Rattle.flowspec.specs.Announce.{announcedEntry, Outcome, changeOf, outcome, requestFor, requestOf, announcedBy, announcing, withdrawnBy, withdrawing}
 use Rattle.flowspec.specs.Told.{Told, done, refused, changeTold}
 use Rattle.flowspec.specs.Checks.{endsThere, isSound}
 use Rattle.flowspec.specs.Numbers.{Yes, No, Accepts, SoundBoth, OneRule}
 use Rattle.flowspec.specs.Promise.{Announces, Withdraws}
 use Rattle.flowspec.proofs.ToldLaws.{read-first}
 use Rattle.flowspec.proofs.Numbers.{announce-numbers}
-use Rattle.flowspec.proofs.AskLaws.{octets-value}
+use Rattle.flowspec.proofs.RequestLaws.{octets-value}
 
 -- an outcome leaves the table as it was where it is refused; where it is refused with another number than 8
 abbrev Keeps : List ℕ → Outcome → Type 0
@@ -74,11 +74,11 @@ withdrew family t k number place h =
 announce-keeps : (family : Family) (policy : Policy) (a : Announcement) (t : List ℕ) → KeepsButAt8 t (announcing family policy a t)
 unfolding announcing
 announce-keeps family policy a t =
-    by-test (soundTable family t) (λ s. rw s (go (asked family policy a))) (λ s. rw s (λ number place h n. refl))
+    by-test (soundTable family t) (λ s. rw s (go (requestOf family policy a))) (λ s. rw s (λ number place h n. refl))
   where
     go : (r : Request) → KeepsButAt8 t (announcedBy family a t r)
     go (Announce start size actions feasible) = changed family t (announcedEntry family a start size actions) feasible
-    go (NotAsked number place) = λ m p h n. refl
+    go (NoRequest number place) = λ m p h n. refl
 
 withdraw-keeps : (family : Family) (rule t : List ℕ) → Keeps t (withdrawing family rule t)
 unfolding withdrawing
@@ -169,12 +169,12 @@ module _ (family : Family) (policy : Policy) (a : Announcement) (t : List ℕ) w
   -- what 8 leaves is the table without the rule
   eight-leaves : SoundBoth family policy t (OneRule family (a .rule) (Yes (isSound (actionsOf (a .communities))) × No (isFeasible family policy (valueIn (a .rule)) (a .originator))))
       → announcing family policy a t .table ≡ removed family t (keysOf family (plain family (valueIn (a .rule))))
-  unfolding announcing asked readWithRoutes
+  unfolding announcing requestOf readWithRoutes
   eight-leaves (sound, (routes, (accepts, (ends, (acts, not))))) =
       rw (sound, routes, one-rule-is family (a .rule) accepts ends) (go (actionsOf (a .communities)) acts)
     where
       go : (c : ActionsReading) → isSound c ≡ true
-          → announcedBy family a t (askedBy family policy a (Rule (fieldSize (a .rule)) (fieldLength (a .rule))) c) .table ≡ removed family t (keysOf family (plain family (valueIn (a .rule))))
+          → announcedBy family a t (requestFor family policy a (Rule (fieldSize (a .rule)) (fieldLength (a .rule))) c) .table ≡ removed family t (keysOf family (plain family (valueIn (a .rule))))
       go (Read actions) e = rw not
       go Unsound e = apart (cc)
 

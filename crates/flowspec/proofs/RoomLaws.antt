@@ -26,10 +26,10 @@ use Rattle.table.proofs.CallLaws.{plain-held}
 use Rattle.flowspec.specs.declared.Change.{Change}
 use Rattle.flowspec.specs.declared.Change.the-variants.{Refused}
 use Rattle.flowspec.specs.Input.{Announcement, Policy}
-use Rattle.flowspec.specs.Announce.{announcedEntry, changeOf, askedBy, asked, announcedBy, announcing}
+use Rattle.flowspec.specs.Announce.{announcedEntry, changeOf, requestFor, requestOf, announcedBy, announcing}
 use Rattle.flowspec.specs.Feasibility.{readWithRoutes, isFeasible}
 use Rattle.flowspec.specs.Promise.{Announces}
-use Rattle.flowspec.proofs.AskLaws.{octets-value}
+use Rattle.flowspec.proofs.RequestLaws.{octets-value}
 
 -- an answer is not 11
 abbrev Not11 : Change → Type 0
@@ -38,13 +38,13 @@ Not11 answer = (place : ℕ) → answer ≡ Refused 11 place → ⊥
 module _ (family : Family) (fits : Fits family) (policy : Policy) (a : Announcement) (t : List ℕ) (o : Octets t) (octets : Octets (a .rule))
     (start size : ℕ) (read : oneRule family (a .rule) ≡ Rule start size) (held : holds family t (keysOf family (plain family (valueOf (a .rule) start size))) ≡ true) where
   pub held-not-11 : Not11 (announcing family policy a t .answer)
-  unfolding announcing asked readWithRoutes changeOf
+  unfolding announcing requestOf readWithRoutes changeOf
   held-not-11 =
       by-test (soundTable family t)
       (λ sound. rw sound (by-test (soundRoutes family (policy .routes)) (λ r. rw (readWithRoutes, r, read) (go sound (actionsOf (a .communities)))) (λ r. rw (readWithRoutes, r) (λ place e. apart (cc)))))
       (λ sound. rw sound (λ place e. apart (cc)))
     where
-      go : soundTable family t ≡ true → (acts : ActionsReading) → Not11 (announcedBy family a t (askedBy family policy a (Rule start size) acts) .answer)
+      go : soundTable family t ≡ true → (acts : ActionsReading) → Not11 (announcedBy family a t (requestFor family policy a (Rule start size) acts) .answer)
       go sound Unsound = λ place e. apart (cc)
       go sound (Read actions) =
           let v = octets-value (a .rule) start size octets in

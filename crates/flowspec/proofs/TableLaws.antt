@@ -18,8 +18,8 @@ use Rattle.rule.proofs.ReadingLaws.{ReadRule, one-read}
 use Rattle.order.specs.Key.{keysOf}
 use Rattle.action.specs.declared.Actions.{Actions}
 use Rattle.packet.specs.declared.Packet.{Packet}
-use Rattle.packet.specs.declared.Sight.{Sight}
-use Rattle.packet.specs.declared.Sight.the-variants.{Usable, Unusable}
+use Rattle.packet.specs.declared.Reading.{Reading as PacketReading}
+use Rattle.packet.specs.declared.Reading.the-variants.{Usable, Unusable}
 use Rattle.packet.specs.Packet.{packetOf}
 use Rattle.entry.specs.Entry.{entryFor}
 use Rattle.table.specs.declared.Soundness.{Soundness}
@@ -34,21 +34,21 @@ use Rattle.table.specs.declared.Answer.{Answer}
 use Rattle.table.specs.Change.{announced, withdrawn, Ready, Leaves}
 use Rattle.table.proofs.LeaveLaws.{was-sound, was-ready, was-unsound}
 use Rattle.flowspec.specs.declared.Request.{Request}
-use Rattle.flowspec.specs.declared.Request.the-variants.{Announce, Refused as NotAsked}
+use Rattle.flowspec.specs.declared.Request.the-variants.{Announce, Refused as NoRequest}
 use Rattle.flowspec.specs.declared.Change.{Change}
 use Rattle.flowspec.specs.declared.Change.the-variants.{Refused as NotDone}
 use Rattle.flowspec.specs.declared.Looked.{Looked}
-use Rattle.flowspec.specs.declared.Looked.the-variants.{Judged, Refused as NotLookedUp}
+use Rattle.flowspec.specs.declared.Looked.the-variants.{Answered, Refused as NotLookedUp}
 use Rattle.flowspec.specs.declared.MatchPlace.{MatchPlace}
-use Rattle.flowspec.specs.Announce.{announcedEntry, Outcome, changeOf, outcome, refusal, asked, announcing, withdrawing}
-use Rattle.flowspec.specs.declared.Seen.{Seen}
-use Rattle.flowspec.specs.declared.Seen.the-variants.{Shows, Refused as NotSeen}
+use Rattle.flowspec.specs.Announce.{announcedEntry, Outcome, changeOf, outcome, refusal, requestOf, announcing, withdrawing}
+use Rattle.flowspec.specs.declared.Opening.{Opening}
+use Rattle.flowspec.specs.declared.Opening.the-variants.{With, Refused as NotOpened}
 use Rattle.flowspec.specs.Input.{Announcement, Policy}
-use Rattle.flowspec.specs.Look.{seen, noHead, lookingUp, firstMatch, matchPlace}
+use Rattle.flowspec.specs.Look.{opening, noHead, lookingUp, firstMatch, matchPlace}
 use Rattle.flowspec.specs.Told.{changeTold, verdictTold, lookupTold, matchPlaceTold}
 use Rattle.flowspec.specs.Promise.{Announces, Withdraws, LooksUp, LocatesFirst}
 use Rattle.flowspec.proofs.ToldLaws.{announce-tells, withdraw-tells, lookup-tells, locate-tells}
-use Rattle.flowspec.proofs.AskLaws.{asked-rule}
+use Rattle.flowspec.proofs.RequestLaws.{asked-rule}
 
 -- ---- announcing ----
 
@@ -65,8 +65,8 @@ module _ (family chosen : Family) (chose : chosen ≡ family) (policy : Policy) 
   unfolding announcing
   announce-unsound e = rw (← chose) (announce-kept chosen policy a t (refusal 10 0 t) _ _ (rw (was-unsound chosen t s is e)) refl refl)
 
-  module _ (used : ℕ) (e : s ≡ Sound used) (request : Request) (asks : request ≡ asked chosen policy a) where
-    pub announce-refused : (number place : ℕ) → request ≡ NotAsked number place
+  module _ (used : ℕ) (e : s ≡ Sound used) (request : Request) (asks : request ≡ requestOf chosen policy a) where
+    pub announce-refused : (number place : ℕ) → request ≡ NoRequest number place
         → Announces family policy a t (NotDone number place) t (policy .routes ∷ a .rule ∷ a .communities ∷ [])
     unfolding announcing
     announce-refused number place f =
@@ -136,17 +136,17 @@ module _ (family : Family) (t octets : List ℕ) where
 
   -- what is seen
   module _ (s : Soundness) (is : s ≡ soundness family t) where
-    pub see-unsound : s ≡ Unsound → NotSeen 10 ≡ seen family t octets
-    unfolding seen
+    pub see-unsound : s ≡ Unsound → NotOpened 10 ≡ opening family t octets
+    unfolding opening
     see-unsound e = rw (was-unsound family t s is e)
 
-    module _ (used : ℕ) (e : s ≡ Sound used) (sight : Sight) (shows : sight ≡ packetOf family octets) where
-      pub see-unusable : sight ≡ Unusable → NotSeen 12 ≡ seen family t octets
-      unfolding seen
+    module _ (used : ℕ) (e : s ≡ Sound used) (sight : PacketReading) (shows : sight ≡ packetOf family octets) where
+      pub see-unusable : sight ≡ Unusable → NotOpened 12 ≡ opening family t octets
+      unfolding opening
       see-unusable f = rw (was-sound family t s is used e .0, ← shows, f)
 
-      pub see-usable : (packet : Packet) → sight ≡ Usable packet → Shows packet ≡ seen family t octets
-      unfolding seen
+      pub see-usable : (packet : Packet) → sight ≡ Usable packet → With packet ≡ opening family t octets
+      unfolding opening
       see-usable packet f = rw (was-sound family t s is used e .0, ← shows, f)
 
 -- a lookup that judges a packet is not refused
@@ -154,8 +154,8 @@ judged-done : (verdict : Verdict) → 0 ≡ verdictTold verdict .number
 judged-done Unmatched = refl
 judged-done (Matched actions count) = refl
 
-module _ (family chosen : Family) (chose : chosen ≡ family) (t octets : List ℕ) (sees : Seen) (is : sees ≡ seen chosen t octets) where
-  module _ (number : ℕ) (e : sees ≡ NotSeen number) where
+module _ (family chosen : Family) (chose : chosen ≡ family) (t octets : List ℕ) (sees : Opening) (is : sees ≡ opening chosen t octets) where
+  module _ (number : ℕ) (e : sees ≡ NotOpened number) where
     pub look-refused : LooksUp family t octets (NotLookedUp number 0) (t ∷ octets ∷ [])
     unfolding lookingUp
     look-refused = rw (← chose) (look-kept chosen t octets _ (rw (← is, e)))
@@ -164,8 +164,8 @@ module _ (family chosen : Family) (chose : chosen ≡ family) (t octets : List �
     unfolding matchPlace lookingUp firstMatch
     locate-refused = rw (← chose) (located chosen t octets _ (rw (← is, e)) (omega arith) (omega arith))
 
-  module _ (packet : Packet) (e : sees ≡ Shows packet) where
-    pub look-judged : (verdict : Verdict) → verdict ≡ verdictFor chosen noHead packet (entries t) → LooksUp family t octets (Judged verdict) (t ∷ octets ∷ [])
+  module _ (packet : Packet) (e : sees ≡ With packet) where
+    pub look-judged : (verdict : Verdict) → verdict ≡ verdictFor chosen noHead packet (entries t) → LooksUp family t octets (Answered verdict) (t ∷ octets ∷ [])
     unfolding lookingUp
     look-judged verdict v = rw (← chose) (look-kept chosen t octets _ (rw (← is, e, v)))
 

@@ -34,12 +34,12 @@ use Rattle.table.specs.Walk.{entries}
 use Rattle.table.specs.Sound.{soundTable}
 use Rattle.lookup.specs.Lookup.{hit, collected, mergedOnto, verdictOf, verdictFor}
 use Rattle.table.specs.Change.{holds, hasRoom, withdrawn}
-use Rattle.flowspec.specs.declared.Looked.the-variants.{Judged}
+use Rattle.flowspec.specs.declared.Looked.the-variants.{Answered}
 use Rattle.flowspec.specs.Compare.{comparisonOf, compareRead, compareRules}
 use Rattle.flowspec.specs.Input.{Announcement, Policy}
 use Rattle.flowspec.specs.Feasibility.{readWithRoutes, isFeasible, judgeRead, judgement}
-use Rattle.flowspec.specs.Announce.{changeOf, askedBy, asked, announcedEntry, announcedBy, announcing, withdrawnBy, withdrawing}
-use Rattle.flowspec.specs.Look.{seen, noHead, lookingUp, firstMatch, matchPlace}
+use Rattle.flowspec.specs.Announce.{changeOf, requestFor, requestOf, announcedEntry, announcedBy, announcing, withdrawnBy, withdrawing}
+use Rattle.flowspec.specs.Look.{opening, noHead, lookingUp, firstMatch, matchPlace}
 use Rattle.flowspec.specs.Told.{Told, done, refused, readingTold, writingTold, comparisonTold, feasibilityTold, actionsTold, changeTold, verdictTold, lookupTold, matchPlaceTold}
 use Rattle.flowspec.specs.Checks.{judgeChecks, announceChecks, Check, check, oneToSeven, told, endsThere, readChecks, readValues, writeChecks, writeValues, compareChecks, compareValues, actionsChecks, actionsValues, withdrawChecks, lookupChecks, lookupValues, firstMatchValues, isSound, actionsRead}
 
@@ -153,7 +153,7 @@ module _ (family : Family) (policy : Policy) (a : Announcement) (t : List ℕ) w
       ∷ []
 
   pub announce-tells : changeTold (announcing family policy a t .answer) ≡ told (announceChecks family policy a t) []
-  unfolding announcing asked readWithRoutes changeOf
+  unfolding announcing requestOf readWithRoutes changeOf
   announce-tells =
       by-test (soundTable family t)
       (λ s. by-test (soundRoutes family (policy .routes))
@@ -162,7 +162,7 @@ module _ (family : Family) (policy : Policy) (a : Announcement) (t : List ℕ) w
       (λ s. rw s)
     where
       go : (r : Reading) → oneRule family (a .rule) ≡ r → (c : ActionsReading)
-          → changeTold (announcedBy family a t (askedBy family policy a r c) .answer) ≡ afterReading r 0 (told (behindRule c) [])
+          → changeTold (announcedBy family a t (requestFor family policy a r c) .answer) ≡ afterReading r 0 (told (behindRule c) [])
       go (NotRead number place) e c = refl
       go (Rule start size) e Unsound = refl
       go (Rule start size) e (Read actions) =
@@ -192,19 +192,19 @@ withdraw-tells family rule t =
 -- ---- looking up ----
 
 pub lookup-tells : (family : Family) (t packet : List ℕ) → lookupTold (lookingUp family t packet) ≡ told (lookupChecks family t packet) (lookupValues family t packet)
-unfolding lookingUp seen packetOf verdictFor verdictOf mergedOnto flagsOf
+unfolding lookingUp opening packetOf verdictFor verdictOf mergedOnto flagsOf
 lookup-tells family t packet =
     by-test (soundTable family t)
     (λ s. by-test (isUnusable family packet) (λ u. rw (s, u)) (λ u. rw (s, u) (go (collected (hit family noHead (fieldsOf family packet)) (entries t)))))
     (λ s. rw s)
   where
-    go : (rules : List Entry) → lookupTold (Judged (verdictOf (mergedOnto noActions rules) (length rules)))
+    go : (rules : List Entry) → lookupTold (Answered (verdictOf (mergedOnto noActions rules) (length rules)))
         ≡ done (length rules ∷ valuesOf (mergedOnto noActions rules))
     go [] = refl
     go (e ∷ es) = rw (ne-eqb (length (e ∷ es)) 0 (λ z. omega arith))
 
 pub locate-tells : (family : Family) (t packet : List ℕ) → matchPlaceTold (matchPlace family t packet) ≡ told (lookupChecks family t packet) (firstMatchValues family t packet)
-unfolding matchPlace lookingUp firstMatch seen packetOf
+unfolding matchPlace lookingUp firstMatch opening packetOf
 locate-tells family t packet =
     by-test (soundTable family t)
     (λ s. by-test (isUnusable family packet) (λ u. rw (s, u)) (λ u. rw (s, u) (go (verdictFor family noHead (fieldsOf family packet) (entries t)))))

@@ -20,7 +20,7 @@ use Rattle.table.specs.Change.{Changed, announced, withdrawn}
 use Rattle.flowspec.specs.declared.Change.{Change}
 use Rattle.flowspec.specs.declared.Change.the-variants.{Done, Refused as NotDone}
 use Rattle.flowspec.specs.declared.Request.{Request}
-use Rattle.flowspec.specs.declared.Request.the-variants.{Announce, Refused as NotAsked}
+use Rattle.flowspec.specs.declared.Request.the-variants.{Announce, Refused as NoRequest}
 use Rattle.flowspec.specs.Input.{Announcement, Policy}
 use Rattle.flowspec.specs.Feasibility.{readWithRoutes, isFeasible}
 
@@ -34,15 +34,15 @@ unfoldable pub changeOf : ℕ → Change
 changeOf number = cond (eqb number 0) Done (NotDone number 0)
 
 -- What an announcement asks: a rule that is refused is refused so, then unsound actions are 13, then the rule is judged.
-abbrev pub askedBy : Family → Policy → Announcement → Reading → ActionsReading → Request
-askedBy family policy a (NotRead number place) actions = NotAsked number place
-askedBy family policy a (Rule start size) Unsound = NotAsked 13 0
-askedBy family policy a (Rule start size) (Read actions) =
+abbrev pub requestFor : Family → Policy → Announcement → Reading → ActionsReading → Request
+requestFor family policy a (NotRead number place) actions = NoRequest number place
+requestFor family policy a (Rule start size) Unsound = NoRequest 13 0
+requestFor family policy a (Rule start size) (Read actions) =
     Announce start size actions (isFeasible family policy (valueOf (a .rule) start size) (a .originator))
 
 -- The rule is read once the routes are found sound.
-unfoldable pub asked : Family → Policy → Announcement → Request
-asked family policy a = askedBy family policy a (readWithRoutes family (policy .routes) (a .rule)) (actionsOf (a .communities))
+unfoldable pub requestOf : Family → Policy → Announcement → Request
+requestOf family policy a = requestFor family policy a (readWithRoutes family (policy .routes) (a .rule)) (actionsOf (a .communities))
 
 -- What a change of the table leaves.
 abbrev pub outcome : Changed → Outcome
@@ -60,12 +60,12 @@ announcedEntry family a start size actions =
 
 -- What an announcement leaves in a sound table.
 abbrev pub announcedBy : Family → Announcement → List ℕ → Request → Outcome
-announcedBy family a t (NotAsked number place) = refusal number place t
+announcedBy family a t (NoRequest number place) = refusal number place t
 announcedBy family a t (Announce start size actions feasible) = outcome (announced family t (announcedEntry family a start size actions) feasible)
 
 -- 01: "Announce checks 10, 9, 1 to 7, 15, 13, 8, 11".
 unfoldable pub announcing : Family → Policy → Announcement → List ℕ → Outcome
-announcing family policy a t = cond (soundTable family t) (announcedBy family a t (asked family policy a)) (refusal 10 0 t)
+announcing family policy a t = cond (soundTable family t) (announcedBy family a t (requestOf family policy a)) (refusal 10 0 t)
 
 -- What a withdrawal leaves in a sound table.
 abbrev pub withdrawnBy : Family → List ℕ → List ℕ → Reading → Outcome

@@ -14,8 +14,8 @@ use Rattle.order.specs.Precedence.{precedence}
 use Rattle.rate.specs.declared.Rate.{Rate}
 use Rattle.rate.specs.declared.Rate.the-variants.{Number, NotANumber}
 use Rattle.rate.specs.Rate.{rateOf}
-use Rattle.packet.specs.declared.Sight.{Sight}
-use Rattle.packet.specs.declared.Sight.the-variants.{Usable, Unusable}
+use Rattle.packet.specs.declared.Reading.{Reading as PacketReading}
+use Rattle.packet.specs.declared.Reading.the-variants.{Usable, Unusable}
 use Rattle.packet.specs.Packet.{packetOf}
 use Rattle.packet.specs.Match.{matches}
 use Rattle.flowspec.specs.Compare.{comparisonOf}
@@ -42,7 +42,7 @@ ratedAs (Number n) = 0 ∷ n ∷ []
 ratedAs NotANumber = 13 ∷ []
 
 -- 1 where the packet matches, 0 where it does not, 12 where it is unusable.
-abbrev pub matchedAs : List ℕ → Sight → List ℕ
+abbrev pub matchedAs : List ℕ → PacketReading → List ℕ
 matchedAs v Unusable = 12 ∷ []
 matchedAs v (Usable packet) = toNumber (matches ipv4 v packet)
   where

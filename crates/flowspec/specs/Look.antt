@@ -4,50 +4,50 @@ use Prim.Native.Nat.{ℕ}
 use mathlib.Core.Bool.{cond}
 use mathlib.Core.List.{List, []}
 use Rattle.rule.specs.declared.Family.{Family}
-use Rattle.packet.specs.declared.Sight.{Sight}
-use Rattle.packet.specs.declared.Sight.the-variants.{Usable, Unusable}
+use Rattle.packet.specs.declared.Reading.{Reading as PacketReading}
+use Rattle.packet.specs.declared.Reading.the-variants.{Usable, Unusable}
 use Rattle.packet.specs.Packet.{packetOf}
 use Rattle.table.specs.declared.Place.{Place}
 use Rattle.table.specs.Walk.{entries}
 use Rattle.table.specs.Sound.{soundTable}
 use Rattle.lookup.specs.Lookup.{hit, verdictFor, firstPlace}
 use Rattle.flowspec.specs.declared.Looked.{Looked}
-use Rattle.flowspec.specs.declared.Looked.the-variants.{Judged, Refused}
+use Rattle.flowspec.specs.declared.Looked.the-variants.{Answered, Refused}
 use Rattle.flowspec.specs.declared.MatchPlace.{MatchPlace}
-use Rattle.flowspec.specs.declared.Seen.{Seen}
-use Rattle.flowspec.specs.declared.Seen.the-variants.{Shows, Refused as NotSeen}
+use Rattle.flowspec.specs.declared.Opening.{Opening}
+use Rattle.flowspec.specs.declared.Opening.the-variants.{With, Refused as NotOpened}
 use Rattle.flowspec.specs.Told.{lookupTold}
 
 -- An unusable packet is 12.
-abbrev pub shown : Sight → Seen
-shown Unusable = NotSeen 12
-shown (Usable packet) = Shows packet
+abbrev pub openingOf : PacketReading → Opening
+openingOf Unusable = NotOpened 12
+openingOf (Usable packet) = With packet
 
 -- 01: "lookup 10, 12": what the packet shows, or the number of the refusal.
-unfoldable pub seen : Family → List ℕ → List ℕ → Seen
-seen family t octets = cond (soundTable family t) (shown (packetOf family octets)) (NotSeen 10)
+unfoldable pub opening : Family → List ℕ → List ℕ → Opening
+opening family t octets = cond (soundTable family t) (openingOf (packetOf family octets)) (NotOpened 10)
 
 -- The head that a packet is asked for under: a lookup names no head today.
 abbrev pub noHead : List ℕ
 noHead = []
 
 -- What a table says of a packet.
-abbrev pub lookedUp : Family → List ℕ → Seen → Looked
-lookedUp family t (NotSeen number) = Refused number 0
-lookedUp family t (Shows packet) = Judged (verdictFor family noHead packet (entries t))
+abbrev pub lookedUp : Family → List ℕ → Opening → Looked
+lookedUp family t (NotOpened number) = Refused number 0
+lookedUp family t (With packet) = Answered (verdictFor family noHead packet (entries t))
 
 -- Looking a packet up.
 unfoldable pub lookingUp : Family → List ℕ → List ℕ → Looked
-lookingUp family t octets = lookedUp family t (seen family t octets)
+lookingUp family t octets = lookedUp family t (opening family t octets)
 
 -- Where the first match's record stands; nowhere is an empty part at octet 0.
-abbrev pub firstIn : Family → List ℕ → Seen → Place
-firstIn family t (NotSeen number) = record { start = 0; end = 0 }
-firstIn family t (Shows packet) = firstPlace (hit family noHead packet) 0 (entries t)
+abbrev pub firstIn : Family → List ℕ → Opening → Place
+firstIn family t (NotOpened number) = record { start = 0; end = 0 }
+firstIn family t (With packet) = firstPlace (hit family noHead packet) 0 (entries t)
 
 -- The first match.
 unfoldable pub firstMatch : Family → List ℕ → List ℕ → Place
-firstMatch family t octets = firstIn family t (seen family t octets)
+firstMatch family t octets = firstIn family t (opening family t octets)
 
 -- The same with the lookup's number.
 unfoldable pub matchPlace : Family → List ℕ → List ℕ → MatchPlace

@@ -19,7 +19,7 @@ use Rattle.flowspec.specs.declared.Feasibility.the-variants.{Feasible, R
 use Rattle.flowspec.specs.declared.Change.{Change}
 use Rattle.flowspec.specs.declared.Change.the-variants.{Done, Refused as NotDone}
 use Rattle.flowspec.specs.declared.Looked.{Looked}
-use Rattle.flowspec.specs.declared.Looked.the-variants.{Judged, Refused as NotLookedUp}
+use Rattle.flowspec.specs.declared.Looked.the-variants.{Answered, Refused as NotLookedUp}
 use Rattle.flowspec.specs.declared.MatchPlace.{MatchPlace}
 
 -- What an answer says.
@@ -76,7 +76,7 @@ verdictTold (Matched actions count) = done (count ∷ valuesOf actions)
 
 -- The verdict's, where the packet was judged.
 abbrev pub lookupTold : Looked → Told
-lookupTold (Judged verdict) = verdictTold verdict
+lookupTold (Answered verdict) = verdictTold verdict
 lookupTold (NotLookedUp number place) = refused number place 6
 
 -- A part of a table, by its start and length.

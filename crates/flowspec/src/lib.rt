@@ -9,14 +9,13 @@ ghost use Rattle.flowspec.specs.Compare.{comparisonOf};
 ghost use Rattle.flowspec.specs.Feasibility.{readWithRoutes, isFeasible, feasibilityOf};
 ghost use Rattle.flowspec.specs.Input.{announcementOf, policyOf};
 ghost use Rattle.flowspec.specs.Promise.{ReadsOne, WritesOne, ComparesTwo, JudgesOne, ReadsActions, Announces, Withdraws, LooksUp, LocatesFirst, FirstMatches};
-ghost use Rattle.flowspec.specs.Announce.{changeOf, asked};
-ghost use Rattle.flowspec.specs.Look.{seen};
+ghost use Rattle.flowspec.specs.Announce.{changeOf, requestOf};
+ghost use Rattle.flowspec.specs.Look.{opening};
 use action::Actions;
 use entry::Head;
 use lookup::Verdict;
 use octets::Order;
 use packet::Packet;
-use packet::Sight;
 use rule::Family;
 use rule::Reading;
 use rule::Writing;
@@ -63,14 +62,14 @@ pub enum Change {
 }
 
 // What a lookup begins with: what the packet shows, or the number of a refusal.
-pub enum Seen {
-    Shows(Packet),
+pub enum Opening {
+    With(Packet),
     Refused(u8),
 }
 
 // What a lookup answers: a verdict, or a refusal.
 pub enum Looked {
-    Judged(Verdict),
+    Answered(Verdict),
     Refused { number: u8, place: usize },
 }
 
@@ -224,7 +223,7 @@ pub fn read_actions(communities: &[u8]) -> action::Reading
 }
 
 // Reads and judges an announcement, in the order in which 01 has the checks.
-fn ask(
+fn request_of(
     family: Family,
     allows_no_destination: bool,
     routes: &[u32],
@@ -233,7 +232,7 @@ fn ask(
     communities: &[u8],
 ) -> Request
     requires { ⌜ Fits family ⌝ }
-    ensures { λ r. ⌜ r ≡ asked family (policyOf (now (routes .entry)) «allows_no_destination») (announcementOf (now (rule .entry)) originator (now (communities .entry))) ⌝ }
+    ensures { λ r. ⌜ r ≡ requestOf family (policyOf (now (routes .entry)) «allows_no_destination») (announcementOf (now (rule .entry)) originator (now (communities .entry))) ⌝ }
 {
     match read_with_routes(family, routes, rule) {
         Reading::Refused { number, place } => Request::Refused { number, place },
@@ -290,7 +289,7 @@ pub fn announce(
             number: 10,
             place: 0,
         },
-        Soundness::Sound(used) => match ask(
+        Soundness::Sound(used) => match request_of(
             family,
             allows_no_destination,
             routes,
@@ -346,15 +345,15 @@ pub fn withdraw(family: AddressFamily, table: &mut [u8], rule: &[u8]) -> Change
 }
 
 // Checks a table, and sees a packet.
-fn see(family: Family, table: &[u8], packet: &[u8]) -> Seen
+fn open_lookup(family: Family, table: &[u8], packet: &[u8]) -> Opening
     requires { ⌜ Fits family ⌝ }
-    ensures { λ r. ⌜ r ≡ seen family (now (table .entry)) (now (packet .entry)) ⌝ }
+    ensures { λ r. ⌜ r ≡ opening family (now (table .entry)) (now (packet .entry)) ⌝ }
 {
     match table::sound_table(family, table) {
-        Soundness::Unsound => Seen::Refused(10),
+        Soundness::Unsound => Opening::Refused(10),
         Soundness::Sound(_) => match packet::packet_of(family, packet) {
-            Sight::Unusable => Seen::Refused(12),
-            Sight::Usable(sight) => Seen::Shows(sight),
+            packet::Reading::Unusable => Opening::Refused(12),
+            packet::Reading::Usable(sight) => Opening::With(sight),
         },
     }
 }
@@ -364,9 +363,9 @@ pub fn lookup(family: AddressFamily, table: &[u8], packet: &[u8]) -> Looked
     ensures { λ r. ⌜ LooksUp (familyOf family) (now (table .entry)) (now (packet .entry)) r (now (table .exit) ∷ now (packet .exit) ∷ []) ⌝ }
 {
     let family = family_of(family);
-    match see(family, table, packet) {
-        Seen::Refused(number) => Looked::Refused { number, place: 0 },
-        Seen::Shows(sight) => Looked::Judged(lookup::look_up(family, b"", table, sight)),
+    match open_lookup(family, table, packet) {
+        Opening::Refused(number) => Looked::Refused { number, place: 0 },
+        Opening::With(sight) => Looked::Answered(lookup::look_up(family, b"", table, sight)),
     }
 }
 
@@ -375,13 +374,13 @@ pub fn first_match_place(family: AddressFamily, table: &[u8], packet: &[u8]) -> 
     ensures { λ r. ⌜ LocatesFirst (familyOf family) (now (table .entry)) (now (packet .entry)) r (now (table .exit) ∷ now (packet .exit) ∷ []) ⌝ }
 {
     let family = family_of(family);
-    match see(family, table, packet) {
-        Seen::Refused(number) => MatchPlace {
+    match open_lookup(family, table, packet) {
+        Opening::Refused(number) => MatchPlace {
             number,
             start: 0,
             end: 0,
         },
-        Seen::Shows(sight) => {
+        Opening::With(sight) => {
             let place = lookup::first_place(family, b"", table, sight);
             MatchPlace {
                 number: 0,

@@ -23,11 +23,11 @@ use Rattle.action.specs.declared.Reading.the-variants.{Read}
 use Rattle.action.specs.Actions.{actionsOf}
 use Rattle.entry.specs.Entry.{entryKey}
 use Rattle.flowspec.specs.declared.Request.{Request}
-use Rattle.flowspec.specs.declared.Request.the-variants.{Announce, Refused as NotAsked}
+use Rattle.flowspec.specs.declared.Request.the-variants.{Announce, Refused as NoRequest}
 use Rattle.flowspec.specs.Input.{Announcement, Policy}
-use Rattle.flowspec.specs.Announce.{asked}
-use Rattle.history.specs.History.{Call, announcement, withdrawal, Made, CanBe, EachCanBe, deed, deedOf, asksToAnnounce, asksToWithdraw, asks, askedOf, numberOf, lastCounted, Agree, endOf, emptyTable, FromEmpty, EndAlike}
-use Rattle.flowspec.proofs.AskLaws.{octets-value, asked-from}
+use Rattle.flowspec.specs.Announce.{requestOf}
+use Rattle.history.specs.History.{Call, announcement, withdrawal, Made, CanBe, EachCanBe, deed, deedOf, announceOperation, withdrawOperation, operationOf, operationMade, numberOf, lastCounted, Agree, endOf, emptyTable, FromEmpty, EndAlike}
+use Rattle.flowspec.proofs.RequestLaws.{octets-value, asked-from}
 use Rattle.history.proofs.HistoryLaws.{histories-agree}
 use Rattle.flowspec.proofs.PlainLaws.{feasible-alone}
 use Rattle.flowspec.proofs.Unique.{one-lookup, one-first-match}
@@ -51,28 +51,28 @@ module _ (family : Family) (policy : Policy) where
   -- what is known of a counted call about a rule
   record Settled (k : RuleKey) (call : Call) : Type 0 where
     pub can : CanBe call
-    pub about : isAbout keyOrder (entryKey family) k (asks family policy call) ≡ true
+    pub about : isAbout keyOrder (entryKey family) k (operationOf family policy call) ≡ true
 
   abbrev SettledLast : RuleKey → Option Made → Type 0
   SettledLast k none = Unit {0}
   SettledLast k (some m) = Settled k (m .call)
 
   last-settled : (k : RuleKey) (h : List Made) (before : Option Made) → EachCanBe h → SettledLast k before
-      → SettledLast k (lastFrom keyOrder (entryKey family) (askedOf family policy) numberOf before k h)
+      → SettledLast k (lastFrom keyOrder (entryKey family) (operationMade family policy) numberOf before k h)
   last-settled k [] before can settled = settled
   last-settled k (m ∷ h) before can settled =
-      let counted = isCounted keyOrder (entryKey family) (askedOf family policy) numberOf k m in
+      let counted = isCounted keyOrder (entryKey family) (operationMade family policy) numberOf k m in
       last-settled k h (cond counted (some m) before) (can .1)
       (by-test counted (λ e.
-      rw e (record { can = can .0; about = both (counts (askedOf family policy m) (numberOf m)) (isAbout keyOrder (entryKey family) k (askedOf family policy m)) e .1 })) (λ e. rw e settled))
+      rw e (record { can = can .0; about = both (counts (operationMade family policy m) (numberOf m)) (isAbout keyOrder (entryKey family) k (operationMade family policy m)) e .1 })) (λ e. rw e settled))
 
   -- announcements of one rule by one originator with the same actions as read leave the same in force
   module _ (k : RuleKey) (a b : Announcement) (o : Octets (a .rule)) (p : Octets (b .rule)) (founders : a .originator ≡ b .originator)
       (read : actionsOf (a .communities) ≡ actionsOf (b .communities)) where
-    same-announced : Fits family → (q r : Request) → asked family policy a ≡ q → asked family policy b ≡ r → isAbout keyOrder (entryKey family) k (asksToAnnounce family a q) ≡ true
-        → isAbout keyOrder (entryKey family) k (asksToAnnounce family b r) ≡ true → inForce (asksToAnnounce family a q) ≡ inForce (asksToAnnounce family b r)
-    same-announced fits (NotAsked number place) r is also x y = apart (cc)
-    same-announced fits (Announce start size actions good) (NotAsked number place) is also x y = apart (cc)
+    same-announced : Fits family → (q r : Request) → requestOf family policy a ≡ q → requestOf family policy b ≡ r → isAbout keyOrder (entryKey family) k (announceOperation family a q) ≡ true
+        → isAbout keyOrder (entryKey family) k (announceOperation family b r) ≡ true → inForce (announceOperation family a q) ≡ inForce (announceOperation family b r)
+    same-announced fits (NoRequest number place) r is also x y = apart (cc)
+    same-announced fits (Announce start size actions good) (NoRequest number place) is also x y = apart (cc)
     same-announced fits (Announce start size actions good) (Announce from extent acts fine) is also x y =
         let one = asked-from family policy a start size actions good is in
         let two = asked-from family policy b from extent acts fine also in
@@ -89,12 +89,12 @@ module _ (family : Family) (policy : Policy) where
         let judged : good ≡ fine = one .is ∙ feasible-alone family fits policy value other (a .originator) v w values ∙ rw founders (sym (two .is)) in
         rw (judged, same, values, founders)
 
-  none-withdrawn : (rule : List ℕ) (r : Reading) → inForce (asksToWithdraw family rule r) ≡ none
+  none-withdrawn : (rule : List ℕ) (r : Reading) → inForce (withdrawOperation family rule r) ≡ none
   none-withdrawn rule (Rule start size) = refl
   none-withdrawn rule (NotRead number place) = refl
 
   same-in-force : Fits family → (k : RuleKey) (call other : Call) → Settled k call → Settled k other → deed call ≡ deed other
-      → inForce (asks family policy call) ≡ inForce (asks family policy other)
+      → inForce (operationOf family policy call) ≡ inForce (operationOf family policy other)
   same-in-force fits k (announcement a) (withdrawal other) s z e = apart (cc)
   same-in-force fits k (withdrawal rule) (announcement b) s z e = apart (cc)
   same-in-force fits k (withdrawal rule) (withdrawal other) s z e =
@@ -102,10 +102,10 @@ module _ (family : Family) (policy : Policy) where
   same-in-force fits k (announcement a) (announcement b) s z e =
       let founders : a .originator ≡ b .originator = cc in
       let read : actionsOf (a .communities) ≡ actionsOf (b .communities) = cc in
-      same-announced k a b (s .can .0) (z .can .0) founders read fits (asked family policy a) (asked family policy b) refl refl (s .about) (z .about)
+      same-announced k a b (s .can .0) (z .can .0) founders read fits (requestOf family policy a) (requestOf family policy b) refl refl (s .about) (z .about)
 
   same-last : Fits family → (k : RuleKey) (a b : Option Made) → SettledLast k a → SettledLast k b → deedOf a ≡ deedOf b
-      → leavesInForce (askedOf family policy) a ≡ leavesInForce (askedOf family policy) b
+      → leavesInForce (operationMade family policy) a ≡ leavesInForce (operationMade family policy) b
   same-last fits k none none s z e = refl
   same-last fits k none (some m) s z e = apart (cc)
   same-last fits k (some m) none s z e = apart (cc)

@@ -32,7 +32,7 @@ use Rattle.order.proofs.KeyLaws.{key-order}
 use Rattle.entry.specs.Entry.{Entry, entryKey, possible}
 use Rattle.entry.proofs.ValueLaws.{make-possible}
 use Rattle.table.specs.Walk.{entries}
-use Rattle.table.specs.Sound.{cost, tableOf, joined, Encodes, mostOctets}
+use Rattle.table.specs.Sound.{cost, tableOf, recordsOf, Encodes, mostOctets}
 use Rattle.table.specs.Change.{holds, hasRoom, inserted, announced, withdrawn}
 use Rattle.table.proofs.SpliceLaws.{length-table}
 use Rattle.table.proofs.LeaveLaws.{encoding, removed-encodes, removed-long}
@@ -40,12 +40,12 @@ use Rattle.table.proofs.SoundLaws.{encodes-sound, encodes-entries}
 use Rattle.table.proofs.CallLaws.{plain-held}
 use Rattle.flowspec.specs.declared.Change.{Change}
 use Rattle.flowspec.specs.declared.Request.{Request}
-use Rattle.flowspec.specs.declared.Request.the-variants.{Announce, Refused as NotAsked}
+use Rattle.flowspec.specs.declared.Request.the-variants.{Announce, Refused as NoRequest}
 use Rattle.flowspec.specs.Input.{Announcement, Policy}
-use Rattle.flowspec.specs.Announce.{announcedEntry, Outcome, changeOf, outcome, asked, announcedBy, announcing, withdrawnBy, withdrawing}
-use Rattle.history.specs.History.{Call, announcement, withdrawal, Made, CanBe, EachCanBe, asksToAnnounce, asksToWithdraw, asks, Promised, Happened, askedOf, numberOf, inForceAfter, endOf, emptyTable, FromEmpty, HoldsExactly}
+use Rattle.flowspec.specs.Announce.{announcedEntry, Outcome, changeOf, outcome, requestOf, announcedBy, announcing, withdrawnBy, withdrawing}
+use Rattle.history.specs.History.{Call, announcement, withdrawal, Made, CanBe, EachCanBe, announceOperation, withdrawOperation, operationOf, Promised, Happened, operationMade, numberOf, inForceAfter, endOf, emptyTable, FromEmpty, HoldsExactly}
 use Rattle.flowspec.specs.Told.{changeTold}
-use Rattle.flowspec.proofs.AskLaws.{octets-value, asked-from}
+use Rattle.flowspec.proofs.RequestLaws.{octets-value, asked-from}
 
 -- an outcome on octets is one on entries: the same answer, and the entries' encoding in a buffer of the same length
 record Same (family : Family) (n : ℕ) (o : Outcome) (a : S.Outcome Entry) : Type 0 where
@@ -84,15 +84,15 @@ module _ (family : Family) (t : List ℕ) (es : List Entry) (c : Encodes family 
 
 -- what is asked to be announced could be
 abbrev pub Could : Family → Announcement → Request → Type 0
-Could family a (NotAsked number place) = Unit {0}
+Could family a (NoRequest number place) = Unit {0}
 Could family a (Announce start size actions feasible) = possible family (announcedEntry family a start size actions) ≡ true
 
-pub asked-could : (family : Family) (policy : Policy) (a : Announcement) → Octets (a .rule) → a .originator < 2 ^ 32 → Could family a (asked family policy a)
+pub asked-could : (family : Family) (policy : Policy) (a : Announcement) → Octets (a .rule) → a .originator < 2 ^ 32 → Could family a (requestOf family policy a)
 asked-could family policy a o small =
-    go (asked family policy a) refl
+    go (requestOf family policy a) refl
   where
-    go : (r : Request) → asked family policy a ≡ r → Could family a r
-    go (NotAsked number place) e = tt
+    go : (r : Request) → requestOf family policy a ≡ r → Could family a r
+    go (NoRequest number place) e = tt
     go (Announce start size actions feasible) e =
         let from = asked-from family policy a start size actions feasible e in
         let octets = octets-value (a .rule) start size o in
@@ -103,28 +103,28 @@ asked-could family policy a o small =
 -- one call
 module _ (family : Family) (policy : Policy) (t : List ℕ) (es : List Entry) (c : Encodes family t es) where
   same-announcing : (a : Announcement) → Octets (a .rule) → a .originator < 2 ^ 32
-      → Same family (length t) (announcing family policy a t) (apply keyOrder (entryKey family) cost (length t) (asks family policy (announcement a)) es)
+      → Same family (length t) (announcing family policy a t) (apply keyOrder (entryKey family) cost (length t) (operationOf family policy (announcement a)) es)
   unfolding announcing
   same-announcing a o small =
-      rw (encodes-sound family t es c) (go (asked family policy a) (asked-could family policy a o small))
+      rw (encodes-sound family t es c) (go (requestOf family policy a) (asked-could family policy a o small))
     where
       go : (r : Request) → Could family a r
-          → Same family (length t) (announcedBy family a t r) (apply keyOrder (entryKey family) cost (length t) (asksToAnnounce family a r) es)
-      go (NotAsked number place) ok = record { answers = refl; encodes = c; long = refl }
+          → Same family (length t) (announcedBy family a t r) (apply keyOrder (entryKey family) cost (length t) (announceOperation family a r) es)
+      go (NoRequest number place) ok = record { answers = refl; encodes = c; long = refl }
       go (Announce start size actions feasible) ok =
           same-announced family t es c (announcedEntry family a start size actions) feasible ok
 
   same-withdrawing : (rule : List ℕ)
-      → Same family (length t) (withdrawing family rule t) (apply keyOrder (entryKey family) cost (length t) (asks family policy (withdrawal rule)) es)
+      → Same family (length t) (withdrawing family rule t) (apply keyOrder (entryKey family) cost (length t) (operationOf family policy (withdrawal rule)) es)
   unfolding withdrawing
   same-withdrawing rule = rw (encodes-sound family t es c) (go (oneRule family rule))
     where
-      go : (r : Reading) → Same family (length t) (withdrawnBy family t rule r) (apply keyOrder (entryKey family) cost (length t) (asksToWithdraw family rule r) es)
+      go : (r : Reading) → Same family (length t) (withdrawnBy family t rule r) (apply keyOrder (entryKey family) cost (length t) (withdrawOperation family rule r) es)
       go (NotRead number place) = record { answers = refl; encodes = c; long = refl }
       go (Rule start size) = same-withdrawn family t es c (keysOf family (plain family (valueOf rule start size)))
 
   same-made : (call : Call) (answer : Change) (left : List ℕ) → CanBe call → Promised family policy call t answer left
-      → Same family (length t) (record { answer = answer; table = left }) (apply keyOrder (entryKey family) cost (length t) (asks family policy call) es)
+      → Same family (length t) (record { answer = answer; table = left }) (apply keyOrder (entryKey family) cost (length t) (operationOf family policy call) es)
   same-made (announcement a) answer left can p = rw (p .is, p .leaves) (same-announcing a (can .0) (can .1))
   same-made (withdrawal rule) answer left can p = rw (p .is, p .leaves) (same-withdrawing rule)
 
@@ -132,24 +132,24 @@ module _ (family : Family) (policy : Policy) (t : List ℕ) (es : List Entry) (c
 module _ (family : Family) (policy : Policy) where
   step : (n : ℕ) (m : Made) (t : List ℕ) (es : List Entry) → Encodes family t es → length t ≡ n → CanBe (m .call)
       → Promised family policy (m .call) t (m .answer) (m .left)
-      → Same family n (record { answer = m .answer; table = m .left }) (apply keyOrder (entryKey family) cost n (askedOf family policy m) es)
+      → Same family n (record { answer = m .answer; table = m .left }) (apply keyOrder (entryKey family) cost n (operationMade family policy m) es)
   step n m t es c long can made =
       subst
-      (λ (size : ℕ). Same family size (record { answer = m .answer; table = m .left }) (apply keyOrder (entryKey family) cost size (askedOf family policy m) es))
+      (λ (size : ℕ). Same family size (record { answer = m .answer; table = m .left }) (apply keyOrder (entryKey family) cost size (operationMade family policy m) es))
       long
       (same-made family policy t es c (m .call) (m .answer) (m .left) can made)
 
   record Follows (n : ℕ) (h : List Made) (t : List ℕ) (es : List Entry) : Type 0 where
-    pub encodes : Encodes family (endOf t h) (run keyOrder (entryKey family) cost n (askedOf family policy) h es)
+    pub encodes : Encodes family (endOf t h) (run keyOrder (entryKey family) cost n (operationMade family policy) h es)
     pub long : length (endOf t h) ≡ n
-    pub ran : Ran keyOrder (entryKey family) cost n (askedOf family policy) numberOf h es
+    pub ran : Ran keyOrder (entryKey family) cost n (operationMade family policy) numberOf h es
 
   follows : (n : ℕ) (h : List Made) (t : List ℕ) (es : List Entry) → Encodes family t es → length t ≡ n → EachCanBe h → Happened family policy t h
       → Follows n h t es
   follows n [] t es c long can made = record { encodes = c; long = long; ran = tt }
   follows n (m ∷ h) t es c long can made =
       let same = step n m t es c long (can .0) (made .0) in
-      let rest = follows n h (m .left) (apply keyOrder (entryKey family) cost n (askedOf family policy m) es .table) (same .encodes) (same .long) (can .1) (made .1) in
+      let rest = follows n h (m .left) (apply keyOrder (entryKey family) cost n (operationMade family policy m) es .table) (same .encodes) (same .long) (can .1) (made .1) in
       record { encodes = rest .encodes; long = rest .long; ran = (same .answers, rest .ran) }
 
 -- the empty table is the encoding of no entries
@@ -157,7 +157,7 @@ long-empty : (n : ℕ) → length (emptyTable n) ≡ n
 long-empty n = length-replicate {A = ℕ} n 0
 
 empty-encodes : (family : Family) (n : ℕ) → n ≤ mostOctets → Encodes family (emptyTable n) []
-unfolding tableOf joined every
+unfolding tableOf recordsOf every
 empty-encodes family n h =
     let long = long-empty n in
     record { short = omega arith; room = omega arith; each = refl; rising = tt; is = rw (long, sub-zero n) }
@@ -169,7 +169,7 @@ module _ (family : Family) (policy : Policy) (n : ℕ) where
 
   module _ (h : List Made) (made : FromEmpty family policy n h) where
     abbrev left : List Entry
-    left = run keyOrder (entryKey family) cost n (askedOf family policy) h []
+    left = run keyOrder (entryKey family) cost n (operationMade family policy) h []
 
     followed : Follows family policy n h (emptyTable n) []
     followed = follows family policy n h (emptyTable n) [] (empty-encodes family n (made .fits)) (long-empty n) (made .given) (made .happened)
@@ -181,7 +181,7 @@ module _ (family : Family) (policy : Policy) (n : ℕ) where
     pub history-holds : HoldsExactly family policy n h (after h)
     history-holds =
         record {
-          exactly = λ e. rw entries-left (run-holds keyOrder (entryKey family) cost n (askedOf family policy) numberOf key-order h (followed .ran) e);
+          exactly = λ e. rw entries-left (run-holds keyOrder (entryKey family) cost n (operationMade family policy) numberOf key-order h (followed .ran) e);
           sound = rw entries-left (followed .encodes);
           sized = followed .long;
         }
@@ -192,5 +192,5 @@ module _ (family : Family) (policy : Policy) (n : ℕ) where
   histories-agree h g made also agree =
       let first = followed h made in
       let second = followed g also in
-      let same = run-agree keyOrder (entryKey family) cost n (askedOf family policy) numberOf key-order h g (first .ran) (second .ran) agree in
+      let same = run-agree keyOrder (entryKey family) cost n (operationMade family policy) numberOf key-order h g (first .ran) (second .ran) agree in
       first .encodes .is ∙ ap₂ tableOf (first .long ∙ sym (second .long)) same ∙ sym (second .encodes .is)

@@ -30,12 +30,12 @@ use Rattle.flowspec.specs.declared.Change.{Change}
 use Rattle.flowspec.specs.declared.Change.the-variants.{Done, Refused}
 use Rattle.flowspec.specs.declared.Comparison.the-variants.{Same}
 use Rattle.flowspec.specs.declared.Request.{Request}
-use Rattle.flowspec.specs.declared.Request.the-variants.{Announce, Refused as NotAsked}
+use Rattle.flowspec.specs.declared.Request.the-variants.{Announce, Refused as NoRequest}
 use Rattle.flowspec.specs.Input.{Announcement, Policy}
-use Rattle.flowspec.specs.Announce.{announcedEntry, Outcome, changeOf, asked, announcedBy, announcing, withdrawing}
+use Rattle.flowspec.specs.Announce.{announcedEntry, Outcome, changeOf, requestOf, announcedBy, announcing, withdrawing}
 use Rattle.flowspec.specs.Compare.{compareRules}
 use Rattle.flowspec.specs.Promise.{Announces, Withdraws}
-use Rattle.flowspec.proofs.AskLaws.{octets-value, asked-from}
+use Rattle.flowspec.proofs.RequestLaws.{octets-value, asked-from}
 use Rattle.history.proofs.HistoryLaws.{asked-could}
 
 module _ (family : Family) (policy : Policy) (a : Announcement) where
@@ -44,7 +44,7 @@ module _ (family : Family) (policy : Policy) (a : Announcement) where
     pub start : ℕ
     pub size : ℕ
     pub actions : Actions
-    pub asks : asked family policy a ≡ Announce start size actions true
+    pub requests : requestOf family policy a ≡ Announce start size actions true
     pub sound : soundTable family t ≡ true
     pub room : hasRoom family t (announcedEntry family a start size actions) ≡ true
     pub is : left ≡ inserted family t (announcedEntry family a start size actions)
@@ -52,19 +52,19 @@ module _ (family : Family) (policy : Policy) (a : Announcement) where
   done-stored : (t left : List ℕ) (kept : List (List ℕ)) → Announces family policy a t Done left kept → Stored t left
   unfolding announcing changeOf
   done-stored t left kept p =
-      by-test (soundTable family t) (λ s. go s (asked family policy a) refl (rw s at (p .is)) (rw s at (p .leaves)))
+      by-test (soundTable family t) (λ s. go s (requestOf family policy a) refl (rw s at (p .is)) (rw s at (p .leaves)))
       (λ s. let z : Done ≡ Refused 10 0 = rw s at (p .is) in apart (cc))
     where
-      go : soundTable family t ≡ true → (r : Request) → asked family policy a ≡ r → Done ≡ announcedBy family a t r .answer
+      go : soundTable family t ≡ true → (r : Request) → requestOf family policy a ≡ r → Done ≡ announcedBy family a t r .answer
           → left ≡ announcedBy family a t r .table → Stored t left
-      go s (NotAsked number place) e says l = apart (cc)
+      go s (NoRequest number place) e says l = apart (cc)
       go s (Announce start size actions false) e says l = let z : Done ≡ Refused 8 0 = says in apart (cc)
       go s (Announce start size actions true) e says l =
           by-test (hasRoom family t (announcedEntry family a start size actions))
-          (λ h. record { start = start; size = size; actions = actions; asks = e; sound = s; room = h; is = rw h at l })
+          (λ h. record { start = start; size = size; actions = actions; requests = e; sound = s; room = h; is = rw h at l })
           (λ h. let z : Done ≡ Refused 11 0 = rw h at says in apart (cc))
 
-  stores : (t : List ℕ) (start size : ℕ) (actions : Actions) → asked family policy a ≡ Announce start size actions true
+  stores : (t : List ℕ) (start size : ℕ) (actions : Actions) → requestOf family policy a ≡ Announce start size actions true
       → soundTable family t ≡ true → hasRoom family t (announcedEntry family a start size actions) ≡ true
       → announcing family policy a t ≡ record { answer = Done; table = inserted family t (announcedEntry family a start size actions) }
   unfolding announcing changeOf
@@ -74,7 +74,7 @@ module _ (family : Family) (policy : Policy) (a : Announcement) where
   one-entry : (t left u exit : List ℕ) (s : Stored t left) (r : Stored u exit)
       → announcedEntry family a (s .start) (s .size) (s .actions) ≡ announcedEntry family a (r .start) (r .size) (r .actions)
   one-entry t left u exit s r =
-      let same = sym (s .asks) ∙ r .asks in
+      let same = sym (s .requests) ∙ r .requests in
       let starts : s .start ≡ r .start = cc in
       let sizes : s .size ≡ r .size = cc in
       let acts : s .actions ≡ r .actions = cc in
@@ -92,20 +92,20 @@ module _ (family : Family) (policy : Policy) (a : Announcement) where
     before = sound-encodes family t octets (stored .sound)
 
     could : possible family entered ≡ true
-    could = rw (stored .asks) at (asked-could family policy a o small)
+    could = rw (stored .requests) at (asked-could family policy a o small)
 
     -- **the same announcement twice**: the second is done too, and changes nothing
     pub announced-twice : (answer : Change) (exit : List ℕ) (held : List (List ℕ)) → Announces family policy a left answer exit held
         → (answer ≡ Done) × (exit ≡ left)
     announced-twice answer exit held q =
-        let again = stores (inserted family t entered) (stored .start) (stored .size) (stored .actions) (stored .asks) (sound-with family t before entered could (stored .room)) (room-again family t before entered could (stored .room)) in
-        let asks = ap (announcing family policy a) (stored .is) ∙ again in (
-          q .is ∙ ap (λ (x : Outcome). x .answer) asks,
-          q .leaves ∙ ap (λ (x : Outcome). x .table) asks ∙ inserted-again family t before entered could (stored .room) ∙ sym (stored .is),
+        let again = stores (inserted family t entered) (stored .start) (stored .size) (stored .actions) (stored .requests) (sound-with family t before entered could (stored .room)) (room-again family t before entered could (stored .room)) in
+        let requests = ap (announcing family policy a) (stored .is) ∙ again in (
+          q .is ∙ ap (λ (x : Outcome). x .answer) requests,
+          q .leaves ∙ ap (λ (x : Outcome). x .table) requests ∙ inserted-again family t before entered could (stored .room) ∙ sym (stored .is),
         )
 
     read : oneRule family (a .rule) ≡ Rule (stored .start) (stored .size)
-    read = asked-from family policy a (stored .start) (stored .size) (stored .actions) true (stored .asks) .read
+    read = asked-from family policy a (stored .start) (stored .size) (stored .actions) true (stored .requests) .read
 
     -- withdrawing from a table that holds the rule, and from any sound one
     withdraws : soundTable family (inserted family t entered) ≡ true → holds family (inserted family t entered) (entryKey family entered) ≡ true

@@ -15,11 +15,11 @@ use Rattle.octets.specs.Test.{every, oneHolds, allZero, sameList}
 use Rattle.octets.specs.Walk.{walk}
 use Rattle.octets.proofs.Cases.{by-test, apart, both}
 use Rattle.octets.proofs.Facts.{Octets}
-use Rattle.prefix.specs.Prefix.{bits, contains, prefixOf, coversAddress, prefixOrder}
+use Rattle.prefix.specs.Prefix.{bits, contains, patternIn, coversAddress, prefixOrder}
 use Rattle.rule.specs.declared.Reading.the-variants.{Rule}
 use Rattle.rule.specs.Component.{pairAt, pairsFrom, prefixEnd, bodyEnd, componentAt, leadOf, offsetAt}
 use Rattle.rule.specs.Operator.{endsList, sizeOf}
-use Rattle.rule.specs.Plain.{bodyOf, operandAfter, after, plainOperator, plainOperand, plainAddress, clearedOctet, plainFrom, plain, expectedAtStart, patternAfter, withoutReserved}
+use Rattle.rule.specs.Plain.{bodyOf, operandAfter, after, plainOperator, plainOperand, plainPattern, clearedOctet, plainFrom, plain, expectedAtStart, patternAfter, withoutReserved}
 use Rattle.rule.specs.Reading.{fieldSize, fieldLength, firstRule, oneRule, valueOf}
 use Rattle.rule.specs.Value.{componentsFrom, components, checkValue}
 use Rattle.rule.specs.Family.{ipv4}
@@ -27,7 +27,7 @@ use Rattle.rule.proofs.FamilyLaws.{ipv4-fits}
 use Rattle.order.specs.Key.{bodyKey, keyOf, keysOf, RuleKey, keyOrder}
 use Rattle.order.proofs.KeyLaws.{key-order}
 use Rattle.route.specs.Destination.{destinationFor, destinationAmong, destinationOf}
-use Rattle.route.specs.Feasible.{covers, moreSpecific, longer, matched, bestMatch, undisputed, judged, feasible}
+use Rattle.route.specs.Feasible.{coveredBy, moreSpecific, longer, matched, bestMatch, undisputed, judged, feasible}
 use Rattle.route.specs.Route.{routeAt, routesOf, plainPrefix, rises, rising, soundRoutes, numberInWords, routesFrom}
 use Rattle.action.specs.declared.Reading.the-variants.{Read}
 use Rattle.action.specs.Actions.{communitiesAt, actionsOf, flagsOf, ofType, smallest, first, ruleActions}
@@ -41,25 +41,25 @@ use Rattle.packet.specs.Packet.{fieldsOf, packetOf}
 use Rattle.packet.specs.PairList.{groupsFrom, groups, listHolds}
 use Rattle.packet.specs.Transport.{transportOctets, transportFields}
 use Rattle.entry.specs.Entry.{plainValue, possible, Entry, entryKey}
-use Rattle.entry.specs.Record.{writtenFields, readFields, fieldsOf as entryFieldsOf, recordOf, actionsIn, entryOf, goodRecord}
+use Rattle.entry.specs.Record.{writtenFields, readFields, headNumbers, recordOf, actionsIn, entryOf, goodRecord}
 use Rattle.table.specs.Change.{holds, removed, hasRoom, inserted, withdrawn}
 use Rattle.lookup.specs.Lookup.{collected, mergedOnto, verdictOf, verdictFor, firstPlace}
-use Rattle.table.specs.Sound.{joined, tableOf, soundTable, soundness}
+use Rattle.table.specs.Sound.{recordsOf, tableOf, soundTable, soundness}
 use Rattle.table.specs.Walk.{recordAt, recordsFrom, records, entries}
 use Rattle.flowspec.specs.declared.Change.the-variants.{Done, Refused}
 use Rattle.flowspec.specs.declared.Looked.{Looked}
 use Rattle.flowspec.specs.declared.Request.the-variants.{Announce}
-use Rattle.flowspec.specs.Announce.{changeOf, asked, announcing, withdrawing}
+use Rattle.flowspec.specs.Announce.{changeOf, requestOf, announcing, withdrawing}
 use Rattle.flowspec.specs.Feasibility.{readWithRoutes, isFeasible, judgement}
-use Rattle.flowspec.specs.Look.{seen, lookingUp, firstMatch, matchPlace}
+use Rattle.flowspec.specs.Look.{opening, lookingUp, firstMatch, matchPlace}
 use Rattle.flowspec.specs.Told.{lookupTold, done}
 use Rattle.flowspec.specs.Promise.{LooksUp}
 use Rattle.flowspec.proofs.TableLaws.{announce-kept, withdraw-kept}
 use Rattle.rule.specs.Shape.{shapeOf}
-use Rattle.rate.specs.Rate.{scaled, wholePart, wholeOf, rateOfParts, rateOf, fitsSignificand, rateGiven}
+use Rattle.rate.specs.Rate.{scaled, numberFor, numberOfParts, rateOfParts, rateOf, fitsSignificand, rateGiven}
 use Rattle.order.specs.Precedence.{bodyOrder, componentOrder, componentsOrder, plainOrder, precedence}
 use Rattle.history.specs.History.{announced, withdrew, deedOf, emptyTable, endOf, lastCounted, inForceAfter, Agree, FromEmpty, HoldsExactly, EndAlike}
-use Rattle.history.specs.Worked.{policy, mail, mailValue, mailSpelled, ping, pingValue, dropping, droppingSpelled, drops, marks, mailEntry, mailTable, pingTable, bothTable, owned, foreign, spelled, pinged, worked, other, mailTo}
+use Rattle.history.specs.Worked.{policy, mail, mailValue, mailSpelled, ping, pingValue, dropping, droppingSpelled, drops, marks, mailEntry, mailTable, pingTable, bothTable, owned, foreign, respelled, pinged, worked, other, mailTo}
 use Rattle.history.proofs.HistoryLaws.{history-holds}
 use Rattle.history.proofs.AgreeLaws.{tie, histories-alike}
 
@@ -82,11 +82,11 @@ record Computed : Type 0 where
   pub again : announcing ipv4 policy owned pingTable ≡ record { answer = Done; table = bothTable }
   pub withdraws : withdrawing ipv4 ping bothTable ≡ record { answer = Done; table = mailTable }
   pub withdrawsNone : withdrawing ipv4 ping (emptyTable 96) ≡ record { answer = Refused 14 0; table = emptyTable 96 }
-  pub announcesSpelled : announcing ipv4 policy spelled (emptyTable 96) ≡ record { answer = Done; table = mailTable }
-  pub askedOwned : asked ipv4 policy owned ≡ Announce 1 12 drops true
-  pub askedForeign : asked ipv4 policy foreign ≡ Announce 1 12 drops false
-  pub askedSpelled : asked ipv4 policy spelled ≡ Announce 2 12 drops true
-  pub askedPinged : asked ipv4 policy pinged ≡ Announce 1 8 marks true
+  pub announcesSpelled : announcing ipv4 policy respelled (emptyTable 96) ≡ record { answer = Done; table = mailTable }
+  pub askedOwned : requestOf ipv4 policy owned ≡ Announce 1 12 drops true
+  pub askedForeign : requestOf ipv4 policy foreign ≡ Announce 1 12 drops false
+  pub askedSpelled : requestOf ipv4 policy respelled ≡ Announce 2 12 drops true
+  pub askedPinged : requestOf ipv4 policy pinged ≡ Announce 1 8 marks true
   pub readPing : oneRule ipv4 ping ≡ Rule 1 8
   pub plainMail : plain ipv4 mailValue ≡ mailValue
   pub plainSpelled : plain ipv4 (valueOf mailSpelled 2 12) ≡ mailValue
@@ -104,17 +104,17 @@ record Computed : Type 0 where
 
 computed : Computed
 unfolding
-    numberAt octetsOf every oneHolds allZero sameList walk bits coversAddress contains prefixOrder prefixOf pairAt pairsFrom leadOf
+    numberAt octetsOf every oneHolds allZero sameList walk bits coversAddress contains prefixOrder patternIn pairAt pairsFrom leadOf
     offsetAt prefixEnd bodyEnd componentAt endsList sizeOf expectedAtStart bodyOf patternAfter operandAfter after withoutReserved
-    plainOperator plainOperand plainAddress clearedOctet plainFrom plain fieldSize fieldLength firstRule oneRule componentsFrom
-    components checkValue bodyKey keyOf keysOf destinationFor destinationAmong destinationOf covers moreSpecific longer matched bestMatch
+    plainOperator plainOperand plainPattern clearedOctet plainFrom plain fieldSize fieldLength firstRule oneRule componentsFrom
+    components checkValue bodyKey keyOf keysOf destinationFor destinationAmong destinationOf coveredBy moreSpecific longer matched bestMatch
     undisputed judged feasible numberInWords routeAt routesFrom routesOf plainPrefix rises rising soundRoutes ofType smallest first
     ruleActions communitiesAt actionsOf flagsOf firstOf smallerOf allowed merged couldBe isUnusable fragmentData holdsFor bodyHolds
     fieldMatches fieldsFor bodyCovers componentMatches matches numericHolds bitmaskHolds fieldsOf packetOf groupsFrom groups listHolds
-    transportOctets transportFields plainValue possible writtenFields readFields entryFieldsOf recordOf actionsIn entryOf goodRecord holds
-    removed inserted hasRoom withdrawn collected mergedOnto verdictOf verdictFor firstPlace joined tableOf soundTable soundness recordAt
-    recordsFrom records entries changeOf asked announcing withdrawing readWithRoutes isFeasible judgement seen lookingUp firstMatch
-    matchPlace shapeOf scaled wholePart wholeOf rateOfParts rateOf fitsSignificand rateGiven bodyOrder componentOrder componentsOrder
+    transportOctets transportFields plainValue possible writtenFields readFields headNumbers recordOf actionsIn entryOf goodRecord holds
+    removed inserted hasRoom withdrawn collected mergedOnto verdictOf verdictFor firstPlace recordsOf tableOf soundTable soundness recordAt
+    recordsFrom records entries changeOf requestOf announcing withdrawing readWithRoutes isFeasible judgement opening lookingUp firstMatch
+    matchPlace shapeOf scaled numberFor numberOfParts rateOfParts rateOf fitsSignificand rateGiven bodyOrder componentOrder componentsOrder
     plainOrder precedence
 computed =
     record {
@@ -174,7 +174,7 @@ other-happened =
       given = (tt, ((octets-each mailSpelled (computed .octetsSpelled), omega arith), tt));
       happened = (
         withdraw-kept ipv4 ping (emptyTable 96) _ (Refused 14 0) (emptyTable 96) (computed .withdrawsNone) refl refl,
-        (announce-kept ipv4 policy spelled (emptyTable 96) _ Done mailTable (computed .announcesSpelled) refl refl, tt),
+        (announce-kept ipv4 policy respelled (emptyTable 96) _ Done mailTable (computed .announcesSpelled) refl refl, tt),
       );
     }
 

@@ -24,9 +24,9 @@ use Rattle.table.specs.Sound.{Encodes, mostOctets}
 use Rattle.flowspec.specs.declared.Change.{Change}
 use Rattle.flowspec.specs.declared.Looked.{Looked}
 use Rattle.flowspec.specs.declared.Request.{Request}
-use Rattle.flowspec.specs.declared.Request.the-variants.{Announce, Refused as NotAsked}
+use Rattle.flowspec.specs.declared.Request.the-variants.{Announce, Refused as NoRequest}
 use Rattle.flowspec.specs.Input.{Announcement, Policy}
-use Rattle.flowspec.specs.Announce.{announcedEntry, asked, Outcome, announcing, withdrawing}
+use Rattle.flowspec.specs.Announce.{announcedEntry, requestOf, Outcome, announcing, withdrawing}
 use Rattle.flowspec.specs.Told.{changeTold}
 use Rattle.flowspec.specs.Promise.{Announces, Withdraws, LooksUp, FirstMatches}
 
@@ -41,14 +41,14 @@ pub data Call : Type 0 where
 
 -- What an announcement asks of a table once its input is read and judged: nothing, where that is refused; else to announce an entry,
 -- which is feasible or not.
-abbrev pub asksToAnnounce : Family → Announcement → Request → Op RuleKey Entry
-asksToAnnounce family a (NotAsked number place) = refuse number
-asksToAnnounce family a (Announce start size actions feasible) = announce (announcedEntry family a start size actions) feasible
+abbrev pub announceOperation : Family → Announcement → Request → Op RuleKey Entry
+announceOperation family a (NoRequest number place) = refuse number
+announceOperation family a (Announce start size actions feasible) = announce (announcedEntry family a start size actions) feasible
 
 -- What a withdrawal asks of a table once its rule is read: nothing, where that is refused; else to withdraw the rule.
-abbrev pub asksToWithdraw : Family → List ℕ → Reading → Op RuleKey Entry
-asksToWithdraw family rule (NotRead number place) = refuse number
-asksToWithdraw family rule (Rule start size) = withdraw (keysOf family (plain family (valueOf rule start size)))
+abbrev pub withdrawOperation : Family → List ℕ → Reading → Op RuleKey Entry
+withdrawOperation family rule (NotRead number place) = refuse number
+withdrawOperation family rule (Rule start size) = withdraw (keysOf family (plain family (valueOf rule start size)))
 
 -- A call as it was made: what it was given, its answer, and the table's octets after it.
 pub record Made : Type 0 where
@@ -93,9 +93,9 @@ endOf table (m ∷ h) = endOf (m .left) h
 
 module _ (family : Family) (policy : Policy) where
   -- What a call asks of a table, by its kind.
-  abbrev pub asks : Call → Op RuleKey Entry
-  asks (announcement a) = asksToAnnounce family a (asked family policy a)
-  asks (withdrawal rule) = asksToWithdraw family rule (oneRule family rule)
+  abbrev pub operationOf : Call → Op RuleKey Entry
+  operationOf (announcement a) = announceOperation family a (requestOf family policy a)
+  operationOf (withdrawal rule) = withdrawOperation family rule (oneRule family rule)
 
   -- A call's promise, with a table at entry.
   abbrev pub Promised : Call → List ℕ → Change → List ℕ → Type 0
@@ -123,17 +123,17 @@ module _ (family : Family) (policy : Policy) where
   historyOf table (call ∷ calls) = madeOn call table ∷ historyOf (outcomeOf call table .table) calls
 
   -- What a call that was made asked of its table.
-  abbrev pub askedOf : Made → Op RuleKey Entry
-  askedOf m = asks (m .call)
+  abbrev pub operationMade : Made → Op RuleKey Entry
+  operationMade m = operationOf (m .call)
 
   -- The last counted call about a rule. 01: "A counted call is an announcement answered 0 or 8, or a withdrawal answered 0 or 14."
   abbrev pub lastCounted : RuleKey → List Made → Option Made
-  lastCounted k h = S.lastCounted keyOrder (entryKey family) askedOf numberOf k h
+  lastCounted k h = S.lastCounted keyOrder (entryKey family) operationMade numberOf k h
 
   -- What is in force for a rule after a history: the entry of a feasible announcement, with its originator and actions, where that is the
   -- rule's last counted call.
   abbrev pub inForceAfter : List Made → RuleKey → Option Entry
-  inForceAfter h k = S.inForceAfter keyOrder (entryKey family) askedOf numberOf h k
+  inForceAfter h k = S.inForceAfter keyOrder (entryKey family) operationMade numberOf h k
 
   -- Two histories agree on each rule's last counted call.
   abbrev pub Agree : List Made → List Made → Type 0

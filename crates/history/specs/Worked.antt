@@ -81,8 +81,8 @@ owned = announcementOf mail 7 dropping
 abbrev pub foreign : Announcement
 foreign = announcementOf mail 8 dropping
 
-abbrev pub spelled : Announcement
-spelled = announcementOf mailSpelled 7 droppingSpelled
+abbrev pub respelled : Announcement
+respelled = announcementOf mailSpelled 7 droppingSpelled
 
 abbrev pub pinged : Announcement
 pinged = announcementOf ping 7 marking
@@ -105,7 +105,7 @@ worked =
 abbrev pub other : List Made
 other =
     made (withdrawal ping) (Refused 14 0) (emptyTable 96)
-    ∷ made (announcement spelled) Done mailTable
+    ∷ made (announcement respelled) Done mailTable
     ∷ []
 
 -- A TCP packet from 198.51.100.1, port 1024, to port 25 of a host in 192.0.2.0/24: 24 octets of 40.

@@ -78,7 +78,7 @@ hit-plain family fits head packet e f o p same =
     let heads = sym (head-kept family (e .value)) ∙ ap (headOf family) same ∙ head-kept family (f .value) in
     ap₂ (λ (l : List ℕ) (b : Bool). sameList l head && b) heads (plain-alone family fits packet (e .value) (f .value) o p same)
 
--- how `judge_record` comes to its answers
+-- how `hit_of_record` comes to its answers
 module _ (family : Family) (head r : List ℕ) (packet : Packet) (says : Bool) (is : says ≡ hit family head packet (entryOf r)) where
   pub judge-missed : not says ≡ true → Missed ≡ hitOf (hit family head packet (entryOf r)) (entryOf r .actions)
   judge-missed h = rw (← is, not-true says h)

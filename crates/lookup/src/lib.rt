@@ -52,7 +52,7 @@ fn hits_record(family: Family, head: &[u8], held: &[u8], packet: Packet) -> bool
 }
 
 // What a record says of a packet, asked for under a head.
-fn judge_record(family: Family, head: &[u8], held: &[u8], packet: Packet) -> Hit
+fn hit_of_record(family: Family, head: &[u8], held: &[u8], packet: Packet) -> Hit
     requires { ⌜ Fits family × (headCost ≤ length (now held)) ⌝ }
     ensures { λ r. ⌜ r ≡ hitOf (hit family (now (head .entry)) packet (entryOf (now (held .entry)))) (entryOf (now (held .entry)) .actions) ⌝ }
 {
@@ -92,7 +92,12 @@ pub fn look_up(family: Family, head: &[u8], table: &[u8], packet: Packet) -> Ver
             NextRecord::Unsound => {
                 break verdict_of(actions, count);
             }
-            NextRecord::Record(next) => match judge_record(family, head, &table[at..next], packet) {
+            NextRecord::Record(next) => match hit_of_record(
+                family,
+                head,
+                &table[at..next],
+                packet,
+            ) {
                 Hit::Missed => {
                     at = next;
                 }

@@ -18,16 +18,16 @@ use Rattle.octets.specs.Number.{numberAt}
 use Rattle.octets.proofs.Cases.{by-test}
 use Rattle.octets.proofs.Facts.{Octets}
 use Rattle.octets.proofs.NumberLaws.{number-behind, first-octet, number-none}
-use Rattle.prefix.specs.Prefix.{Pattern, offsetIn, prefixOf, WellFormed}
+use Rattle.prefix.specs.Prefix.{Pattern, offsetIn, patternIn, WellFormed}
 use Rattle.prefix.proofs.BodyLaws.{ClearBody, clear-formed, body-only}
 use Rattle.rule.specs.declared.Family.{Family}
 use Rattle.rule.specs.declared.Expected.{Expected}
-use Rattle.rule.specs.declared.Expected.the-variants.{Kind, Length, Address}
+use Rattle.rule.specs.declared.Expected.the-variants.{Kind, Length, PatternOctet}
 use Rattle.rule.specs.Shape.{shapeOf}
 use Rattle.rule.specs.Component.{leadOf, offsetAt}
 use Rattle.rule.specs.Value.{Component, components}
 use Rattle.rule.specs.PlainComponent.{plainComponent}
-use Rattle.rule.specs.Plain.{bodyOf, patternAfter, after, clearedOctet, plainAddress, plainFrom, plain}
+use Rattle.rule.specs.Plain.{bodyOf, patternAfter, after, clearedOctet, plainPattern, plainFrom, plain}
 use Rattle.rule.proofs.PlainLaws.{above, length-plain-from, length-kept}
 use Rattle.rule.proofs.ClearedLaws.{octets-plain-from}
 use Rattle.rule.proofs.ComponentLaws.{lead-some}
@@ -35,8 +35,8 @@ use Rattle.rule.proofs.SpellingLaws.{components-plain, offset-kept, pattern-pla
 use Rattle.rule.proofs.ComponentsLaws.{PrefixBody, SoundComponent, each-sound, each-octets}
 
 -- the last octet of an address, with the bits past the length cleared
-last-clear : (n left x : ℕ) → left ≤ 8 → (plainAddress left x * 2 ^ (8 * n) + 0) % 2 ^ (8 * suc n - left) ≡ 0
-unfolding plainAddress
+last-clear : (n left x : ℕ) → left ≤ 8 → (plainPattern left x * 2 ^ (8 * n) + 0) % 2 ^ (8 * suc n - left) ≡ 0
+unfolding plainPattern
 last-clear n left x h =
     let k : 8 * suc n - left ≡ 8 - left + 8 * n = omega arith in
     rw (k, add-zero (x / 2 ^ (8 - left) * 2 ^ (8 - left) * 2 ^ (8 * n)), mul-assoc (x / 2 ^ (8 - left)) (2 ^ (8 - left)) (2 ^ (8 * n)), ← pow-add 2 (8 - left) (8 * n))
@@ -63,7 +63,7 @@ module _ (family : Family) where
 
   -- an address in the plain spelling has no bit past the length
   address-clear : (n left : ℕ) (r : List ℕ) → 1 ≤ left → left ≤ 8 * n → length r ≡ (left + 7) / 8
-      → numberAt n (plainFrom family (Address left) r) 0 % 2 ^ (8 * n - left) ≡ 0
+      → numberAt n (plainFrom family (PatternOctet left) r) 0 % 2 ^ (8 * n - left) ≡ 0
   unfolding plainFrom after clearedOctet
   address-clear zero left r some h l = absurd (omega arith)
   address-clear (suc n) left [] some h l = absurd (omega arith)
@@ -71,11 +71,11 @@ module _ (family : Family) where
       by-test (leb left 8)
       (λ t.
       let low = leb-true left 8 t in
-      rw (t, first-octet n (plainAddress left x) (plainFrom family Kind r), none-spelled n Kind r (omega arith)) (last-clear n left x low))
+      rw (t, first-octet n (plainPattern left x) (plainFrom family Kind r), none-spelled n Kind r (omega arith)) (last-clear n left x low))
       (λ t.
       let high = leb-false left 8 t in
-      rw (t, first-octet n (plainAddress left x) (plainFrom family (Address (left - 8)) r))
-      (earlier-clear n left (plainAddress left x) (numberAt n (plainFrom family (Address (left - 8)) r) 0) high h
+      rw (t, first-octet n (plainPattern left x) (plainFrom family (PatternOctet (left - 8)) r))
+      (earlier-clear n left (plainPattern left x) (numberAt n (plainFrom family (PatternOctet (left - 8)) r) 0) high h
       (address-clear n (left - 8) r (omega arith) (omega arith) (omega arith))))
 
   -- nor has what follows a prefix's length and offset
@@ -96,7 +96,7 @@ pub record PlainBody (family : Family) (p : Component) : Type 0 where
   pub octets : Octets (p .body)
   pub whole : shapeOf family (p .kind) .prefix ≡ true → PrefixBody family (p .body)
   pub clear : shapeOf family (p .kind) .prefix ≡ true → ClearBody (family .width) (family .offsets) (p .body)
-  pub formed : shapeOf family (p .kind) .prefix ≡ true → WellFormed (family .width) (prefixOf (family .width) (family .offsets) (p .body))
+  pub formed : shapeOf family (p .kind) .prefix ≡ true → WellFormed (family .width) (patternIn (family .width) (family .offsets) (p .body))
 
 -- a family whose addresses are n octets
 module _ (family : Family) (n : ℕ) (wide : family .width ≡ 8 * n) where
@@ -167,8 +167,8 @@ module _ (family : Family) (n : ℕ) (wide : family .width ≡ 8 * n) where
   -- two bodies that spell one pattern are equal
   pub prefix-only : (a b : List ℕ) → PrefixBody family a → PrefixBody family b → ClearBody (family .width) (family .offsets) a
       → ClearBody (family .width) (family .offsets) b → Octets a → Octets b
-      → prefixOf (family .width) (family .offsets) a ≡ prefixOf (family .width) (family .offsets) b → a ≡ b
-  unfolding prefixOf offsetAt leadOf
+      → patternIn (family .width) (family .offsets) a ≡ patternIn (family .width) (family .offsets) b → a ≡ b
+  unfolding patternIn offsetAt leadOf
   prefix-only a b A B C D o p e =
       let lengths : getD a 0 0 ≡ getD b 0 0 = ap (λ (q : Pattern). q .length) e in
       let offsets : offsetIn (family .offsets) a ≡ offsetIn (family .offsets) b = ap (λ (q : Pattern). q .offset) e in

@@ -11,7 +11,7 @@ use Rattle.octets.specs.Order.{then, lex}
 use Rattle.octets.proofs.Cases.{by-test}
 use Rattle.octets.proofs.Facts.{Octets}
 use Rattle.octets.proofs.OrderLaws.{swap, IsOrder, nat-order, lex-order}
-use Rattle.prefix.specs.Prefix.{prefixOf}
+use Rattle.prefix.specs.Prefix.{patternIn}
 use Rattle.prefix.proofs.ContainLaws.{tie}
 use Rattle.prefix.proofs.PrefixLaws.{one-order as prefix-order}
 use Rattle.rule.specs.declared.Family.{Family}
@@ -42,7 +42,7 @@ module _ (family : Family) where
           by-test (shapeOf family (p .kind) .prefix)
           (λ t.
           let u : shapeOf family (q .kind) .prefix ≡ true = sym (ap (λ k. shapeOf family k .prefix) e) ∙ t in
-          rw (t, u) (prefix-order (family .width) (prefixOf (family .width) (family .offsets) (p .body)) (prefixOf (family .width) (family .offsets) (q .body)) (P .formed t) (Q .formed u)))
+          rw (t, u) (prefix-order (family .width) (patternIn (family .width) (family .offsets) (p .body)) (patternIn (family .width) (family .offsets) (q .body)) (P .formed t) (Q .formed u)))
           (λ t. let u : shapeOf family (q .kind) .prefix ≡ false = sym (ap (λ k. shapeOf family k .prefix) e) ∙ t in rw (t, u))
 
       go : (o : Ordering) → compare (p .kind) (q .kind) ≡ o → componentOrder family p q ≡ lex compare (keyOf family p) (keyOf family q)

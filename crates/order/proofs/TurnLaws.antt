@@ -14,7 +14,7 @@ use Rattle.octets.specs.declared.Order.the-variants.{First, Second, Same}
 use Rattle.octets.proofs.Cases.{apart}
 use Rattle.octets.proofs.OrderLaws.{lt-cmp, gt-cmp, eq-cmp, nat-order, then-eq}
 use Rattle.prefix.specs.declared.Prefix.{Prefix}
-use Rattle.prefix.specs.Prefix.{patternOf, prefixOrder, prefixOf}
+use Rattle.prefix.specs.Prefix.{patternOf, prefixOrder, patternIn}
 use Rattle.rule.specs.declared.Family.{Family}
 use Rattle.rule.specs.declared.Next.{Next}
 use Rattle.rule.specs.declared.Next.the-variants.{Nothing, Another, Refused}
@@ -32,8 +32,8 @@ use Rattle.order.specs.Turn.{componentsLeft, runsOut, turnFor, Turned}
 
 -- two bodies
 module _ (family : Family) (kind : ℕ) (a b : List ℕ) (shape : Shape) (is : shape ≡ shapeOf family kind) (r : Order) where
-  pub order-prefixes : (here there : Prefix) → shape .prefix ≡ true → patternOf here ≡ prefixOf (family .width) (family .offsets) a
-      → patternOf there ≡ prefixOf (family .width) (family .offsets) b → r ≡ ordered (prefixOrder (family .width) (patternOf here) (patternOf there))
+  pub order-prefixes : (here there : Prefix) → shape .prefix ≡ true → patternOf here ≡ patternIn (family .width) (family .offsets) a
+      → patternOf there ≡ patternIn (family .width) (family .offsets) b → r ≡ ordered (prefixOrder (family .width) (patternOf here) (patternOf there))
       → r ≡ ordered (bodyOrder family kind a b)
   unfolding bodyOrder
   order-prefixes here there h f g e = e ∙ rw (← is, h, f, g)

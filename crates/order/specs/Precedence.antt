@@ -4,7 +4,7 @@ use Prim.Native.Nat.{ℕ, compare, Ordering}
 use mathlib.Core.Bool.{cond}
 use mathlib.Core.List.{List}
 use Rattle.octets.specs.Order.{then, lex}
-use Rattle.prefix.specs.Prefix.{prefixOrder, prefixOf}
+use Rattle.prefix.specs.Prefix.{prefixOrder, patternIn}
 use Rattle.rule.specs.declared.Family.{Family}
 use Rattle.rule.specs.Shape.{shapeOf}
 use Rattle.rule.specs.Value.{Component, headOf, components}
@@ -14,7 +14,7 @@ use Rattle.rule.specs.Plain.{plain}
 unfoldable pub bodyOrder : Family → ℕ → List ℕ → List ℕ → Ordering
 bodyOrder family kind a b =
     cond (shapeOf family kind .prefix)
-    (prefixOrder (family .width) (prefixOf (family .width) (family .offsets) a) (prefixOf (family .width) (family .offsets) b))
+    (prefixOrder (family .width) (patternIn (family .width) (family .offsets) a) (patternIn (family .width) (family .offsets) b))
     (lex compare a b)
 
 -- Two components: "of two types the lower comes first", and within a type the bodies decide.

@@ -8,7 +8,7 @@ use lib.ListN.{take}
 use Rattle.octets.specs.Test.{every, oneHolds, sameList}
 use Rattle.octets.specs.Number.{numberAt}
 use Rattle.octets.specs.Walk.{walk}
-use Rattle.prefix.specs.Prefix.{bits, coversAddress, prefixOf}
+use Rattle.prefix.specs.Prefix.{bits, coversAddress, patternIn}
 use Rattle.rule.specs.declared.Family.{Family}
 use Rattle.rule.specs.Family.{ipv4}
 use Rattle.rule.specs.Shape.{shapeOf}
@@ -18,8 +18,8 @@ use Rattle.rule.specs.Value.{componentsFrom, components}
 use Rattle.rule.specs.Plain.{plainOperand}
 use Rattle.packet.specs.declared.Field.the-variants.{Shown, Hidden}
 use Rattle.packet.specs.declared.Packet.{Packet}
-use Rattle.packet.specs.declared.Sight.{Sight}
-use Rattle.packet.specs.declared.Sight.the-variants.{Usable, Unusable}
+use Rattle.packet.specs.declared.Reading.{Reading}
+use Rattle.packet.specs.declared.Reading.the-variants.{Usable, Unusable}
 use Rattle.packet.specs.Header.{isUnusable, fragmentData}
 use Rattle.packet.specs.Transport.{transportOctets, hasPorts, hasIcmp, hasFlags, transportFields}
 use Rattle.packet.specs.Packet.{fieldsOf, packetOf}
@@ -86,7 +86,7 @@ transports = refl
 abbrev met : List ℕ → List ℕ → Bool
 met octets value = seen (packetOf ipv4 octets)
   where
-    seen : Sight → Bool
+    seen : Reading → Bool
     seen (Usable packet) = matches ipv4 value packet
     seen Unusable = false
 
@@ -209,7 +209,7 @@ request =
 -- each of them is so
 pub packets : every holds (opening ∷ flags ∷ joined ∷ datagram ∷ later ∷ first ∷ request ∷ []) ≡ true
 unfolding
-    numberAt walk bits sameList coversAddress prefixOf shapeOf endsList sizeOf pairAt pairsFrom leadOf offsetAt prefixEnd bodyEnd
+    numberAt walk bits sameList coversAddress patternIn shapeOf endsList sizeOf pairAt pairsFrom leadOf offsetAt prefixEnd bodyEnd
     componentAt componentsFrom components plainOperand isUnusable fragmentData transportOctets transportFields fieldsOf packetOf
     numericHolds bitmaskHolds every oneHolds groupsFrom groups listHolds holdsFor bodyHolds fieldMatches fieldsFor
     bodyCovers componentMatches matches
@@ -250,7 +250,7 @@ pub patterns : every (λ value. matches wide value seen)
     ∷ (0x02 ∷ 0x41 ∷ 0x40 ∷ 0x80 ∷ []) ∷ (0x03 ∷ 0x87 ∷ 0x00 ∷ []) ∷ (0x0c ∷ 0x81 ∷ 0x02 ∷ []) ∷ (0x04 ∷ 0x87 ∷ 0x00 ∷ []) ∷ []))
     ≡ true
 unfolding
-    numberAt walk bits sameList coversAddress prefixOf shapeOf endsList sizeOf pairAt pairsFrom leadOf offsetAt prefixEnd bodyEnd
+    numberAt walk bits sameList coversAddress patternIn shapeOf endsList sizeOf pairAt pairsFrom leadOf offsetAt prefixEnd bodyEnd
     componentAt componentsFrom components plainOperand numericHolds bitmaskHolds every oneHolds groupsFrom groups listHolds holdsFor
     bodyHolds fieldMatches fieldsFor bodyCovers componentMatches matches
 patterns = refl

@@ -20,9 +20,9 @@ use Rattle.rule.specs.Operator.{sizeOf}
 use Rattle.rule.specs.Component.{pairAt, Pair, pairOf, pairsFrom}
 use Rattle.rule.specs.Plain.{plainOperand}
 use Rattle.rule.proofs.ComponentLaws.{pair-cases, more-within, pairs-more, pairs-last, pairs-refused}
-use Rattle.packet.specs.declared.Judged.{Judged}
+use Rattle.packet.specs.declared.Evaluated.{Evaluated}
 use Rattle.packet.specs.Operator.{numericHolds, bitmaskHolds}
-use Rattle.packet.specs.Judging.{withPair, judgePair}
+use Rattle.packet.specs.Evaluation.{withPair, evaluatePair}
 use Rattle.packet.specs.Match.{holdsFor, pairHolds, bodyHolds}
 use Rattle.packet.proofs.PairListLaws.{judgedTo, judged-on, judged-last, judged-none}
 
@@ -36,15 +36,15 @@ module _ (shape : Shape) (operator value «data» wanted : ℕ) (r : Bool) (asks
   unfolding holdsFor
   holds-number h e = rw (h, ← asks) e
 
--- the pair that `judge_pair` reads
-pub judged-pair : (shape : Shape) (v : List ℕ) (at next «data» operator value : ℕ) (holds : Bool) (judged r : Judged)
+-- the pair that `evaluate_pair` reads
+pub judged-pair : (shape : Shape) (v : List ℕ) (at next «data» operator value : ℕ) (holds : Bool) (evaluated r : Evaluated)
     → operator ≡ getD v at 0 → value ≡ numberAt (next - (at + 1)) v (at + 1) → holds ≡ holdsFor shape operator value «data»
-    → r ≡ withPair judged (has operator 64 && not (eqb at 0)) holds → r ≡ judgePair shape v at next «data» judged
-judged-pair shape v at next «data» operator value holds judged r o w h e = rw (e, h, w, o)
+    → r ≡ withPair evaluated (has operator 64 && not (eqb at 0)) holds → r ≡ evaluatePair shape v at next «data» evaluated
+judged-pair shape v at next «data» operator value holds evaluated r o w h e = rw (e, h, w, o)
 
 -- what the list of a body gives that is judged up to a place
-abbrev pub bodyTo : Shape → List ℕ → ℕ → ℕ → Judged → Bool
-bodyTo shape v «data» at judged = judgedTo (pairHolds shape «data») at judged (pairsFrom (shape .largest) v at .items)
+abbrev pub bodyTo : Shape → List ℕ → ℕ → ℕ → Evaluated → Bool
+bodyTo shape v «data» at evaluated = judgedTo (pairHolds shape «data») at evaluated (pairsFrom (shape .largest) v at .items)
 
 -- no pair is judged at first
 pub body-start : (shape : Shape) (v : List ℕ) («data» : ℕ)
@@ -53,29 +53,29 @@ unfolding bodyHolds
 body-start shape v «data» = refl
 
 -- how `list_holds` goes on and comes to each of its answers
-module _ (shape : Shape) (v : List ℕ) («data» at : ℕ) (judged : Judged) (pair : NextPair) (is : pair ≡ pairAt (shape .largest) v at)
-    (so-far : bodyHolds shape v «data» ≡ bodyTo shape v «data» at judged) where
+module _ (shape : Shape) (v : List ℕ) («data» at : ℕ) (evaluated : Evaluated) (pair : NextPair) (is : pair ≡ pairAt (shape .largest) v at)
+    (so-far : bodyHolds shape v «data» ≡ bodyTo shape v «data» at evaluated) where
   abbrev rest : Walk Pair BodyEnd → Bool
-  rest w = judgedTo (pairHolds shape «data») at judged (w .items)
+  rest w = judgedTo (pairHolds shape «data») at evaluated (w .items)
 
-  pub list-on : (next : ℕ) (r : Judged) → pair ≡ More next → r ≡ judgePair shape v at next «data» judged
+  pub list-on : (next : ℕ) (r : Evaluated) → pair ≡ More next → r ≡ evaluatePair shape v at next «data» evaluated
       → bodyHolds shape v «data» ≡ bodyTo shape v «data» next r
   list-on next r e f =
       let q : pairAt (shape .largest) v at ≡ More next = sym is ∙ e in
       so-far ∙ ap rest (pairs-more (shape .largest) v at next q)
-      ∙ judged-on (pairHolds shape «data») at judged next (pairOf v at next) (pairsFrom (shape .largest) v next .items) (more-within (shape .largest) v at next q .0)
+      ∙ judged-on (pairHolds shape «data») at evaluated next (pairOf v at next) (pairsFrom (shape .largest) v next .items) (more-within (shape .largest) v at next q .0)
       ∙ ap (bodyTo shape v «data» next) (sym f)
 
-  pub list-last : (next : ℕ) (r : Judged) → pair ≡ Last next → r ≡ judgePair shape v at next «data» judged
+  pub list-last : (next : ℕ) (r : Evaluated) → pair ≡ Last next → r ≡ evaluatePair shape v at next «data» evaluated
       → r .found || r .group ≡ bodyHolds shape v «data»
   list-last next r e f =
       sym
-      (so-far ∙ ap rest (pairs-last (shape .largest) v at next (sym is ∙ e)) ∙ judged-last (pairHolds shape «data») at judged (pairOf v at next)
-      ∙ ap (λ (j : Judged). j .found || j .group) (sym f))
+      (so-far ∙ ap rest (pairs-last (shape .largest) v at next (sym is ∙ e)) ∙ judged-last (pairHolds shape «data») at evaluated (pairOf v at next)
+      ∙ ap (λ (j : Evaluated). j .found || j .group) (sym f))
 
-  pub list-cut : (number place : ℕ) → pair ≡ RefusedPair number place → judged .found || judged .group ≡ bodyHolds shape v «data»
+  pub list-cut : (number place : ℕ) → pair ≡ RefusedPair number place → evaluated .found || evaluated .group ≡ bodyHolds shape v «data»
   list-cut number place e =
-      sym (so-far ∙ ap rest (pairs-refused (shape .largest) v at number place (sym is ∙ e)) ∙ judged-none (pairHolds shape «data») at judged)
+      sym (so-far ∙ ap rest (pairs-refused (shape .largest) v at number place (sym is ∙ e)) ∙ judged-none (pairHolds shape «data») at evaluated)
 
 -- how far a pair reaches: its operator and a value of at most eight octets
 abbrev Reaches : List ℕ → ℕ → NextPair → Type 0

@@ -10,7 +10,7 @@ use borrow.Author.Tests.{ltb-true, ne-eqb, not-true, not-false}
 use Rattle.octets.specs.Test.{every, oneHolds}
 use Rattle.octets.specs.Walk.{Walk}
 use Rattle.octets.proofs.Cases.{by-test}
-use Rattle.prefix.specs.Prefix.{Pattern, addressOf, coversAddress, prefixOf}
+use Rattle.prefix.specs.Prefix.{Pattern, addressOf, coversAddress, patternIn}
 use Rattle.rule.specs.declared.Family.{Family}
 use Rattle.rule.specs.declared.Shape.{Shape}
 use Rattle.rule.specs.declared.Next.{Next}
@@ -36,7 +36,7 @@ module _ (shape : Shape) (body : List ℕ) (field : Field) where
   hidden-matches e = rw e
 
 -- how `body_covers` comes to its answer
-pub covered : (family : Family) (body : List ℕ) (address : ℕ) (pattern : Pattern) (r : Bool) → pattern ≡ prefixOf (family .width) (family .offsets) body
+pub covered : (family : Family) (body : List ℕ) (address : ℕ) (pattern : Pattern) (r : Bool) → pattern ≡ patternIn (family .width) (family .offsets) body
     → r ≡ coversAddress (family .width) pattern address → r ≡ bodyCovers family body address
 unfolding bodyCovers
 covered family body address pattern r e f = rw (← e) f

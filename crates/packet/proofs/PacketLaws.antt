@@ -8,7 +8,7 @@ use Rattle.octets.specs.Number.{numberAt}
 use Rattle.rule.specs.declared.Family.{Family}
 use Rattle.packet.specs.declared.Field.the-variants.{Shown}
 use Rattle.packet.specs.declared.Transport.{Transport}
-use Rattle.packet.specs.declared.Sight.the-variants.{Usable, Unusable}
+use Rattle.packet.specs.declared.Reading.the-variants.{Usable, Unusable}
 use Rattle.packet.specs.Header.{isUnusable, fragmentData}
 use Rattle.packet.specs.Transport.{transportOctets, transportFields}
 use Rattle.packet.specs.Packet.{fieldsOf, packetOf}

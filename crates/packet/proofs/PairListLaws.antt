@@ -9,9 +9,9 @@ use borrow.Author.Tests.{ne-eqb}
 use Rattle.octets.specs.Test.{every, oneHolds}
 use Rattle.rule.specs.Component.{Pair}
 use Rattle.octets.proofs.Cases.{by-test}
-use Rattle.packet.specs.declared.Judged.{Judged}
+use Rattle.packet.specs.declared.Evaluated.{Evaluated}
 use Rattle.packet.specs.PairList.{joins, groupsFrom, groups, listHolds}
-use Rattle.packet.specs.Judging.{withPair}
+use Rattle.packet.specs.Evaluation.{withPair}
 
 module _ (test : Pair → Bool) where
   -- one pair more in a group
@@ -53,31 +53,31 @@ continues rest false false true = refl
 continues rest false false false = refl
 
 -- what a list gives that is judged up to a place: at 0 no pair is
-abbrev pub judgedTo : (Pair → Bool) → ℕ → Judged → List Pair → Bool
-judgedTo test at judged ps = judged .found || cond (eqb at 0) (judged .group || listHolds test ps) (goesOn test (judged .group) ps)
+abbrev pub judgedTo : (Pair → Bool) → ℕ → Evaluated → List Pair → Bool
+judgedTo test at evaluated ps = evaluated .found || cond (eqb at 0) (evaluated .group || listHolds test ps) (goesOn test (evaluated .group) ps)
 
-module _ (test : Pair → Bool) (at : ℕ) (judged : Judged) where
-  abbrev pub further : Pair → Judged
-  further p = withPair judged (joins p && not (eqb at 0)) (test p)
+module _ (test : Pair → Bool) (at : ℕ) (evaluated : Evaluated) where
+  abbrev pub further : Pair → Evaluated
+  further p = withPair evaluated (joins p && not (eqb at 0)) (test p)
 
-  one-more : (p : Pair) (ps : List Pair) → judgedTo test at judged (p ∷ ps) ≡ further p .found || goesOn test (further p .group) ps
+  one-more : (p : Pair) (ps : List Pair) → judgedTo test at evaluated (p ∷ ps) ≡ further p .found || goesOn test (further p .group) ps
   one-more p ps =
       by-test (eqb at 0)
       (λ t. by-test (joins p)
-      (λ u. rw (t, u, from-first test p ps) (begins (λ b. goesOn test b ps) (judged .found) (judged .group) (test p)))
-      (λ u. rw (t, u, from-first test p ps) (begins (λ b. goesOn test b ps) (judged .found) (judged .group) (test p))))
+      (λ u. rw (t, u, from-first test p ps) (begins (λ b. goesOn test b ps) (evaluated .found) (evaluated .group) (test p)))
+      (λ u. rw (t, u, from-first test p ps) (begins (λ b. goesOn test b ps) (evaluated .found) (evaluated .group) (test p))))
       (λ t. by-test (joins p)
-      (λ u. rw (t, u) (continues (λ b. goesOn test b ps) (judged .found) (judged .group) (test p)))
-      (λ u. rw (t, u) (begins (λ b. goesOn test b ps) (judged .found) (judged .group) (test p))))
+      (λ u. rw (t, u) (continues (λ b. goesOn test b ps) (evaluated .found) (evaluated .group) (test p)))
+      (λ u. rw (t, u) (begins (λ b. goesOn test b ps) (evaluated .found) (evaluated .group) (test p))))
 
   -- one pair further, at a place that is not the first
-  pub judged-on : (next : ℕ) (p : Pair) (ps : List Pair) → at < next → judgedTo test at judged (p ∷ ps) ≡ judgedTo test next (further p) ps
+  pub judged-on : (next : ℕ) (p : Pair) (ps : List Pair) → at < next → judgedTo test at evaluated (p ∷ ps) ≡ judgedTo test next (further p) ps
   judged-on next p ps h = one-more p ps ∙ rw (ne-eqb next 0 (omega arith))
 
   -- the last pair, and none
-  pub judged-last : (p : Pair) → judgedTo test at judged (p ∷ []) ≡ further p .found || further p .group
+  pub judged-last : (p : Pair) → judgedTo test at evaluated (p ∷ []) ≡ further p .found || further p .group
   judged-last p = one-more p []
 
-  pub judged-none : judgedTo test at judged [] ≡ judged .found || judged .group
+  pub judged-none : judgedTo test at evaluated [] ≡ evaluated .found || evaluated .group
   unfolding listHolds groups oneHolds
-  judged-none = by-test (eqb at 0) (λ t. rw (t, or-false (judged .group))) (λ t. rw t)
+  judged-none = by-test (eqb at 0) (λ t. rw (t, or-false (evaluated .group))) (λ t. rw t)

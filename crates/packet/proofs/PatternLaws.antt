@@ -14,23 +14,23 @@ use Rattle.octets.specs.Number.{numberAt}
 use Rattle.octets.proofs.Cases.{by-test}
 use Rattle.octets.proofs.Facts.{Octets}
 use Rattle.octets.proofs.NumberLaws.{octets-bits, number-small, number-behind, first-octet}
-use Rattle.prefix.specs.Prefix.{Pattern, bits, patternBits, offsetIn, patternStart, prefixOf}
+use Rattle.prefix.specs.Prefix.{Pattern, bits, patternBits, offsetIn, patternStart, patternIn}
 use Rattle.prefix.proofs.BitLaws.{between-first, first-of}
 use Rattle.prefix.proofs.ContainLaws.{Alike}
 use Rattle.rule.specs.declared.Family.{Family}
 use Rattle.rule.specs.declared.Expected.{Expected}
-use Rattle.rule.specs.declared.Expected.the-variants.{Kind, Length, Address}
+use Rattle.rule.specs.declared.Expected.the-variants.{Kind, Length, PatternOctet}
 use Rattle.rule.specs.Family.{Fits}
 use Rattle.rule.specs.Component.{offsetAt}
-use Rattle.rule.specs.Plain.{patternAfter, after, plainAddress, clearedOctet, plainFrom}
+use Rattle.rule.specs.Plain.{patternAfter, after, plainPattern, clearedOctet, plainFrom}
 use Rattle.rule.proofs.PlainLaws.{whole-octet, above, after-length, after-length-offset}
 use Rattle.rule.proofs.ClearedLaws.{octets-plain-from}
 use Rattle.rule.proofs.ComponentsLaws.{PrefixBody}
 
 -- the octet in which the length ends
 last-same : (n left x rest other : ℕ) → left ≤ 8 → rest < 2 ^ (8 * n) → other < 2 ^ (8 * n)
-    → (plainAddress left x * 2 ^ (8 * n) + rest) / 2 ^ (8 * suc n - left) ≡ (x * 2 ^ (8 * n) + other) / 2 ^ (8 * suc n - left)
-unfolding plainAddress
+    → (plainPattern left x * 2 ^ (8 * n) + rest) / 2 ^ (8 * suc n - left) ≡ (x * 2 ^ (8 * n) + other) / 2 ^ (8 * suc n - left)
+unfolding plainPattern
 last-same n left x rest other h l m =
     let k : 8 * suc n - left ≡ 8 * n + (8 - left) = omega arith in
     rw (
@@ -52,7 +52,7 @@ earlier n left x rest h l =
 module _ (family : Family) where
   -- an address shifted until only the bits of the length are left is the same in the plain spelling
   address-same : (n left : ℕ) (r : List ℕ) → Octets r → 1 ≤ left → left ≤ 8 * n
-      → numberAt n (plainFrom family (Address left) r) 0 / 2 ^ (8 * n - left) ≡ numberAt n r 0 / 2 ^ (8 * n - left)
+      → numberAt n (plainFrom family (PatternOctet left) r) 0 / 2 ^ (8 * n - left) ≡ numberAt n r 0 / 2 ^ (8 * n - left)
   unfolding plainFrom after clearedOctet
   address-same zero left r o some h = absurd (omega arith)
   address-same (suc n) left [] o some h = refl
@@ -61,16 +61,16 @@ module _ (family : Family) where
       (λ t.
       let rest : Octets r = λ i. o (suc i) in
       let fits : (s : List ℕ) → Octets s → numberAt n s 0 < 2 ^ (8 * n) = λ s q. rw (← octets-bits n) (number-small n s 0 q) in
-      rw (t, first-octet n (plainAddress left x) (plainFrom family Kind r), first-octet n x r)
+      rw (t, first-octet n (plainPattern left x) (plainFrom family Kind r), first-octet n x r)
       (last-same n left x (numberAt n (plainFrom family Kind r) 0) (numberAt n r 0) (leb-true left 8 t) (fits (plainFrom family Kind r) (octets-plain-from family Kind r rest)) (fits r rest)))
       (λ t.
       let high = leb-false left 8 t in
       rw (
         t,
-        first-octet n (plainAddress left x) (plainFrom family (Address (left - 8)) r),
+        first-octet n (plainPattern left x) (plainFrom family (PatternOctet (left - 8)) r),
         first-octet n x r,
         ← whole-octet left x (omega arith),
-        earlier n left x (numberAt n (plainFrom family (Address (left - 8)) r) 0) high h,
+        earlier n left x (numberAt n (plainFrom family (PatternOctet (left - 8)) r) 0) high h,
         earlier n left x (numberAt n r 0) high h,
         address-same n (left - 8) r (λ i. o (suc i)) (omega arith) (omega arith),
       ))
@@ -88,8 +88,8 @@ module _ (family : Family) where
 -- the bits of a pattern are the first ones of the number that the octets of the pattern are
 spelled-bits : (n : ℕ) (offsets : Bool) (body : List ℕ) → offsetIn offsets body ≤ getD body 0 0 → getD body 0 0 ≤ 8 * n
     → let left = getD body 0 0 - offsetIn offsets body in
-    patternBits (8 * n) (prefixOf (8 * n) offsets body) ≡ bits left (numberAt n body (patternStart offsets) / 2 ^ (8 * n - left))
-unfolding prefixOf
+    patternBits (8 * n) (patternIn (8 * n) offsets body) ≡ bits left (numberAt n body (patternStart offsets) / 2 ^ (8 * n - left))
+unfolding patternIn
 spelled-bits n offsets body h k =
     let m = offsetIn offsets body in
     let l = getD body 0 0 in
@@ -102,7 +102,7 @@ spelled-bits n offsets body h k =
 
 module _ (family : Family) (n : ℕ) where
   abbrev spells : Bool → List ℕ → Pattern
-  spells offsets body = prefixOf (8 * n) offsets body
+  spells offsets body = patternIn (8 * n) offsets body
 
   -- the plain spelling keeps the length and the offset octet
   spelled-length : (x : ℕ) (r : List ℕ) → family .offsets ≡ false → plainFrom family Length (x ∷ r) ≡ x ∷ plainFrom family (patternAfter x 0) r
@@ -123,7 +123,7 @@ module _ (family : Family) (n : ℕ) where
 
   begin-kept : (offsets : Bool) → family .offsets ≡ offsets → (body : List ℕ) → Octets body → offsetIn offsets body ≤ getD body 0 0 → getD body 0 0 ≤ 8 * n
       → Alike (8 * n) (spells offsets (plainFrom family Length body)) (spells offsets body)
-  unfolding prefixOf
+  unfolding patternIn
   begin-kept offsets is [] o h k = rw spelled-none (record { offset = refl; length = refl; begin = refl })
   begin-kept false is (x ∷ r) o h k =
       let behind = plainFrom family (patternAfter x 0) r in
@@ -155,12 +155,12 @@ octets-wide family fits = let e = fits .words in omega arith
 
 -- the pattern that the body of a prefix spells, and the one that its plain spelling does
 pub pattern-plain : (family : Family) → Fits family → (body : List ℕ) → Octets body → PrefixBody family body → let w = family .width in let offsets = family .offsets in
-    Alike w (prefixOf w offsets (plainFrom family Length body)) (prefixOf w offsets body)
+    Alike w (patternIn w offsets (plainFrom family Length body)) (patternIn w offsets body)
 unfolding offsetAt
 pattern-plain family fits body o sound =
     let wide = octets-wide family fits in
     let below = sound .below in
     let within = sound .within in
     let offsets = family .offsets in
-    subst (λ (w : ℕ). Alike w (prefixOf w offsets (plainFrom family Length body)) (prefixOf w offsets body)) (sym wide)
+    subst (λ (w : ℕ). Alike w (patternIn w offsets (plainFrom family Length body)) (patternIn w offsets body)) (sym wide)
     (begin-kept family (family .words * 4 - 12) offsets refl body o below (omega arith))

@@ -5,4 +5,4 @@ pub mod Packet
 pub mod Operator
 pub mod PairList
 pub mod Match
-pub mod Judging
+pub mod Evaluation

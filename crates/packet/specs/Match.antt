@@ -6,7 +6,7 @@ use mathlib.Core.List.{List, [], _∷_}
 use lib.Dec.{eqb}
 use Rattle.octets.specs.Test.{every, oneHolds}
 use Rattle.prefix.specs.declared.Address.{Address}
-use Rattle.prefix.specs.Prefix.{addressOf, coversAddress, prefixOf}
+use Rattle.prefix.specs.Prefix.{addressOf, coversAddress, patternIn}
 use Rattle.rule.specs.declared.Family.{Family}
 use Rattle.rule.specs.declared.Shape.{Shape}
 use Rattle.rule.specs.Shape.{shapeOf}
@@ -60,7 +60,7 @@ fieldsFor kind packet =
 
 -- Whether the prefix that a body spells covers an address.
 unfoldable pub bodyCovers : Family → List ℕ → ℕ → Bool
-bodyCovers family body address = coversAddress (family .width) (prefixOf (family .width) (family .offsets) body) address
+bodyCovers family body address = coversAddress (family .width) (patternIn (family .width) (family .offsets) body) address
 
 -- The address that a prefix of the given type is matched by: sections 4.2.2.1 (type 1, the destination) and 4.2.2.2 (type 2, the source).
 abbrev pub addressFor : ℕ → Packet → Address

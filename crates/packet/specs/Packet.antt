@@ -6,8 +6,8 @@ use Rattle.prefix.specs.declared.Address.{Address}
 use Rattle.rule.specs.declared.Family.{Family}
 use Rattle.packet.specs.declared.Field.the-variants.{Shown}
 use Rattle.packet.specs.declared.Packet.{Packet}
-use Rattle.packet.specs.declared.Sight.{Sight}
-use Rattle.packet.specs.declared.Sight.the-variants.{Usable, Unusable}
+use Rattle.packet.specs.declared.Reading.{Reading}
+use Rattle.packet.specs.declared.Reading.the-variants.{Usable, Unusable}
 use Rattle.packet.specs.Header.{isUnusable, destination, source, protocol, totalLength, dscp, fragmentField, fragmentData}
 use Rattle.packet.specs.Transport.{transportOctets, transportFields}
 
@@ -29,5 +29,5 @@ fieldsOf family s =
     }
 
 -- What octets show as a packet.
-unfoldable pub packetOf : Family → List ℕ → Sight
+unfoldable pub packetOf : Family → List ℕ → Reading
 packetOf family s = cond (isUnusable family s) Unusable (Usable (fieldsOf family s))

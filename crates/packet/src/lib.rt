@@ -10,7 +10,7 @@ ghost use Rattle.packet.specs.Header.{isUnusable, fragmentData};
 ghost use Rattle.packet.specs.Transport.{transportFound, transportOctets, shownIf, hasPorts, hasIcmp, hasFlags, transportFields};
 ghost use Rattle.packet.specs.Packet.{packetOf};
 ghost use Rattle.packet.specs.Operator.{numericHolds, bitmaskHolds};
-ghost use Rattle.packet.specs.Judging.{withPair, judgePair};
+ghost use Rattle.packet.specs.Evaluation.{withPair, evaluatePair};
 ghost use Rattle.packet.specs.Match.{holdsFor, bodyHolds, fieldMatches, bodyCovers, componentMatches, matches};
 use octets::bit_if;
 use octets::least;
@@ -51,13 +51,13 @@ pub struct Packet {
 }
 
 // What is seen in octets: a packet, or that they are unusable as one.
-pub enum Sight {
+pub enum Reading {
     Usable(Packet),
     Unusable,
 }
 
 // A list of pairs judged so far: whether a group before the present one holds, and whether the present one does.
-struct Judged {
+struct Evaluated {
     pub found: bool,
     pub group: bool,
 }
@@ -173,15 +173,15 @@ fn transport_fields(family: Family, protocol: u8, octets: &[u8]) -> Transport
 }
 
 // What octets show as a packet.
-pub fn packet_of(family: Family, octets: &[u8]) -> Sight
+pub fn packet_of(family: Family, octets: &[u8]) -> Reading
     ensures { λ r. ⌜ r ≡ packetOf family (now (octets .entry)) ⌝ }
 {
     if is_unusable(family, octets) {
-        return Sight::Unusable;
+        return Reading::Unusable;
     }
     let protocol = octet_at(octets, 9);
     let transport = transport_fields(family, protocol, transport_octets(octets));
-    Sight::Usable(Packet {
+    Reading::Usable(Packet {
         destination: Address {
             high: 0,
             low: number_at(4, octets, 16),
@@ -246,40 +246,40 @@ fn pair_holds(shape: Shape, operator: u8, value: u64, data: u64) -> bool
 }
 
 // A list judged one pair further: a pair that AND joins goes with the group before it, any other begins a new group.
-fn with_pair(judged: Judged, joined: bool, holds: bool) -> Judged
-    ensures { λ r. ⌜ r ≡ withPair judged joined holds ⌝ }
+fn with_pair(evaluated: Evaluated, joined: bool, holds: bool) -> Evaluated
+    ensures { λ r. ⌜ r ≡ withPair evaluated joined holds ⌝ }
 {
-    Judged {
-        found: judged.found | (judged.group & !joined),
-        group: holds & (judged.group | !joined),
+    Evaluated {
+        found: evaluated.found | (evaluated.group & !joined),
+        group: holds & (evaluated.group | !joined),
     }
 }
 
 // A list judged one pair further, by the pair from one place up to another; the first pair's AND is ignored.
-fn judge_pair(
+fn evaluate_pair(
     shape: Shape,
     body: &[u8],
     at: usize,
     next: usize,
     data: u64,
-    judged: Judged,
-) -> Judged
+    evaluated: Evaluated,
+) -> Evaluated
     requires { ⌜ (at < next) × ((next ≤ length (now body)) × (next ≤ at + 9)) ⌝ }
-    ensures { λ r. ⌜ r ≡ judgePair shape (now (body .entry)) at next «data» judged ⌝ }
+    ensures { λ r. ⌜ r ≡ evaluatePair shape (now (body .entry)) at next «data» evaluated ⌝ }
 {
     let operator = octet_at(body, at);
     let start = at + 1;
     let value = number_at(next - start, body, start);
     let joined = (operator & 0x40 != 0) & (at != 0);
     let holds = pair_holds(shape, operator, value, data);
-    with_pair(judged, joined, holds)
+    with_pair(evaluated, joined, holds)
 }
 
 // Whether the list that a body is holds of the data: an OR of ANDs, in one pass.
 fn list_holds(shape: Shape, body: &[u8], data: u64) -> bool
     ensures { λ r. ⌜ r ≡ bodyHolds shape (now (body .entry)) «data» ⌝ }
 {
-    let mut judged = Judged {
+    let mut evaluated = Evaluated {
         found: false,
         group: false,
     };
@@ -288,18 +288,18 @@ fn list_holds(shape: Shape, body: &[u8], data: u64) -> bool
         let pair = rule::pair_at(shape.largest, body, at);
         match pair {
             NextPair::More(next) => {
-                judged = judge_pair(shape, body, at, next, data, judged);
+                evaluated = evaluate_pair(shape, body, at, next, data, evaluated);
                 at = next;
             }
             NextPair::Last(end) => {
-                let whole = judge_pair(shape, body, at, end, data, judged);
+                let whole = evaluate_pair(shape, body, at, end, data, evaluated);
                 return whole.found | whole.group;
             }
             NextPair::Refused {
                 number: _,
                 place: _,
             } => {
-                return judged.found | judged.group;
+                return evaluated.found | evaluated.group;
             }
         }
     }

@@ -16,7 +16,7 @@ use Rattle.octets.proofs.Facts.{Octets}
 use Rattle.octets.proofs.NumberLaws.{number-only, number-small, octets-bits}
 use Rattle.prefix.proofs.BitLaws.{same-clear}
 use Rattle.prefix.specs.declared.Address.{Address}
-use Rattle.prefix.specs.Prefix.{Pattern, addressOf, patternOf, offsetIn, patternStart, prefixOf, WellFormed}
+use Rattle.prefix.specs.Prefix.{Pattern, addressOf, patternOf, offsetIn, patternStart, patternIn, WellFormed}
 
 -- a body whose pattern lies within the width and has no bit set behind its length: RFC 8956 section 3.1's padding is 0
 pub record ClearBody (w : ℕ) (offsets : Bool) (body : List ℕ) : Type 0 where
@@ -38,8 +38,8 @@ module _ (w : ℕ) (offsets : Bool) (body : List ℕ) (C : ClearBody w offsets b
       sym (mod-mod-pow n (w - getD body 0 0) (offsetIn offsets body)) ∙ rw (← behind, C .clear) (zero-mod (2 ^ offsetIn offsets body))
 
   -- such a body spells a plain pattern
-  pub clear-formed : (n : ℕ) → w ≡ 8 * n → Octets body → WellFormed w (prefixOf w offsets body)
-  unfolding prefixOf
+  pub clear-formed : (n : ℕ) → w ≡ 8 * n → Octets body → WellFormed w (patternIn w offsets body)
+  unfolding patternIn
   clear-formed n wide o =
       let m = offsetIn offsets body in
       let h = C .within in
@@ -57,8 +57,8 @@ module _ (w : ℕ) (offsets : Bool) (body : List ℕ) (C : ClearBody w offsets b
 -- bodies of one length that spell the same pattern are the same body
 module _ (w : ℕ) (x y : List ℕ) (o : Octets x) (p : Octets y) (l : length x ≡ length y) where
   pub body-only : (offsets : Bool) → ClearBody w offsets x → ClearBody w offsets y → length x ≤ patternStart offsets + w / 8
-      → prefixOf w offsets x ≡ prefixOf w offsets y → x ≡ y
-  unfolding prefixOf
+      → patternIn w offsets x ≡ patternIn w offsets y → x ≡ y
+  unfolding patternIn
   body-only offsets X Y h e = ext-getD 0 x y l (go offsets h begin same)
     where
       lengths : getD x 0 0 ≡ getD y 0 0
@@ -94,15 +94,15 @@ two-words count at rest high low s h e f g =
 
 module _ (w : ℕ) (offsets : Bool) (body : List ℕ) (a : Address) (length : ℕ) (is : length ≡ getD body 0 0) where
   pub no-offset : not offsets ≡ true → addressOf a ≡ numberAt (w / 8) body 1
-      → patternOf (record { offset = 0; length = length; address = a }) ≡ prefixOf w offsets body
-  unfolding prefixOf
+      → patternOf (record { offset = 0; length = length; address = a }) ≡ patternIn w offsets body
+  unfolding patternIn
   no-offset h e =
       let f : addressOf a ≡ numberAt (w / 8) body 1 / 2 ^ 0 = e ∙ sym (div-one (numberAt (w / 8) body 1)) in
       rw (not-true offsets h) (λ i. record { offset = 0; length = is i; address = f i })
 
   pub with-offset : (offset number : ℕ) → not offsets ≡ false → offset ≡ getD body 1 0 → number ≡ numberAt (w / 8) body 2 → addressOf a ≡ number / 2 ^ offset
-      → patternOf (record { offset = offset; length = length; address = a }) ≡ prefixOf w offsets body
-  unfolding prefixOf
+      → patternOf (record { offset = offset; length = length; address = a }) ≡ patternIn w offsets body
+  unfolding patternIn
   with-offset offset number h b n e =
       let f : addressOf a ≡ numberAt (w / 8) body 2 / 2 ^ getD body 1 0 = e ∙ rw (n, b) in
       rw (not-false offsets h) (λ i. record { offset = b i; length = is i; address = f i })

@@ -5,7 +5,7 @@ use mathlib.Core.List.{[], _∷_}
 use Prim.Native.Nat.{ℕ, _+_, _*_, _^_, Ordering·lt, Ordering·eq, Ordering·gt}
 use Rattle.octets.specs.Number.{numberAt}
 use Rattle.octets.specs.Test.{sameList}
-use Rattle.prefix.specs.Prefix.{Pattern, bits, coversAddress, contains, prefixOrder, prefixOf}
+use Rattle.prefix.specs.Prefix.{Pattern, bits, coversAddress, contains, prefixOrder, patternIn}
 
 abbrev ipv4 : ℕ → ℕ → Pattern
 ipv4 address length = record { offset = 0; length = length; address = address }
@@ -38,13 +38,13 @@ source offset = record { offset = offset; length = 104; address = 0x123456789a00
 abbrev destination : Pattern
 destination = record { offset = 0; length = 32; address = 0x20010db8 * 2 ^ 96 }
 
-pub spelled : (prefixOf 128 true (0x68 ∷ 0x40 ∷ 0x12 ∷ 0x34 ∷ 0x56 ∷ 0x78 ∷ 0x9a ∷ [])
-    ∷ prefixOf 128 true (0x68 ∷ 0x41 ∷ 0x24 ∷ 0x68 ∷ 0xac ∷ 0xf1 ∷ 0x34 ∷ [])
-    ∷ prefixOf 128 true (0x20 ∷ 0x00 ∷ 0x20 ∷ 0x01 ∷ 0x0d ∷ 0xb8 ∷ [])
-    ∷ prefixOf 32 false (0x18 ∷ 0xc0 ∷ 0x00 ∷ 0x02 ∷ [])
+pub spelled : (patternIn 128 true (0x68 ∷ 0x40 ∷ 0x12 ∷ 0x34 ∷ 0x56 ∷ 0x78 ∷ 0x9a ∷ [])
+    ∷ patternIn 128 true (0x68 ∷ 0x41 ∷ 0x24 ∷ 0x68 ∷ 0xac ∷ 0xf1 ∷ 0x34 ∷ [])
+    ∷ patternIn 128 true (0x20 ∷ 0x00 ∷ 0x20 ∷ 0x01 ∷ 0x0d ∷ 0xb8 ∷ [])
+    ∷ patternIn 32 false (0x18 ∷ 0xc0 ∷ 0x00 ∷ 0x02 ∷ [])
     ∷ [])
     ≡ source 64 ∷ source 65 ∷ destination ∷ ipv4 0xc0000200 24 ∷ []
-unfolding numberAt prefixOf
+unfolding numberAt patternIn
 spelled = refl
 
 -- the bits before the offset and behind the length are no matter, those between are; the lower offset comes first, also where the address

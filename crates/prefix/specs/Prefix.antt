@@ -67,8 +67,8 @@ patternStart offsets = cond offsets 2 1
 
 -- RFC 8955 section 4.2.2.1, RFC 8956 section 3.1: a component's body spells a pattern by a length octet, an offset octet where there are
 -- offsets, and the pattern's octets; those not sent are 0. The address is the pattern "shifted to the right by the number of offset bits".
-unfoldable pub prefixOf : ℕ → Bool → List ℕ → Pattern
-prefixOf w offsets body =
+unfoldable pub patternIn : ℕ → Bool → List ℕ → Pattern
+patternIn w offsets body =
     record {
       offset = offsetIn offsets body;
       length = getD body 0 0;

@@ -7,7 +7,7 @@ ghost use Prim.Native.Nat.{_-_, _/_, _%_, _^_, _≤_, compare};
 ghost use Rattle.octets.specs.Number.{numberAt};
 ghost use Rattle.octets.specs.Order.{ordered};
 ghost use Rattle.octets.specs.Test.{sameList};
-ghost use Rattle.prefix.specs.Prefix.{addressOf, patternOf, bitsBetween, coversAddress, contains, prefixOrder, prefixOf};
+ghost use Rattle.prefix.specs.Prefix.{addressOf, patternOf, bitsBetween, coversAddress, contains, prefixOrder, patternIn};
 use octets::Order;
 
 // An address in two words; one of up to 64 bits stands in the low one.
@@ -191,7 +191,7 @@ fn shifted(count: u32, address: Address) -> Address
 // sent are 0.
 pub fn prefix_of(width: u8, offsets: bool, body: &[u8]) -> Prefix
     requires { ⌜ width ≤ 128 ⌝ }
-    ensures { λ r. ⌜ patternOf r ≡ prefixOf width offsets (now (body .entry)) ⌝ }
+    ensures { λ r. ⌜ patternOf r ≡ patternIn width offsets (now (body .entry)) ⌝ }
 {
     let bits = octets::octet_at(body, 0) as u32;
     let count = (width / 8) as usize;

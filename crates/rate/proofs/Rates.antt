@@ -10,7 +10,7 @@ use lib.Dec.{eqb, lit<, lit≤}
 use lib.Bits.{bitAnd, and-mask}
 use lib.Pow.{pow-add, pow-mono, pow-pos, shl-lt, shl-exact, shl-shr}
 use Rattle.rate.specs.declared.Rate.the-variants.{Number, NotANumber}
-use Rattle.rate.specs.Rate.{scaled, wholePart, wholeOf, rateOf, rateOfParts}
+use Rattle.rate.specs.Rate.{scaled, numberFor, numberOfParts, rateOf, rateOfParts}
 
 -- The whole part over any unit and any limit.
 abbrev limited : ℕ → ℕ → ℕ → ℕ
@@ -42,8 +42,8 @@ normal-positive : (e f : ℕ) → 0 < (2 ^ 23 + f) * 2 ^ (e - 1)
 normal-positive e f = mul-pos {m = 2 ^ 23 + f} (omega arith) (pow-pos (e - 1))
 
 -- Zero.
-pub whole-zero : (e f : ℕ) → eqb e 0 && eqb f 0 ≡ true → 0 ≡ wholeOf e f
-unfolding wholeOf wholePart scaled
+pub whole-zero : (e f : ℕ) → eqb e 0 && eqb f 0 ≡ true → 0 ≡ numberOfParts e f
+unfolding numberOfParts numberFor scaled
 whole-zero e f h = let both = and-eq-true-iff (eqb e 0) (eqb f 0) .0 h in rw (both .0, both .1)
 
 -- A value from 2^-149 on and below 1.
@@ -61,13 +61,13 @@ below-one e f h b k =
     ]
 
 -- Positive and below 1.
-pub whole-below-one : (e f : ℕ) → eqb e 0 && eqb f 0 ≡ false → f < 2 ^ 23 → e < 127 → 1 ≡ wholeOf e f
-unfolding wholeOf wholePart
+pub whole-below-one : (e f : ℕ) → eqb e 0 && eqb f 0 ≡ false → f < 2 ^ 23 → e < 127 → 1 ≡ numberOfParts e f
+unfolding numberOfParts numberFor
 whole-below-one e f h b k = let v = below-one e f h b k in below-unit (2 ^ 149) (2 ^ 63) (scaled e f) (v .0) (v .1) (lit≤ tt)
 
 -- From 2^63 on, infinity among them.
-pub whole-past-limit : (e f : ℕ) → 190 ≤ e → 2 ^ 63 ≡ wholeOf e f
-unfolding wholeOf wholePart
+pub whole-past-limit : (e f : ℕ) → 190 ≤ e → 2 ^ 63 ≡ numberOfParts e f
+unfolding numberOfParts numberFor
 whole-past-limit e f h =
     rw (normal e f (omega arith))
     (past-limit (2 ^ 149) (2 ^ 63) _ (lit< tt) (normal-positive e f) (lit≤ tt)
@@ -77,13 +77,13 @@ exponents : (e k : ℕ) → 150 ≤ e → k ≡ e - 150 → e - 1 ≡ k + 149
 exponents e k p h = omega arith
 
 -- The whole part of a single from 1 on and below 2^63.
-whole-normal : (e f n : ℕ) → 0 < e → (2 ^ 23 + f) * 2 ^ (e - 1) / 2 ^ 149 ≡ n → 1 ≤ n → n ≤ 2 ^ 63 → n ≡ wholeOf e f
-unfolding wholeOf wholePart
+whole-normal : (e f n : ℕ) → 0 < e → (2 ^ 23 + f) * 2 ^ (e - 1) / 2 ^ 149 ≡ n → 1 ≤ n → n ≤ 2 ^ 63 → n ≡ numberOfParts e f
+unfolding numberOfParts numberFor
 whole-normal e f n p h q r =
     rw (normal e f p) (within (2 ^ 149) (2 ^ 63) ((2 ^ 23 + f) * 2 ^ (e - 1)) n (normal-positive e f) h q r)
 
 -- From 2^23 on and below 2^63: a whole number.
-pub whole-up : (e f : ℕ) → f < 2 ^ 23 → 150 ≤ e → e < 190 → (2 ^ 23 + f) * 2 ^ (e - 150) % 2 ^ 64 ≡ wholeOf e f
+pub whole-up : (e f : ℕ) → f < 2 ^ 23 → 150 ≤ e → e < 190 → (2 ^ 23 + f) * 2 ^ (e - 150) % 2 ^ 64 ≡ numberOfParts e f
 whole-up e f b p q =
     let k = e - 150 in
     let small = shl-lt {a = 2 ^ 23 + f} 24 k (omega arith) in
@@ -94,7 +94,7 @@ whole-up e f b p q =
     (mul-pos {m = 2 ^ 23 + f} (omega arith) (pow-pos k)) (le-trans (le-of-lt small) (pow-mono {i = 24 + k} {j = 63} (omega arith))))
 
 -- From 1 on and below 2^23: what stands behind the point is cut off.
-pub whole-down : (e f : ℕ) → f < 2 ^ 23 → 127 ≤ e → e < 150 → (2 ^ 23 + f) / 2 ^ (150 - e) ≡ wholeOf e f
+pub whole-down : (e f : ℕ) → f < 2 ^ 23 → 127 ≤ e → e < 150 → (2 ^ 23 + f) / 2 ^ (150 - e) ≡ numberOfParts e f
 whole-down e f b p q =
     let unit : 2 ^ 149 ≡ 2 ^ (150 - e) * 2 ^ (e - 1)
     = ap (λ n. 2 ^ n) {x = 149} {y = 150 - e + (e - 1)} (omega arith) ∙ pow-add 2 (150 - e) (e - 1) in
@@ -117,6 +117,6 @@ pub negative : (s e f : ℕ) → eqb e 255 && not (eqb f 0) ≡ false → (s ≡
 unfolding rateOfParts
 negative s e f h k = rw (h, ne-eqb s 0 k)
 
-pub not-negative : (s e f n : ℕ) → eqb e 255 && not (eqb f 0) ≡ false → s ≡ 0 → n ≡ wholeOf e f → Number n ≡ rateOfParts s e f
+pub not-negative : (s e f n : ℕ) → eqb e 255 && not (eqb f 0) ≡ false → s ≡ 0 → n ≡ numberOfParts e f → Number n ≡ rateOfParts s e f
 unfolding rateOfParts
 not-negative s e f n h k w = rw (h, eq-eqb s 0 k, w)

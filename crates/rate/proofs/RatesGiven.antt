@@ -11,7 +11,7 @@ use lib.Dec.{leb, eqb, lit<, lit≤}
 use lib.Pow.{shl-lt, shl-exact, pow-mono, pow-pos, high, low}
 use Rattle.octets.proofs.Cases.{apart}
 use Rattle.rate.specs.declared.Rate.the-variants.{Number, NotANumber}
-use Rattle.rate.specs.Rate.{fitsSignificand, rateGiven, wholeOf, rateOf, rateOfParts, isNotANumber}
+use Rattle.rate.specs.Rate.{fitsSignificand, rateGiven, numberOfParts, rateOf, rateOfParts, isNotANumber}
 use Rattle.rate.proofs.Rates.{whole-zero, whole-below-one, whole-past-limit, whole-up, whole-down}
 
 -- Above 2^63 nothing passes, and up to it the halvings decide.
@@ -86,7 +86,7 @@ given-times n j h p =
     rw (shl-exact {a = n} 24 j 64 h (omega arith)) (sym (within-limit (n * 2 ^ j) bound) ∙ fits-times 40 j n h (omega arith))
 
 -- The number of every single passes.
-whole-given : (e f : ℕ) → f < 2 ^ 23 → rateGiven (wholeOf e f) ≡ true
+whole-given : (e f : ℕ) → f < 2 ^ 23 → rateGiven (numberOfParts e f) ≡ true
 whole-given e f b =
     elim (decLt e 127) [
       | yes h ↦ below (eqb e 0 && eqb f 0) refl h
@@ -97,11 +97,11 @@ whole-given e f b =
           ]
     ]
   where
-    below : (t : Bool) → eqb e 0 && eqb f 0 ≡ t → e < 127 → rateGiven (wholeOf e f) ≡ true
+    below : (t : Bool) → eqb e 0 && eqb f 0 ≡ t → e < 127 → rateGiven (numberOfParts e f) ≡ true
     below true z h = rw (← (whole-zero e f z)) (given-small 0 (lit< tt))
     below false z h = rw (← (whole-below-one e f z b h)) (given-small 1 (lit< tt))
 
-    middle : Dec (e < 150) → 127 ≤ e → e < 190 → rateGiven (wholeOf e f) ≡ true
+    middle : Dec (e < 150) → 127 ≤ e → e < 190 → rateGiven (numberOfParts e f) ≡ true
     middle (yes h) l m =
         rw (← (whole-down e f b l h))
         (given-small ((2 ^ 23 + f) / 2 ^ (150 - e)) (let d = div-le-self (2 ^ 23 + f) (2 ^ (150 - e)) in omega arith))
@@ -119,10 +119,10 @@ unfolding rateOf rateOfParts
 complete single n h =
     let e = single / 2 ^ 23 % 2 ^ 8 in
     let f = single % 2 ^ 23 in
-    given-number (isNotANumber e f) (eqb (single / 2 ^ 31) 0) (wholeOf e f) n (whole-given e f (mod-lt single (lit< tt))) h
+    given-number (isNotANumber e f) (eqb (single / 2 ^ 31) 0) (numberOfParts e f) n (whole-given e f (mod-lt single (lit< tt))) h
 
 -- A single with no sign, by its exponent and fraction.
-joined : (e f : ℕ) → e < 255 → f < 2 ^ 23 → rateOf (e * 2 ^ 23 + f) ≡ Number (wholeOf e f)
+joined : (e f : ℕ) → e < 255 → f < 2 ^ 23 → rateOf (e * 2 ^ 23 + f) ≡ Number (numberOfParts e f)
 unfolding rateOf rateOfParts
 joined e f p q =
     rw (
@@ -139,7 +139,7 @@ record Parts (n : ℕ) : Type 0 where
   fraction : ℕ
   below : exponent < 255
   fits : fraction < 2 ^ 23
-  gives : wholeOf exponent fraction ≡ n
+  gives : numberOfParts exponent fraction ≡ n
 
 -- A number from 2^24 on is 24 binary digits and a power of two.
 record Digits (limit n : ℕ) : Type 0 where
@@ -188,12 +188,12 @@ scaled-up (suc k) n h b =
       | no big ↦ record { power = 0; most = omega arith; least = rw mul-one (omega arith); fits = rw mul-one h }
     ]
 
-down-gives : (n p f : ℕ) → 0 < p → p ≤ 23 → f < 2 ^ 23 → 2 ^ 23 + f ≡ n * 2 ^ p → wholeOf (150 - p) f ≡ n
+down-gives : (n p f : ℕ) → 0 < p → p ≤ 23 → f < 2 ^ 23 → 2 ^ 23 + f ≡ n * 2 ^ p → numberOfParts (150 - p) f ≡ n
 down-gives n p f a b c e =
     let back : 150 - (150 - p) ≡ p = omega arith in
     sym (whole-down (150 - p) f c (omega arith) (omega arith)) ∙ rw (e, back) (mul-div-cancel n (pow-pos p))
 
-up-gives : (d p f : ℕ) → p < 40 → f < 2 ^ 23 → 2 ^ 23 + f ≡ d → wholeOf (150 + p) f ≡ d * 2 ^ p
+up-gives : (d p f : ℕ) → p < 40 → f < 2 ^ 23 → 2 ^ 23 + f ≡ d → numberOfParts (150 + p) f ≡ d * 2 ^ p
 up-gives d p f a c e =
     sym (whole-up (150 + p) f c (omega arith) (omega arith))
     ∙ rw (add-sub-cancel-left 150 p, e) (shl-exact {a = d} 24 p 64 (omega arith) (omega arith))

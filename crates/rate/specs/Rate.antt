@@ -13,12 +13,12 @@ unfoldable pub scaled : ℕ → ℕ → ℕ
 scaled exponent fraction = cond (eqb exponent 0) fraction ((2 ^ 23 + fraction) * 2 ^ (exponent - 1))
 
 -- 01: "A positive rate below 1 gives 1. Otherwise the whole part, at most 2^63; plus infinity gives 2^63." The value is given times 2^149.
-unfoldable pub wholePart : ℕ → ℕ
-wholePart value = cond (eqb value 0) 0 (min (2 ^ 63) (max 1 (value / 2 ^ 149)))
+unfoldable pub numberFor : ℕ → ℕ
+numberFor value = cond (eqb value 0) 0 (min (2 ^ 63) (max 1 (value / 2 ^ 149)))
 
 -- The number that a single gives without its sign.
-unfoldable pub wholeOf : ℕ → ℕ → ℕ
-wholeOf exponent fraction = wholePart (scaled exponent fraction)
+unfoldable pub numberOfParts : ℕ → ℕ → ℕ
+numberOfParts exponent fraction = numberFor (scaled exponent fraction)
 
 -- Exponent 255 with a fraction is not a number, whatever the sign (IEEE 754-1985 section 3.2.1).
 abbrev pub isNotANumber : ℕ → ℕ → Bool
@@ -28,7 +28,7 @@ isNotANumber exponent fraction = eqb exponent 255 && not (eqb fraction 0)
 -- gives 0, and plus zero gives 0 by its value.
 unfoldable pub rateOfParts : ℕ → ℕ → ℕ → Rate
 rateOfParts sign exponent fraction =
-    cond (isNotANumber exponent fraction) NotANumber (cond (eqb sign 0) (Number (wholeOf exponent fraction)) (Number 0))
+    cond (isNotANumber exponent fraction) NotANumber (cond (eqb sign 0) (Number (numberOfParts exponent fraction)) (Number 0))
 
 -- A rate, cut into sign, exponent and fraction.
 unfoldable pub rateOf : ℕ → Rate

@@ -1,7 +1,7 @@
 // What number a rate stands for (RFC 8955 sections 7.1 and 7.2), and which numbers some rate gives.
 ghost use mathlib.Core.Path.{_≡_};
 ghost use Prim.Native.Nat.{_<_, _^_};
-ghost use Rattle.rate.specs.Rate.{rateOf, wholeOf, rateGiven};
+ghost use Rattle.rate.specs.Rate.{rateOf, numberOfParts, rateGiven};
 
 // What a rate gives.
 pub enum Rate {
@@ -12,7 +12,7 @@ pub enum Rate {
 // The number that a single without its sign gives, by the size of its exponent.
 fn whole_of(exponent: u32, fraction: u32) -> u64
     requires { ⌜ fraction < 2 ^ 23 ⌝ }
-    ensures { λ r. ⌜ r ≡ wholeOf exponent fraction ⌝ }
+    ensures { λ r. ⌜ r ≡ numberOfParts exponent fraction ⌝ }
 {
     if (exponent == 0) & (fraction == 0) {
         return 0;

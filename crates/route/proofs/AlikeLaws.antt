@@ -9,13 +9,13 @@ use Rattle.prefix.specs.Prefix.{Pattern}
 use Rattle.prefix.proofs.ContainLaws.{Alike, contains-alike, contained-alike}
 use Rattle.route.specs.Route.{Route}
 use Rattle.route.specs.Destination.{Destination, Missing, At}
-use Rattle.route.specs.Feasible.{covers, moreSpecific, matched, bestMatch, undisputed, feasible}
+use Rattle.route.specs.Feasible.{coveredBy, moreSpecific, matched, bestMatch, undisputed, feasible}
 use Rattle.route.proofs.FeasibleLaws.{judged-alike}
 
 module _ (w : ℕ) (p q : Pattern) (same : Alike w p q) where
   -- the same routes cover both, and the same lie inside both
-  covers-alike : (r : Route) → covers w p r ≡ covers w q r
-  unfolding covers
+  covers-alike : (r : Route) → coveredBy w p r ≡ coveredBy w q r
+  unfolding coveredBy
   covers-alike r = contained-alike w p q same (r .prefix)
 
   inside-alike : (r : Route) → moreSpecific w p r ≡ moreSpecific w q r

@@ -6,7 +6,7 @@ use native.Mathlib.Omega.{arith}
 use borrow.Author.Tests.{eq-eqb, ne-eqb}
 use Rattle.octets.specs.Walk.{Walk}
 use Rattle.prefix.specs.declared.Prefix.{Prefix}
-use Rattle.prefix.specs.Prefix.{patternOf, prefixOf}
+use Rattle.prefix.specs.Prefix.{patternOf, patternIn}
 use Rattle.rule.specs.declared.Family.{Family}
 use Rattle.rule.specs.declared.Next.{Next}
 use Rattle.rule.specs.declared.Next.the-variants.{Nothing, Another, Refused}
@@ -18,7 +18,7 @@ use Rattle.route.specs.Destination.{Destination, Missing, At, destinatio
 
 -- how `destination_for` comes to its answers
 module _ (family : Family) (kind : ℕ) (body : List ℕ) where
-  pub one-prefix : (p : Prefix) → kind ≡ 1 → patternOf p ≡ prefixOf (family .width) (family .offsets) body
+  pub one-prefix : (p : Prefix) → kind ≡ 1 → patternOf p ≡ patternIn (family .width) (family .offsets) body
       → At (patternOf p) ≡ destinationFor family (record { kind = kind; body = body }) Missing
   unfolding destinationFor
   one-prefix p h e = rw (eq-eqb kind 1 h, e)

@@ -9,7 +9,7 @@ use Rattle.rule.specs.declared.Family.{Family}
 use Rattle.rule.specs.Family.{ipv4}
 use Rattle.route.specs.Route.{numberInWords, routeAt, routesFrom, routesOf, plainPrefix, rises, rising, soundRoutes}
 use Rattle.route.specs.Destination.{Destination, Missing, At}
-use Rattle.route.specs.Feasible.{covers, moreSpecific, longer, matched, bestMatch, undisputed, judged, feasible}
+use Rattle.route.specs.Feasible.{coveredBy, moreSpecific, longer, matched, bestMatch, undisputed, judged, feasible}
 
 -- 192.0.2.0/24 of originator 7 and AS 64500
 abbrev one : List ℕ
@@ -54,7 +54,7 @@ pub examples : (by one false (to 0xc0000200 25) 7
     ∷ by two true Missing 7
     ∷ [])
     ≡ true ∷ false ∷ true ∷ false ∷ true ∷ false ∷ false ∷ false ∷ true ∷ []
-unfolding every bits sameList coversAddress contains numberInWords routeAt routesFrom routesOf covers moreSpecific longer matched bestMatch undisputed judged feasible
+unfolding every bits sameList coversAddress contains numberInWords routeAt routesFrom routesOf coveredBy moreSpecific longer matched bestMatch undisputed judged feasible
 examples = refl
 
 -- a family with addresses of 128 bits, in four words, and offsets
@@ -79,5 +79,5 @@ pub longs : (soundRoutes wide long
     ∷ widely 1 64
     ∷ [])
     ≡ true ∷ false ∷ true ∷ false ∷ false ∷ []
-unfolding every bits sameList coversAddress contains numberInWords routeAt routesFrom routesOf plainPrefix rises rising soundRoutes covers moreSpecific longer matched bestMatch undisputed judged feasible
+unfolding every bits sameList coversAddress contains numberInWords routeAt routesFrom routesOf plainPrefix rises rising soundRoutes coveredBy moreSpecific longer matched bestMatch undisputed judged feasible
 longs = refl

@@ -17,15 +17,15 @@ use Rattle.rule.specs.declared.Family.{Family}
 use Rattle.rule.specs.Family.{Fits}
 use Rattle.route.specs.Route.{Route, routeAt, routesFrom, routesOf, rising, soundRoutes}
 use Rattle.route.specs.Destination.{Missing, At}
-use Rattle.route.specs.Feasible.{Longest, BestMatch, Nothing, Found, covers, moreSpecific, longer, matched, bestMatch, undisputed, judged, feasible}
+use Rattle.route.specs.Feasible.{Longest, BestMatch, Nothing, Found, coveredBy, moreSpecific, longer, matched, bestMatch, undisputed, judged, feasible}
 use Rattle.route.proofs.SoundLaws.{only-once, sound-rising, sound-formed}
 
 -- a route is a match where it covers the destination
-covering-match : (w : ℕ) (d : Pattern) (r : Route) → covers w d r ≡ true → matched w d r ≡ Found r
+covering-match : (w : ℕ) (d : Pattern) (r : Route) → coveredBy w d r ≡ true → matched w d r ≡ Found r
 unfolding matched
 covering-match w d r e = rw e
 
-no-match : (w : ℕ) (d : Pattern) (r : Route) → covers w d r ≡ false → matched w d r ≡ Nothing
+no-match : (w : ℕ) (d : Pattern) (r : Route) → coveredBy w d r ≡ false → matched w d r ≡ Nothing
 unfolding matched
 no-match w d r e = rw e
 
@@ -36,33 +36,33 @@ found-stays r Nothing e = apart (cc)
 found-stays r (Found s) e =
     by-test (ltb (r .prefix .length) (s .prefix .length)) (λ t. let f = rw t at e in apart (cc)) (λ t. let f = rw t at e in apart (cc))
 
-pub none-covers : (w : ℕ) (d : Pattern) (rs : List Route) → bestMatch w d rs ≡ Nothing → (s : Route) → List·Memᴰ s rs → covers w d s ≡ false
+pub none-covers : (w : ℕ) (d : Pattern) (rs : List Route) → bestMatch w d rs ≡ Nothing → (s : Route) → List·Memᴰ s rs → coveredBy w d s ≡ false
 unfolding bestMatch longer
 none-covers w d [] e s m = absurd (List·Memᴰ·not-nil m)
 none-covers w d (r ∷ rs) e s m =
-    by-test (covers w d r) (λ t. found-stays r (bestMatch w d rs) (rw (covering-match w d r t) at e))
+    by-test (coveredBy w d r) (λ t. found-stays r (bestMatch w d rs) (rw (covering-match w d r t) at e))
     (λ t.
     let below = none-covers w d rs (rw (no-match w d r t) at e) s in
     ⊎-elim (λ f. rw f t) below (List·Memᴰ·cases-cons m))
 
 -- no route that covers the destination is longer than n
 abbrev AtMost : ℕ → Pattern → List Route → ℕ → Type 0
-AtMost w d rs n = (s : Route) → List·Memᴰ s rs → covers w d s ≡ true → s .prefix .length ≤ n
+AtMost w d rs n = (s : Route) → List·Memᴰ s rs → coveredBy w d s ≡ true → s .prefix .length ≤ n
 
-at-most : (w : ℕ) (d : Pattern) (r : Route) (rs : List Route) (n : ℕ) → (covers w d r ≡ true → r .prefix .length ≤ n) → AtMost w d rs n
+at-most : (w : ℕ) (d : Pattern) (r : Route) (rs : List Route) (n : ℕ) → (coveredBy w d r ≡ true → r .prefix .length ≤ n) → AtMost w d rs n
     → AtMost w d (r ∷ rs) n
 at-most w d r rs n h k s m c = ⊎-elim (λ e. rw e (h (rw e at c))) (λ l. k s l c) (List·Memᴰ·cases-cons m)
 
 -- the longest of a route and others: the one, or the longest of the others
 module _ (w : ℕ) (d : Pattern) (s : Route) (rs : List Route) where
-  first : covers w d s ≡ true → AtMost w d rs (s .prefix .length) → Longest w d (s ∷ rs) s
+  first : coveredBy w d s ≡ true → AtMost w d rs (s .prefix .length) → Longest w d (s ∷ rs) s
   first c k = record { among = List·Memᴰ·head refl; covering = c; longest = at-most w d s rs (s .prefix .length) (λ e. omega arith) k }
 
-  still : (t : Route) → Longest w d rs t → (covers w d s ≡ true → s .prefix .length ≤ t .prefix .length) → Longest w d (s ∷ rs) t
+  still : (t : Route) → Longest w d rs t → (coveredBy w d s ≡ true → s .prefix .length ≤ t .prefix .length) → Longest w d (s ∷ rs) t
   still t T h = record { among = List·Memᴰ·tail (T .among); covering = T .covering; longest = at-most w d s rs (t .prefix .length) h (T .longest) }
 
 -- one covering route before others, by the best match of those
-module _ (w : ℕ) (d : Pattern) (s : Route) (rs : List Route) (c : covers w d s ≡ true) where
+module _ (w : ℕ) (d : Pattern) (s : Route) (rs : List Route) (c : coveredBy w d s ≡ true) where
   alone : bestMatch w d rs ≡ Nothing → Longest w d (s ∷ rs) s
   alone none = first w d s rs c (λ t m e. let f = none-covers w d rs none t m in apart (cc))
 
@@ -84,10 +84,10 @@ pub best-longest : (w : ℕ) (d : Pattern) (rs : List Route) (r : Route) → bes
 unfolding bestMatch longer
 best-longest w d [] r e = apart (cc)
 best-longest w d (s ∷ rs) r e =
-    by-test (covers w d s) (λ t. go (bestMatch w d rs) refl t (rw (covering-match w d s t) at e) (best-longest w d rs))
+    by-test (coveredBy w d s) (λ t. go (bestMatch w d rs) refl t (rw (covering-match w d s t) at e) (best-longest w d rs))
     (λ t. still w d s rs r (best-longest w d rs r (rw (no-match w d s t) at e)) (λ f. apart (cc)))
   where
-    go : (b : BestMatch) → bestMatch w d rs ≡ b → covers w d s ≡ true → longer (Found s) (bestMatch w d rs) ≡ Found r
+    go : (b : BestMatch) → bestMatch w d rs ≡ b → coveredBy w d s ≡ true → longer (Found s) (bestMatch w d rs) ≡ Found r
         → ((t : Route) → bestMatch w d rs ≡ Found t → Longest w d rs t) → Longest w d (s ∷ rs) r
     go Nothing f t g below = let same : s ≡ r = let h = rw f at g in cc in rw (← same) (alone w d s rs t f)
     go (Found u) f t g below = before w d s rs t u (below u f) r (rw f at g)
@@ -95,7 +95,7 @@ best-longest w d (s ∷ rs) r e =
 -- routes that rise, each with a well-formed prefix, have one longest at most
 pub one-longest : (w : ℕ) (d : Pattern) (rs : List Route) → rising rs ≡ true → ((r : Route) → List·Memᴰ r rs → WellFormed w (r .prefix))
     → (r s : Route) → Longest w d rs r → Longest w d rs s → r ≡ s
-unfolding covers
+unfolding coveredBy
 one-longest w d rs rise formed r s R S =
     let h = R .longest s (S .among) (S .covering) in
     let k = S .longest r (R .among) (R .covering) in
@@ -123,7 +123,7 @@ sound-best family F d ws sound fits r = (
 
 -- the routes that matter: those that cover the destination or lie strictly inside it
 abbrev pub matters : ℕ → Pattern → Route → Bool
-matters w d r = covers w d r || moreSpecific w d r
+matters w d r = coveredBy w d r || moreSpecific w d r
 
 abbrev pub only : {A : Type 0} → (A → Bool) → List A → List A
 only test [] = []
@@ -133,14 +133,14 @@ best-only : (w : ℕ) (d : Pattern) (rs : List Route) → bestMatch w d (only (m
 unfolding bestMatch longer
 best-only w d [] = refl
 best-only w d (r ∷ rs) =
-    by-test (covers w d r) (λ e. rw (e, best-only w d rs))
+    by-test (coveredBy w d r) (λ e. rw (e, best-only w d rs))
     (λ e. by-test (moreSpecific w d r) (λ f. rw (e, f, best-only w d rs)) (λ f. rw (e, f, no-match w d r e, best-only w d rs)))
 
 undisputed-only : (w : ℕ) (d : Pattern) (rs : List Route) (n : ℕ) → undisputed w d n (only (matters w d) rs) ≡ undisputed w d n rs
 unfolding undisputed every
 undisputed-only w d [] n = refl
 undisputed-only w d (r ∷ rs) n =
-    by-test (covers w d r) (λ e. rw (e, undisputed-only w d rs n))
+    by-test (coveredBy w d r) (λ e. rw (e, undisputed-only w d rs n))
     (λ e. by-test (moreSpecific w d r) (λ f. rw (e, f, f, undisputed-only w d rs n)) (λ f. rw (e, f, undisputed-only w d rs n)))
 
 -- destinations with the same best match, whose routes more specific are of the same neighbour ASes, are judged alike
@@ -176,8 +176,8 @@ by-allowed w s originator rs = refl
 
 -- RFC 8956 section 5: a destination with an offset is covered by no route, and so infeasible whatever is allowed
 module _ (family : Family) (ws : List ℕ) (d : Pattern) (h : d .offset ≡ 0 → ⊥) where
-  elsewhere : (at : ℕ) → covers (family .width) d (routeAt family ws at) ≡ false
-  unfolding covers routeAt
+  elsewhere : (at : ℕ) → coveredBy (family .width) d (routeAt family ws at) ≡ false
+  unfolding coveredBy routeAt
   elsewhere at = sym (other-offset (family .width) (routeAt family ws at .prefix) d (λ e. h (sym e)))
 
   none-matches : (n at : ℕ) → bestMatch (family .width) d (routesFrom family n ws at) ≡ Nothing

@@ -23,7 +23,7 @@ use Rattle.route.specs.declared.Neighbours.{Neighbours}
 use Rattle.route.specs.declared.Neighbours.the-variants.{Nobody, One, Several}
 use Rattle.route.specs.Route.{Route, routeOf, routeAt, routesOf}
 use Rattle.route.specs.Destination.{destinationIn}
-use Rattle.route.specs.Feasible.{BestMatch, Nothing, Found, matchOf, covers, moreSpecific, longer, matched, bestMatch, undisputed, judged, feasible}
+use Rattle.route.specs.Feasible.{BestMatch, Nothing, Found, matchOf, coveredBy, moreSpecific, longer, matched, bestMatch, undisputed, judged, feasible}
 use Rattle.route.specs.Pass.{added, noted, agrees, validated}
 use Rattle.route.proofs.RouteLaws.{ahead, routes-all, routes-next, routes-end}
 
@@ -120,21 +120,21 @@ pass-end family d ws best seen at originator v c h e =
 -- one route more: the best match stays where the route does not cover the destination, or is no longer
 module _ (w : ℕ) (d : Pattern) (best : BestMatchInCode) (r : RouteInCode) (t : Bool) (says : t ≡ contains w (patternOf (r .prefix)) d) where
   pub not-covering : not t ≡ true → matchOf best ≡ longer (matchOf best) (matched w d (routeOf r))
-  unfolding matched covers
+  unfolding matched coveredBy
   not-covering e = rw (← says, not-true t e) (sym (longer-none (matchOf best)))
 
   pub first-match : not t ≡ false → best ≡ NothingInCode → Found (routeOf r) ≡ longer (matchOf best) (matched w d (routeOf r))
-  unfolding matched covers longer
+  unfolding matched coveredBy longer
   first-match e f = rw (f, ← says, not-false t e)
 
   pub longer-match : (s : RouteInCode) → not t ≡ false → best ≡ FoundInCode s → s .prefix .length < r .prefix .length
       → Found (routeOf r) ≡ longer (matchOf best) (matched w d (routeOf r))
-  unfolding matched covers longer
+  unfolding matched coveredBy longer
   longer-match s e f h = rw (f, ← says, not-false t e, lt-ltb (s .prefix .length) (r .prefix .length) h)
 
   pub no-longer : (s : RouteInCode) → not t ≡ false → best ≡ FoundInCode s → r .prefix .length ≤ s .prefix .length
       → Found (routeOf s) ≡ longer (matchOf best) (matched w d (routeOf r))
-  unfolding matched covers longer
+  unfolding matched coveredBy longer
   no-longer s e f h = rw (f, ← says, not-false t e, le-ltb (s .prefix .length) (r .prefix .length) h)
 
 -- one route more: its neighbour AS is noted where the route is longer than the destination and inside it

@@ -3,7 +3,7 @@ use Prim.Native.Nat.{ℕ}
 use mathlib.Core.Bool.{cond}
 use mathlib.Core.List.{List, [], _∷_}
 use lib.Dec.{eqb}
-use Rattle.prefix.specs.Prefix.{Pattern, patternOf, prefixOf}
+use Rattle.prefix.specs.Prefix.{Pattern, patternOf, patternIn}
 use Rattle.rule.specs.declared.Family.{Family}
 use Rattle.rule.specs.Value.{Component, components}
 use Rattle.route.specs.declared.Destination.{Destination as DestinationInCode}
@@ -21,7 +21,7 @@ destinationIn (AtInCode p) = At (patternOf p)
 
 -- The destination if this component is of type 1, else what the rest gives.
 unfoldable pub destinationFor : Family → Component → Destination → Destination
-destinationFor family p rest = cond (eqb (p .kind) 1) (At (prefixOf (family .width) (family .offsets) (p .body))) rest
+destinationFor family p rest = cond (eqb (p .kind) 1) (At (patternIn (family .width) (family .offsets) (p .body))) rest
 
 -- The destination among components.
 unfoldable pub destinationAmong : Family → List Component → Destination

@@ -13,8 +13,8 @@ use Rattle.route.specs.Route.{Route, routeOf}
 use Rattle.route.specs.Destination.{Destination, Missing, At}
 
 -- Section 6 b): a route covers the destination where its prefix contains it; a route equal to the destination covers it.
-unfoldable pub covers : ℕ → Pattern → Route → Bool
-covers w destination r = contains w (r .prefix) destination
+unfoldable pub coveredBy : ℕ → Pattern → Route → Bool
+coveredBy w destination r = contains w (r .prefix) destination
 
 -- Section 6 c): a route is more specific than the destination where it lies strictly inside; a route equal to the destination does not.
 unfoldable pub moreSpecific : ℕ → Pattern → Route → Bool
@@ -24,8 +24,8 @@ moreSpecific w destination r = contains w destination (r .prefix) && ltb (destin
 -- destination, and no other that covers it is longer. The law `sound-best` says that `bestMatch` is it.
 pub record Longest (w : ℕ) (destination : Pattern) (routes : List Route) (r : Route) : Type 0 where
   pub among : List·Memᴰ r routes
-  pub covering : covers w destination r ≡ true
-  pub longest : (s : Route) → List·Memᴰ s routes → covers w destination s ≡ true → s .prefix .length ≤ r .prefix .length
+  pub covering : coveredBy w destination r ≡ true
+  pub longest : (s : Route) → List·Memᴰ s routes → coveredBy w destination s ≡ true → s .prefix .length ≤ r .prefix .length
 
 -- The best match for a destination, which may have none.
 pub data BestMatch : Type 0 where
@@ -45,7 +45,7 @@ longer (Found r) (Found s) = cond (ltb (r .prefix .length) (s .prefix .length)) 
 
 -- Section 6 b): a route that covers the destination is a match.
 unfoldable pub matched : ℕ → Pattern → Route → BestMatch
-matched w destination r = cond (covers w destination r) (Found r) Nothing
+matched w destination r = cond (coveredBy w destination r) (Found r) Nothing
 
 -- Section 6 b): the best match is the route with the longest prefix that covers the destination.
 unfoldable pub bestMatch : ℕ → Pattern → List Route → BestMatch

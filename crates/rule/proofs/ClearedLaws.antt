@@ -14,10 +14,10 @@ use borrow.Author.Tests.{ltb-true}
 use Rattle.octets.proofs.Facts.{Octets, allBelow, below, octet, octet-test}
 use Rattle.rule.specs.declared.Family.{Family}
 use Rattle.rule.specs.declared.Expected.{Expected}
-use Rattle.rule.specs.declared.Expected.the-variants.{Head, Kind, Length, Offset, Address, Operator, Operand}
+use Rattle.rule.specs.declared.Expected.the-variants.{Head, Kind, Length, Offset, PatternOctet, Operator, Operand}
 use Rattle.rule.specs.Shape.{shapeOf}
 use Rattle.rule.specs.Operator.{endsList, sizeOf}
-use Rattle.rule.specs.Plain.{expectedAtStart, after, withoutReserved, plainOperator, plainOperand, plainAddress, clearedOctet, plainFrom, plain}
+use Rattle.rule.specs.Plain.{expectedAtStart, after, withoutReserved, plainOperator, plainOperand, plainPattern, clearedOctet, plainFrom, plain}
 use Rattle.rule.proofs.PlainLaws.{operand-small}
 
 -- an operator is cleared by one of four masks: what holds of each holds of the clearing
@@ -80,8 +80,8 @@ pub operand-again : (ignored x : ℕ) → plainOperand ignored (plainOperand ign
 unfolding plainOperand
 operand-again ignored x = rw (taken x ignored) (omega arith)
 
-address-again : (left x : ℕ) → plainAddress left (plainAddress left x) ≡ plainAddress left x
-unfolding plainAddress
+address-again : (left x : ℕ) → plainPattern left (plainPattern left x) ≡ plainPattern left x
+unfolding plainPattern
 address-again left x = rw (shl-shr (x / 2 ^ (8 - left)) (8 - left))
 
 module _ (family : Family) where
@@ -92,7 +92,7 @@ module _ (family : Family) where
   cleared-again Kind x h = refl
   cleared-again Length x h = refl
   cleared-again (Offset length) x h = refl
-  cleared-again (Address left) x h = address-again left x
+  cleared-again (PatternOctet left) x h = address-again left x
   cleared-again (Operator kind first) x h = operator-again (shapeOf family kind .bitmask) first x h
   cleared-again (Operand kind left last) x h = operand-again (shapeOf family kind .ignored) x
 
@@ -103,7 +103,7 @@ module _ (family : Family) where
   after-cleared Kind x h = refl
   after-cleared Length x h = refl
   after-cleared (Offset length) x h = refl
-  after-cleared (Address left) x h = refl
+  after-cleared (PatternOctet left) x h = refl
   after-cleared (Operator kind first) x h = λ i. Operand kind (size-kept (shapeOf family kind .bitmask) first x h i) (end-kept (shapeOf family kind .bitmask) first x h i)
   after-cleared (Operand kind left last) x h = refl
 
@@ -121,12 +121,12 @@ module _ (family : Family) where
 
   -- an octet that is cleared is an octet
   pub cleared-small : (e : Expected) (x : ℕ) → x < 256 → clearedOctet family e x < 256
-  unfolding clearedOctet plainAddress
+  unfolding clearedOctet plainPattern
   cleared-small (Head left) x h = h
   cleared-small Kind x h = h
   cleared-small Length x h = h
   cleared-small (Offset length) x h = h
-  cleared-small (Address left) x h = omega (arith, split x (8 - left))
+  cleared-small (PatternOctet left) x h = omega (arith, split x (8 - left))
   cleared-small (Operator kind first) x h = operator-small (shapeOf family kind .bitmask) first x h
   cleared-small (Operand kind left last) x h = operand-small (shapeOf family kind .ignored) x (plainOperand (shapeOf family kind .ignored) x) refl h
 

@@ -13,7 +13,7 @@ use Rattle.rule.specs.Shape.{shapeOf}
 use Rattle.rule.specs.Operator.{endsList, sizeOf}
 use Rattle.rule.specs.Component.{pairAt, pairsFrom, leadOf, offsetAt, prefixEnd, bodyEnd, componentAt}
 use Rattle.rule.specs.Value.{componentsFrom, checkValue}
-use Rattle.rule.specs.Plain.{expectedAtStart, bodyOf, patternAfter, operandAfter, after, withoutReserved, plainOperator, plainOperand, plainAddress, clearedOctet, plainFrom, plain}
+use Rattle.rule.specs.Plain.{expectedAtStart, bodyOf, patternAfter, operandAfter, after, withoutReserved, plainOperator, plainOperand, plainPattern, clearedOctet, plainFrom, plain}
 
 -- a family to try the definitions on
 abbrev tried : Family
@@ -72,5 +72,5 @@ pub plain-values : (plain ipv4 (1 ∷ 25 ∷ 255 ∷ 255 ∷ 255 ∷ 255 ∷ 11 
     ≡ (1 ∷ 25 ∷ 255 ∷ 255 ∷ 255 ∷ 0x80 ∷ 11 ∷ 0x87 ∷ 0x3f ∷ 12 ∷ 0x03 ∷ 0x0f ∷ 0xc3 ∷ 0x0f ∷ [])
     ∷ headed (1 ∷ 28 ∷ 8 ∷ 255 ∷ 255 ∷ 0xf0 ∷ 11 ∷ 0x87 ∷ 0x3f ∷ 12 ∷ 0x03 ∷ 0x0e ∷ 0xc3 ∷ 0x0e ∷ [])
     ∷ []
-unfolding endsList sizeOf shapeOf expectedAtStart bodyOf patternAfter operandAfter after withoutReserved plainOperator plainOperand plainAddress clearedOctet plainFrom plain
+unfolding endsList sizeOf shapeOf expectedAtStart bodyOf patternAfter operandAfter after withoutReserved plainOperator plainOperand plainPattern clearedOctet plainFrom plain
 plain-values = refl

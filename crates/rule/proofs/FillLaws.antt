@@ -29,7 +29,7 @@ use Rattle.rule.specs.Shape.{shapeOf}
 use Rattle.rule.specs.Operator.{endsList, sizeOf}
 use Rattle.rule.specs.Component.{pairsFrom, offsetAt, prefixEnd, bodyEnd, componentAt}
 use Rattle.rule.specs.Value.{Component, spelled, between, componentsFrom, components, checkValue}
-use Rattle.rule.specs.Plain.{bodyOf, operandAfter, after, plainOperator, plainOperand, plainAddress, clearedOctet, plainFrom, plain}
+use Rattle.rule.specs.Plain.{bodyOf, operandAfter, after, plainOperator, plainOperand, plainPattern, clearedOctet, plainFrom, plain}
 use Rattle.rule.specs.PlainComponent.{plainComponent}
 use Rattle.rule.proofs.ShapeLaws.{one-octet-or-whole}
 use Rattle.rule.proofs.OperatorLaws.{size-positive}
@@ -45,7 +45,7 @@ module _ (family : Family) (body : List ℕ) (alone : prefixEnd family body 0 �
   pub prefix-kept : (getD body 0 0 - offset) % 8 ≡ 0 → body ≡ plainFrom family Length body
   prefix-kept h = sym (prefix-passed family body (prefix-there family body alone) (rw is at h))
 
-  pub prefix-clear : (x : ℕ) → ((getD body 0 0 - offset) % 8 ≡ 0 → ⊥) → x ≡ plainAddress ((getD body 0 0 - offset) % 8) (getD body (length body - 1) 0)
+  pub prefix-clear : (x : ℕ) → ((getD body 0 0 - offset) % 8 ≡ 0 → ⊥) → x ≡ plainPattern ((getD body 0 0 - offset) % 8) (getD body (length body - 1) 0)
       → set body (length body - 1) x ≡ plainFrom family Length body
   prefix-clear x h e =
       let kept = ap (λ n. (getD body 0 0 - n) % 8) is in

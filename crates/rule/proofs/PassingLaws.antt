@@ -14,10 +14,10 @@ use borrow.Author.Tests.{lt-leb, lt-ltb}
 use Rattle.octets.proofs.Cases.{by-test}
 use Rattle.rule.specs.declared.Family.{Family}
 use Rattle.rule.specs.declared.Expected.{Expected}
-use Rattle.rule.specs.declared.Expected.the-variants.{Kind, Length, Offset, Address, Operator, Operand}
+use Rattle.rule.specs.declared.Expected.the-variants.{Kind, Length, Offset, PatternOctet, Operator, Operand}
 use Rattle.rule.specs.Shape.{shapeOf}
 use Rattle.rule.specs.Component.{leadOf, offsetAt}
-use Rattle.rule.specs.Plain.{patternAfter, operandAfter, after, plainAddress, clearedOctet, plainFrom}
+use Rattle.rule.specs.Plain.{patternAfter, operandAfter, after, plainPattern, clearedOctet, plainFrom}
 use Rattle.rule.proofs.ComponentLaws.{lead-with, lead-without, lead-some, offset-with, offset-without}
 use Rattle.rule.proofs.ComponentsLaws.{PrefixBody}
 use Rattle.rule.proofs.PlainLaws.{whole-octet, whole-operand, pattern-some, after-length-offset, after-length, after-offset}
@@ -63,7 +63,7 @@ module _ (family : Family) where
 
   -- octets of a pattern before its last one
   pub pattern-passed : (n left i : ℕ) (s : List ℕ) → 8 * n < left → i + n ≤ length s
-      → plainBehind (Address left) i s ≡ plainBehind (Address (left - 8 * n)) (i + n) s
+      → plainBehind (PatternOctet left) i s ≡ plainBehind (PatternOctet (left - 8 * n)) (i + n) s
   unfolding after clearedOctet
   pattern-passed zero left i s h k =
       let e : left - 8 * 0 ≡ left = omega arith in
@@ -72,7 +72,7 @@ module _ (family : Family) where
   pattern-passed (suc n) left i s h k =
       let e : left - 8 * suc n ≡ left - 8 - 8 * n = omega arith in
       let z : i + suc n ≡ i + 1 + n = omega arith in
-      octet-passed (Address left) i s (omega arith) (sym (whole-octet left (getD s i 0) (omega arith)))
+      octet-passed (PatternOctet left) i s (omega arith) (sym (whole-octet left (getD s i 0) (omega arith)))
       ∙ rw (lt-leb left 8 (omega arith), e, z) (pattern-passed n (left - 8) (i + 1) s (omega arith) (omega arith))
 
   -- octets of a value of which no bit is ignored
@@ -94,7 +94,7 @@ module _ (family : Family) (body : List ℕ) (p : PrefixBody family body) where
   abbrev pub lastOctet : ℕ
   lastOctet = getD body (length body - 1) 0
 
-  to-last : 0 < left → plainFrom family Length body ≡ plainBehind family (Address (left - 8 * ((left - 1) / 8))) (length body - 1) body
+  to-last : 0 < left → plainFrom family Length body ≡ plainBehind family (PatternOctet (left - 8 * ((left - 1) / 8))) (length body - 1) body
   to-last some =
       let whole = p .whole in
       let n = (left - 1) / 8 in
@@ -110,17 +110,17 @@ module _ (family : Family) (body : List ℕ) (p : PrefixBody family body) where
         | yes h ↦
             let kept : left - 8 * ((left - 1) / 8) ≡ 8 = omega arith in
             to-last h
-            ∙ rw kept (octet-passed family (Address 8) (length body - 1) body (omega arith) (sym (whole-octet 8 lastOctet (omega arith))))
-            ∙ all-plain family (after family (Address 8) lastOctet) (length body - 1 + 1) body (omega arith)
+            ∙ rw kept (octet-passed family (PatternOctet 8) (length body - 1) body (omega arith) (sym (whole-octet 8 lastOctet (omega arith))))
+            ∙ all-plain family (after family (PatternOctet 8) lastOctet) (length body - 1 + 1) body (omega arith)
         | no h ↦ lead-passed family body (omega arith) ∙ all-plain family (patternAfter (getD body 0 0) (offsetAt family body 1)) (leadOf family) body (omega arith)
       ]
 
-  pub prefix-cleared : (left % 8 ≡ 0 → ⊥) → plainFrom family Length body ≡ set body (length body - 1) (plainAddress (left % 8) lastOctet)
+  pub prefix-cleared : (left % 8 ≡ 0 → ⊥) → plainFrom family Length body ≡ set body (length body - 1) (plainPattern (left % 8) lastOctet)
   unfolding clearedOctet
   prefix-cleared some =
       let whole = p .whole in
       let kept : left - 8 * ((left - 1) / 8) ≡ left % 8 = omega arith in
-      let x = plainAddress (left % 8) lastOctet in
+      let x = plainPattern (left % 8) lastOctet in
       to-last (omega arith)
-      ∙ rw kept (octet-cleared family (Address (left % 8)) (length body - 1) body x (omega arith) refl)
-      ∙ all-plain family (after family (Address (left % 8)) lastOctet) (length body - 1 + 1) (set body (length body - 1) x) (simp length-set (omega arith))
+      ∙ rw kept (octet-cleared family (PatternOctet (left % 8)) (length body - 1) body x (omega arith) refl)
+      ∙ all-plain family (after family (PatternOctet (left % 8)) lastOctet) (length body - 1 + 1) (set body (length body - 1) x) (simp length-set (omega arith))

@@ -11,18 +11,18 @@ use lib.Pow.{pow-add, split}
 use borrow.Author.Tests.{eq-eqb, ne-eqb, le-leb, lt-leb}
 use Rattle.rule.specs.declared.Family.{Family}
 use Rattle.rule.specs.declared.Expected.{Expected}
-use Rattle.rule.specs.declared.Expected.the-variants.{Head, Kind, Length, Offset, Address}
-use Rattle.rule.specs.Plain.{expectedAtStart, patternAfter, after, plainOperand, plainAddress, clearedOctet, plainFrom, plain}
+use Rattle.rule.specs.declared.Expected.the-variants.{Head, Kind, Length, Offset, PatternOctet}
+use Rattle.rule.specs.Plain.{expectedAtStart, patternAfter, after, plainOperand, plainPattern, clearedOctet, plainFrom, plain}
 
--- what the shifts of `plain_address` leave
+-- what the shifts of `plain_pattern` leave
 pub shifted : (x k : ℕ) → x < 256 → x / 2 ^ k * 2 ^ k % 2 ^ 32 ≡ x / 2 ^ k * 2 ^ k
 shifted x k h = mod-eq-of-lt (omega (arith, split x k))
 
 pub shifted-small : (x k : ℕ) → x < 256 → x / 2 ^ k * 2 ^ k % 2 ^ 32 < 256
 shifted-small x k h = rw (shifted x k h) (omega (arith, split x k))
 
-pub whole-octet : (left x : ℕ) → 8 ≤ left → x ≡ plainAddress left x
-unfolding plainAddress
+pub whole-octet : (left x : ℕ) → 8 ≤ left → x ≡ plainPattern left x
+unfolding plainPattern
 whole-octet left x h = let z : 8 - left ≡ 0 = omega arith in rw z (omega arith)
 
 -- an octet of a value stays an octet
@@ -64,7 +64,7 @@ module _ (bits offset : ℕ) where
   unfolding patternAfter
   pattern-none h = rw (le-leb _ _ h)
 
-  pub pattern-some : offset < bits → Address (bits - offset) ≡ patternAfter bits offset
+  pub pattern-some : offset < bits → PatternOctet (bits - offset) ≡ patternAfter bits offset
   unfolding patternAfter
   pattern-some h = rw (lt-leb _ _ h)
 

@@ -30,7 +30,7 @@ use Rattle.rule.specs.Shape.{shapeOf}
 use Rattle.rule.specs.Operator.{endsList, sizeOf}
 use Rattle.rule.specs.Component.{pairAt, Pair, pairsFrom, leadOf, offsetAt, prefixEnd, bodyEnd}
 use Rattle.rule.specs.Value.{Component, spelled, between, headOf, components, checkValue}
-use Rattle.rule.specs.Plain.{bodyOf, operandAfter, after, plainOperator, plainOperand, plainAddress, clearedOctet, plainFrom, plain}
+use Rattle.rule.specs.Plain.{bodyOf, operandAfter, after, plainOperator, plainOperand, plainPattern, clearedOctet, plainFrom, plain}
 use Rattle.rule.specs.PlainComponent.{plainComponent}
 use Rattle.rule.proofs.ShapeLaws.{one-octet-or-whole}
 use Rattle.rule.proofs.OperatorLaws.{size-positive}
@@ -295,8 +295,8 @@ module _ (family : Family) (body : List ℕ) (p : PrefixBody family body) where
   prefix-whole-octets all = rw (prefix-passed family body p all) (list-same body)
 
   -- or some of its last octet's
-  pub prefix-last-octet : (left family body p % 8 ≡ 0 → ⊥) → plainFromHere family Length body ≡ eqb (plainAddress (left family body p % 8) (lastOctet family body p)) (lastOctet family body p)
+  pub prefix-last-octet : (left family body p % 8 ≡ 0 → ⊥) → plainFromHere family Length body ≡ eqb (plainPattern (left family body p % 8) (lastOctet family body p)) (lastOctet family body p)
   prefix-last-octet some =
       let whole = p .whole in
       let lead = lead-some family in
-      rw (prefix-cleared family body p some) (exchanged body (length body - 1) (plainAddress (left family body p % 8) (lastOctet family body p)) (omega arith))
+      rw (prefix-cleared family body p some) (exchanged body (length body - 1) (plainPattern (left family body p % 8) (lastOctet family body p)) (omega arith))

@@ -21,7 +21,7 @@ use Rattle.octets.proofs.NumberLaws.{number-alike, one-octet}
 use Rattle.rule.specs.declared.Family.{Family}
 use Rattle.rule.specs.declared.Shape.{Shape}
 use Rattle.rule.specs.declared.Expected.{Expected}
-use Rattle.rule.specs.declared.Expected.the-variants.{Head, Kind, Length, Offset, Address, Operator, Operand}
+use Rattle.rule.specs.declared.Expected.the-variants.{Head, Kind, Length, Offset, PatternOctet, Operator, Operand}
 use Rattle.rule.specs.declared.NextPair.{NextPair}
 use Rattle.rule.specs.declared.NextPair.the-variants.{More, Last, Refused as RefusedPair}
 use Rattle.rule.specs.declared.BodyEnd.{BodyEnd}
@@ -185,14 +185,14 @@ module _ (family : Family) (start : Expected) (v : List ℕ) (o : Octets v) (kin
 
 module _ (family : Family) (start : Expected) (v : List ℕ) where
   -- behind the octets of a prefix stands a type
-  prefix-passed : (m left i : ℕ) → left ≤ m → Expects family start v i (Address left) → 1 ≤ left → i + (left + 7) / 8 ≤ length v → Expects family start v (i + (left + 7) / 8) Kind
+  prefix-passed : (m left i : ℕ) → left ≤ m → Expects family start v i (PatternOctet left) → 1 ≤ left → i + (left + 7) / 8 ≤ length v → Expects family start v (i + (left + 7) / 8) Kind
   unfolding after
   prefix-passed zero left i b x h k = absurd (omega arith)
   prefix-passed (suc m) left i b x h k =
-      go (prefix-passed m (left - 8) (i + 1)) (leb left 8) refl (goes-on family start v i (Address left) x (omega arith))
+      go (prefix-passed m (left - 8) (i + 1)) (leb left 8) refl (goes-on family start v i (PatternOctet left) x (omega arith))
     where
-      go : (left - 8 ≤ m → Expects family start v (i + 1) (Address (left - 8)) → 1 ≤ left - 8 → i + 1 + (left - 8 + 7) / 8 ≤ length v
-          → Expects family start v (i + 1 + (left - 8 + 7) / 8) Kind) → (t : Bool) → leb left 8 ≡ t → Expects family start v (i + 1) (cond (leb left 8) Kind (Address (left - 8)))
+      go : (left - 8 ≤ m → Expects family start v (i + 1) (PatternOctet (left - 8)) → 1 ≤ left - 8 → i + 1 + (left - 8 + 7) / 8 ≤ length v
+          → Expects family start v (i + 1 + (left - 8 + 7) / 8) Kind) → (t : Bool) → leb left 8 ≡ t → Expects family start v (i + 1) (cond (leb left 8) Kind (PatternOctet (left - 8)))
           → Expects family start v (i + (left + 7) / 8) Kind
       go ih true t y =
           let z = leb-true left 8 t in

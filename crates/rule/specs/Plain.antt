@@ -8,7 +8,7 @@ use lib.Bits.{bitAnd}
 use lib.Dec.{leb, ltb, eqb}
 use Rattle.rule.specs.declared.Family.{Family}
 use Rattle.rule.specs.declared.Expected.{Expected}
-use Rattle.rule.specs.declared.Expected.the-variants.{Head, Kind, Length, Offset, Address, Operator, Operand}
+use Rattle.rule.specs.declared.Expected.the-variants.{Head, Kind, Length, Offset, PatternOctet, Operator, Operand}
 use Rattle.rule.specs.Shape.{shapeOf}
 use Rattle.rule.specs.Operator.{endsList, sizeOf}
 
@@ -22,22 +22,22 @@ bodyOf family kind = cond (shapeOf family kind .prefix) Length (Operator kind tr
 
 -- What is expected behind a prefix's length and offset: its pattern, which has length minus offset bits, or a type where it has none.
 unfoldable pub patternAfter : ℕ → ℕ → Expected
-patternAfter length offset = cond (leb length offset) Kind (Address (length - offset))
+patternAfter bits offset = cond (leb bits offset) Kind (PatternOctet (bits - offset))
 
 -- What is expected behind an octet of a pair's value: the rest of it, or the next operator, or after the last pair a type.
 unfoldable pub operandAfter : ℕ → ℕ → Bool → Expected
 operandAfter kind left last = cond (ltb 1 left) (Operand kind (left - 1) last) (cond last Kind (Operator kind false))
 
 -- What is expected after the octet x, where x was as expected. `Head left` has `left` octets before the first component to come,
--- `Offset length` is the offset behind that length, `Address left` has `left` bits of the pattern to come, `Operator kind first` is the
+-- `Offset bits` is the offset behind that length, `PatternOctet left` has `left` bits of the pattern to come, `Operator kind first` is the
 -- list's first operator or a later one, and `Operand kind left last` has `left` octets to come of a value, that of the list's last pair or
 -- of an earlier one.
 unfoldable pub after : Family → Expected → ℕ → Expected
 after family (Head left) x = cond (leb left 1) Kind (Head (left - 1))
 after family Kind x = bodyOf family x
 after family Length x = cond (family .offsets) (Offset x) (patternAfter x 0)
-after family (Offset length) x = patternAfter length x
-after family (Address left) x = cond (leb left 8) Kind (Address (left - 8))
+after family (Offset bits) x = patternAfter bits x
+after family (PatternOctet left) x = cond (leb left 8) Kind (PatternOctet (left - 8))
 after family (Operator kind first) x = Operand kind (sizeOf x) (endsList x)
 after family (Operand kind left last) x = operandAfter kind left last
 
@@ -57,16 +57,16 @@ plainOperand ignored x = x - bitAnd x ignored
 
 -- 01: "prefix bits past the length": of the octet's eight bits the first `left` are kept, all of them where there are eight or more; `left`
 -- is how many bits of the pattern are still to come, this octet's included.
-unfoldable pub plainAddress : ℕ → ℕ → ℕ
-plainAddress left x = x / 2 ^ (8 - left) * 2 ^ (8 - left)
+unfoldable pub plainPattern : ℕ → ℕ → ℕ
+plainPattern left x = x / 2 ^ (8 - left) * 2 ^ (8 - left)
 
 -- The octet x, which is as expected, with the bits that are to be ignored cleared.
 unfoldable pub clearedOctet : Family → Expected → ℕ → ℕ
 clearedOctet family (Head left) x = x
 clearedOctet family Kind x = x
 clearedOctet family Length x = x
-clearedOctet family (Offset length) x = x
-clearedOctet family (Address left) x = plainAddress left x
+clearedOctet family (Offset bits) x = x
+clearedOctet family (PatternOctet left) x = plainPattern left x
 clearedOctet family (Operator kind first) x = plainOperator (shapeOf family kind .bitmask) first x
 clearedOctet family (Operand kind left last) x = plainOperand (shapeOf family kind .ignored) x
 

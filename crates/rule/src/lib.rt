@@ -13,7 +13,7 @@ ghost use Rattle.rule.specs.Operator.{endsList, sizeOf};
 ghost use Rattle.rule.specs.Component.{pairAt, pairsFrom, leadOf, offsetAt, prefixEnd, bodyEnd, componentAt};
 ghost use Rattle.rule.specs.Reader.{readerAt, nextOf, behindOf, HandsOn};
 ghost use Rattle.rule.specs.Value.{mostValue, checkValue};
-ghost use Rattle.rule.specs.Plain.{bodyOf, withoutReserved, plainOperator, plainOperand, plainAddress, plainFrom, plain};
+ghost use Rattle.rule.specs.Plain.{bodyOf, withoutReserved, plainOperator, plainOperand, plainPattern, plainFrom, plain};
 ghost use Rattle.rule.specs.Reading.{fieldSize, fieldLength, firstRule, oneRule};
 ghost use Rattle.rule.specs.Writing.{lengthField, intoRoom, filled, writing, afterWriting};
 ghost use Rattle.octets.specs.Store.{stored};
@@ -87,7 +87,7 @@ pub enum Expected {
     Kind,
     Length,
     Offset(u8),
-    Address(u8),
+    PatternOctet(u8),
     Operator { kind: u8, first: bool },
     Operand { kind: u8, left: usize, last: bool },
 }
@@ -480,8 +480,8 @@ pub fn plain_operand(ignored: u8, x: u64) -> u64
 }
 
 // An octet of a pattern with only the bits still to come kept.
-pub fn plain_address(left: u8, x: u8) -> u8
-    ensures { λ r. ⌜ r ≡ plainAddress left x ⌝ }
+pub fn plain_pattern(left: u8, x: u8) -> u8
+    ensures { λ r. ⌜ r ≡ plainPattern left x ⌝ }
 {
     if 8 <= left {
         return x;
@@ -503,7 +503,7 @@ fn clear_prefix(family: Family, body: &mut [u8])
     }
     let place = body.len() - 1;
     let last = body[place];
-    body[place] = plain_address(kept, last);
+    body[place] = plain_pattern(kept, last);
 }
 
 // Clears the bits of a body of a type that are to be ignored: in a list those of each operator and of the first octet of its value, since

@@ -28,7 +28,7 @@ use Rattle.entry.proofs.ValueLaws.{is-possible}
 use Rattle.entry.proofs.CodecLaws.{length-record, size-back, read-written, good-written, written-read, good-possible}
 use Rattle.table.specs.declared.NextRecord.the-variants.{Nothing, Record}
 use Rattle.table.specs.Walk.{recordAt, recordsFrom, records, entries}
-use Rattle.table.specs.Sound.{mostOctets, cost, joined, tableOf, Encodes, soundTable}
+use Rattle.table.specs.Sound.{mostOctets, cost, recordsOf, tableOf, Encodes, soundTable}
 use Rattle.table.proofs.WalkLaws.{was-found, rest-zero, records-more, records-end, records-ind, at-end, at-record}
 use Rattle.table.proofs.EntryLaws.{length-there, cost-there}
 
@@ -48,11 +48,11 @@ module _ (family : Family) (t : List ℕ) (o : Octets t) where
   -- what stands from a place on is the records of the entries there, and zeros
   Laid : ℕ → Walk (List ℕ) Bool → Type 0
   Laid at w = at ≤ length t → w .ending ≡ true → every (goodRecord family) (w .items) ≡ true
-      → (drop at t ≡ joined (map entryOf (w .items)) ++ replicate (length t - at - costs cost (map entryOf (w .items))) 0)
+      → (drop at t ≡ recordsOf (map entryOf (w .items)) ++ replicate (length t - at - costs cost (map entryOf (w .items))) 0)
       × (costs cost (map entryOf (w .items)) ≤ length t - at)
 
   laid : (at : ℕ) → Laid at (recordsFrom t at)
-  unfolding Laid joined
+  unfolding Laid recordsOf
   laid = records-ind t Laid ends (λ at e h z g. apart (cc)) more
     where
       ends : (at : ℕ) → recordAt t at ≡ Nothing → Laid at (record { items = []; ending = true })
@@ -75,7 +75,7 @@ module _ (family : Family) (t : List ℕ) (o : Octets t) where
           let behind : at + (next - at) ≡ next = omega arith in
           let split : drop at t ≡ between t at next ++ drop next t
           = sym (take-append-drop (next - at) (drop at t)) ∙ ap (λ (l : List ℕ). between t at next ++ l) (drop-drop (next - at) at t ∙ ap (λ n. drop n t) behind) in (
-            split ∙ ap₂ (λ (a b : List ℕ). a ++ b) (sym written) (k .0 ∙ rw left) ∙ sym (append-assoc (recordOf (entryOf (between t at next))) (joined (map entryOf (w .items))) _),
+            split ∙ ap₂ (λ (a b : List ℕ). a ++ b) (sym written) (k .0 ∙ rw left) ∙ sym (append-assoc (recordOf (entryOf (between t at next))) (recordsOf (map entryOf (w .items))) _),
             omega arith,
           )
 
@@ -106,8 +106,8 @@ module _ (family : Family) (t : List ℕ) (o : Octets t) where
 
 module _ (family : Family) where
   records-back : (es : List Entry) (p : List ℕ) (m : ℕ) → every (possible family) es ≡ true
-      → recordsFrom (p ++ (joined es ++ replicate m 0)) (length p) ≡ record { items = map recordOf es; ending = true }
-  unfolding joined
+      → recordsFrom (p ++ (recordsOf es ++ replicate m 0)) (length p) ≡ record { items = map recordOf es; ending = true }
+  unfolding recordsOf
   records-back [] p m g =
       let t = p ++ replicate m 0 in
       let number : 0 ≡ numberAt lengthWidth (p ++ replicate m 0) (length p)
@@ -118,14 +118,14 @@ module _ (family : Family) where
       let gs = every-both (possible family) e es g in
       let here = is-possible family e (gs .0) .value in
       let some = here .some in
-      let back = joined es ++ replicate m 0 in
-      let t = p ++ (recordOf e ++ joined es ++ replicate m 0) in
-      let shape : p ++ (recordOf e ++ joined es ++ replicate m 0) ≡ p ++ (recordOf e ++ (joined es ++ replicate m 0))
-      = ap (λ (l : List ℕ). p ++ l) (append-assoc (recordOf e) (joined es) (replicate m 0)) in
-      let regroup : p ++ (recordOf e ++ (joined es ++ replicate m 0)) ≡ (p ++ recordOf e) ++ (joined es ++ replicate m 0)
-      = sym (append-assoc p (recordOf e) (joined es ++ replicate m 0)) in
+      let back = recordsOf es ++ replicate m 0 in
+      let t = p ++ (recordOf e ++ recordsOf es ++ replicate m 0) in
+      let shape : p ++ (recordOf e ++ recordsOf es ++ replicate m 0) ≡ p ++ (recordOf e ++ (recordsOf es ++ replicate m 0))
+      = ap (λ (l : List ℕ). p ++ l) (append-assoc (recordOf e) (recordsOf es) (replicate m 0)) in
+      let regroup : p ++ (recordOf e ++ (recordsOf es ++ replicate m 0)) ≡ (p ++ recordOf e) ++ (recordsOf es ++ replicate m 0)
+      = sym (append-assoc p (recordOf e) (recordsOf es ++ replicate m 0)) in
       let ih = records-back es (p ++ recordOf e) m (gs .1) in
-      rw shape (one-record e p (joined es ++ replicate m 0) (gs .0)
+      rw shape (one-record e p (recordsOf es ++ replicate m 0) (gs .0)
       ∙ ap (before (recordOf e)) (ap₂ recordsFrom regroup (sym (length-append p (recordOf e))) ∙ ih))
     where
       one-record : (e : Entry) (p rest : List ℕ) → possible family e ≡ true

@@ -26,13 +26,13 @@ abbrev pub cost : Entry → ℕ
 cost e = headCost + length (e .value)
 
 -- The records of entries, one behind the other.
-unfoldable pub joined : List Entry → List ℕ
-joined [] = []
-joined (e ∷ es) = recordOf e ++ joined es
+unfoldable pub recordsOf : List Entry → List ℕ
+recordsOf [] = []
+recordsOf (e ∷ es) = recordOf e ++ recordsOf es
 
 -- A buffer of n octets that holds entries: their records from octet 0, and zero after.
 unfoldable pub tableOf : ℕ → List Entry → List ℕ
-tableOf n es = joined es ++ replicate (n - costs cost es) 0
+tableOf n es = recordsOf es ++ replicate (n - costs cost es) 0
 
 -- A buffer is the encoding of a list of entries: it is no longer than it may be, there is room, and the entries could be and stand in
 -- precedence order, each rule once.

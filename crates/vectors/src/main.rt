@@ -23,7 +23,6 @@ use flowspec::Looked;
 use libc::STDIN_FILENO;
 use libc::STDOUT_FILENO;
 use lookup::Verdict;
-use packet::Sight;
 use rule::Checked;
 use rule::Reading;
 use rule::Writing;
@@ -175,8 +174,8 @@ fn check_and_match(octets: &[u8], middle: usize, end: usize)
 fn verdict_of(value: &[u8], packet: &[u8]) -> u64 {
     let family = flowspec::family_of(AddressFamily::Ipv4);
     match packet::packet_of(family, packet) {
-        Sight::Unusable => 12,
-        Sight::Usable(seen) => packet::matches_rule(family, value, seen) as u64,
+        packet::Reading::Unusable => 12,
+        packet::Reading::Usable(opening) => packet::matches_rule(family, value, opening) as u64,
     }
 }
 
@@ -188,8 +187,8 @@ fn print_table(table: &[u8]) {
         print_octets(table);
         return;
     }
-    let shown = io::count(200, table);
-    print_octets(&table[..shown]);
+    let openingOf = io::count(200, table);
+    print_octets(&table[..openingOf]);
 }
 
 // Prints the answer of a change, and the table at exit.
@@ -255,7 +254,7 @@ fn print_verdict(verdict: Verdict) {
 fn answer_lookup(line: &[u8], octets: &mut [u8], table: &[u8]) {
     let end = put_octets(line, 1, octets);
     match flowspec::lookup(AddressFamily::Ipv4, table, &octets[..end]) {
-        Looked::Judged(verdict) => print_verdict(verdict),
+        Looked::Answered(verdict) => print_verdict(verdict),
         Looked::Refused { number, place } => {
             print_lookup(number, place, 0, action::no_actions());
         }

@@ -9,13 +9,13 @@ use Rattle.flowspec.proofs.announce.Tie as tie
 
 rule-read : (c : tie.After-known-told3) → ReadRule (c .before .before .before .before .before .before .before .before .before .family-of .result) (c .before .before .before .before .before .before .before .before .before .before .before .before .before .before .args .rule .now) (c .before .start .given .0 .0) (c .before .start .given .0 .1 .0)
 rule-read c =
-    announce-rule _ _ (c .before .before .before .before .before .before .before .before .before .family-of .ensures) _ _ _ _ (c .before .before .before .before .before .before .before .sound-table .ensures) _ (c .before .before .before .before .before .used .given .1) _ (c .before .before .before .ask .ensures) _ _ _ _ (c .before .start .given .1)
+    announce-rule _ _ (c .before .before .before .before .before .before .before .before .before .family-of .ensures) _ _ _ _ (c .before .before .before .before .before .before .before .sound-table .ensures) _ (c .before .before .before .before .before .used .given .1) _ (c .before .before .before .request-of .ensures) _ _ _ _ (c .before .start .given .1)
 
 sound-table-requires : tie.Need-sound-table-requires
 sound-table-requires c κs = search (chosen-fits, needs)
 
-ask-requires : tie.Need-ask-requires
-ask-requires c κs = search (chosen-fits, needs)
+request-of-requires : tie.Need-request-of-requires
+request-of-requires c κs = search (chosen-fits, needs)
 
 add-end : tie.Need-add-end
 add-end c = omega (arith, rule-read c, c .before .before .before .before .before .before .before .before .before .before .before .before .before .before)
@@ -25,7 +25,7 @@ part-announce-value-end c = omega (arith, rule-read (c .before))
 
 announce-value-requires : tie.Need-announce-value-requires
 announce-value-requires c κs = let k = c .before .before in
-    announce-requires _ _ (k .before .before .before .before .before .before .before .before .before .family-of .ensures) _ _ _ _ (k .before .before .before .before .before .before .before .sound-table .ensures) _ (k .before .before .before .before .before .used .given .1) _ (k .before .before .before .ask .ensures) _ _ _ _ (k .before .start .given .1) (search (chosen-fits, needs))
+    announce-requires _ _ (k .before .before .before .before .before .before .before .before .before .family-of .ensures) _ _ _ _ (k .before .before .before .before .before .before .before .sound-table .ensures) _ (k .before .before .before .before .before .used .given .1) _ (k .before .before .before .request-of .ensures) _ _ _ _ (k .before .start .given .1) (search (chosen-fits, needs))
 
 returns : tie.Need-returns
 returns c = search (announce-unsound, needs)
@@ -44,7 +44,7 @@ announce-spec =
     sound-table-requires
     (λ c. search needs)
     (λ c. search needs)
-    ask-requires
+    request-of-requires
     (λ c. search needs)
     (λ c. search needs)
     add-end

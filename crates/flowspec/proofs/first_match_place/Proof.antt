@@ -5,8 +5,8 @@ use Rattle.flowspec.proofs.TableLaws.{locate-refused, locate-found}
 use Rattle.flowspec.proofs.first_match_place.Statement.{statement}
 use Rattle.flowspec.proofs.first_match_place.Tie as tie
 
-see-requires : tie.Need-see-requires
-see-requires c κs = search (chosen-fits, needs)
+open-lookup-requires : tie.Need-open-lookup-requires
+open-lookup-requires c κs = search (chosen-fits, needs)
 
 first-place-requires : tie.Need-first-place-requires
 first-place-requires c κs = search (chosen-fits, needs)
@@ -22,7 +22,7 @@ first-match-place-spec =
     tie.close
     (tie.spec
     (λ c κs. search needs)
-    see-requires
+    open-lookup-requires
     (λ c. search needs)
     (λ c. search needs)
     (λ c. search needs) first-place-requires

@@ -5,8 +5,8 @@ use Rattle.flowspec.proofs.TableLaws.{look-refused, look-judged}
 use Rattle.flowspec.proofs.lookup.Statement.{statement}
 use Rattle.flowspec.proofs.lookup.Tie as tie
 
-see-requires : tie.Need-see-requires
-see-requires c κs = search (chosen-fits, needs)
+open-lookup-requires : tie.Need-open-lookup-requires
+open-lookup-requires c κs = search (chosen-fits, needs)
 
 look-up-requires : tie.Need-look-up-requires
 look-up-requires c κs = search (chosen-fits, needs)
@@ -20,4 +20,4 @@ returns-2 c = search (look-judged, needs)
 pub lookup-spec : {M : Type 1} → statement M
 lookup-spec =
     tie.close
-    (tie.spec (λ c κs. search needs) see-requires (λ c. search needs) (λ c. search needs) (λ c. search needs) look-up-requires returns returns-2)
+    (tie.spec (λ c κs. search needs) open-lookup-requires (λ c. search needs) (λ c. search needs) (λ c. search needs) look-up-requires returns returns-2)

@@ -56,17 +56,17 @@ verdict-of-requires-2 c κs = search needs
 enum-known-next : tie.Need-enum-known-next Inv-loop μ-loop
 enum-known-next c = search needs
 
-sub-judge-record : tie.Need-sub-judge-record Inv-loop μ-loop
-sub-judge-record c = omega (arith, found c)
+sub-hit-of-record : tie.Need-sub-hit-of-record Inv-loop μ-loop
+sub-hit-of-record c = omega (arith, found c)
 
-part-judge-record-start : tie.Need-part-judge-record-start Inv-loop μ-loop
-part-judge-record-start c = omega (arith, found c)
+part-hit-of-record-start : tie.Need-part-hit-of-record-start Inv-loop μ-loop
+part-hit-of-record-start c = omega (arith, found c)
 
-part-judge-record-end : tie.Need-part-judge-record-end Inv-loop μ-loop
-part-judge-record-end c = omega (arith, found c)
+part-hit-of-record-end : tie.Need-part-hit-of-record-end Inv-loop μ-loop
+part-hit-of-record-end c = omega (arith, found c)
 
-judge-record-requires : tie.Need-judge-record-requires Inv-loop μ-loop
-judge-record-requires c κs = let k = c .before in
+hit-of-record-requires : tie.Need-hit-of-record-requires Inv-loop μ-loop
+hit-of-record-requires c κs = let k = c .before in
     (start k .pre, omega (arith, found k, length-there _ (turn k .loop .at) _ (found-here k)))
 
 enum-told-3 : tie.Need-enum-told-3 Inv-loop μ-loop
@@ -77,7 +77,7 @@ loop-less c = let k = c .before .before .before .before in omega (arith, found k
 
 loop-again : tie.Need-loop-again Inv-loop μ-loop
 loop-again c = let k = c .before .before .before .before in
-    look-missed _ _ _ _ _ _ _ (turn k .loop .inv) _ (found-here k) _ (c .before .before .judge-record .ensures) (c .enum-told3 .given .1)
+    look-missed _ _ _ _ _ _ _ (turn k .loop .inv) _ (found-here k) _ (c .before .before .hit-of-record .ensures) (c .enum-told3 .given .1)
 
 enum-known-more : tie.Need-enum-known-more Inv-loop μ-loop
 enum-known-more c = search needs
@@ -93,7 +93,7 @@ loop-less-2 c = let k = c .before .before .before .before .before .before in ome
 
 loop-again-2 : tie.Need-loop-again-2 Inv-loop μ-loop
 loop-again-2 c = let k = c .before .before .before .before .before .before in
-    look-goes-on _ _ _ _ _ _ _ (turn k .loop .inv) _ (found-here k) _ (c .before .before .before .before .judge-record .ensures) _ _ (c .before .before .more .given .1) (c .merge .ensures)
+    look-goes-on _ _ _ _ _ _ _ (turn k .loop .inv) _ (found-here k) _ (c .before .before .before .before .hit-of-record .ensures) _ _ (c .before .before .more .given .1) (c .merge .ensures)
 
 enum-known-more-2 : tie.Need-enum-known-more-2 Inv-loop μ-loop
 enum-known-more-2 c = search needs
@@ -115,7 +115,7 @@ returns-2 c = search (look-unsound, needs)
 
 returns-3 : tie.Need-returns-3 Inv-loop μ-loop
 returns-3 c = let k = c .before .before .before .before .before .before .before in
-    look-stops _ _ _ _ _ _ _ (turn k .loop .inv) _ (found-here k) _ (c .before .before .before .before .before .judge-record .ensures) _ _ _ (c .before .before .before .more2 .given .1) (c .before .merge2 .ensures) (c .verdict-of3 .ensures)
+    look-stops _ _ _ _ _ _ _ (turn k .loop .inv) _ (found-here k) _ (c .before .before .before .before .before .hit-of-record .ensures) _ _ _ (c .before .before .before .more2 .given .1) (c .before .merge2 .ensures) (c .verdict-of3 .ensures)
 
 pub look-up-spec : {M : Type 1} → statement M
 look-up-spec =
@@ -131,10 +131,10 @@ look-up-spec =
     enum-told-2
     verdict-of-requires-2
     enum-known-next
-    sub-judge-record
-    part-judge-record-start
-    part-judge-record-end
-    judge-record-requires
+    sub-hit-of-record
+    part-hit-of-record-start
+    part-hit-of-record-end
+    hit-of-record-requires
     enum-told-3
     loop-less
     loop-again

@@ -9,10 +9,10 @@ use Rattle.packet.proofs.list_holds.Statement.{statement}
 use Rattle.packet.proofs.list_holds.Tie as tie
 
 abbrev Inv-loop : tie.InvT-loop
-Inv-loop shape body «data» judged₀ at₀ judged at = bodyHolds shape body «data» ≡ bodyTo shape body «data» at judged
+Inv-loop shape body «data» judged₀ at₀ evaluated at = bodyHolds shape body «data» ≡ bodyTo shape body «data» at evaluated
 
 abbrev μ-loop : tie.MeasureT-loop
-μ-loop shape body «data» judged₀ at₀ judged at = length body - at
+μ-loop shape body «data» judged₀ at₀ evaluated at = length body - at
 
 loop-holds : tie.Need-loop-holds Inv-loop μ-loop
 loop-holds c = search (body-start, needs)
@@ -23,8 +23,8 @@ pair-at-requires c κs = search needs
 enum-known-pair : tie.Need-enum-known-pair Inv-loop μ-loop
 enum-known-pair c = search needs
 
-judge-pair-requires : tie.Need-judge-pair-requires Inv-loop μ-loop
-judge-pair-requires c κs = more-inside _ _ _ _ _ (c .before .before .before .pair-at .ensures) (c .before .pair .given .1)
+evaluate-pair-requires : tie.Need-evaluate-pair-requires Inv-loop μ-loop
+evaluate-pair-requires c κs = more-inside _ _ _ _ _ (c .before .before .before .pair-at .ensures) (c .before .pair .given .1)
 
 loop-less : tie.Need-loop-less Inv-loop μ-loop
 loop-less c = search (more-nearer, needs)
@@ -35,8 +35,8 @@ loop-again c = search (list-on, needs)
 enum-known-pair-2 : tie.Need-enum-known-pair-2 Inv-loop μ-loop
 enum-known-pair-2 c = search needs
 
-judge-pair-requires-2 : tie.Need-judge-pair-requires-2 Inv-loop μ-loop
-judge-pair-requires-2 c κs = last-inside _ _ _ _ _ (c .before .before .before .pair-at .ensures) (c .before .pair2 .given .1)
+evaluate-pair-requires-2 : tie.Need-evaluate-pair-requires-2 Inv-loop μ-loop
+evaluate-pair-requires-2 c κs = last-inside _ _ _ _ _ (c .before .before .before .pair-at .ensures) (c .before .pair2 .given .1)
 
 returns : tie.Need-returns Inv-loop μ-loop
 returns c = search (list-last, needs)
@@ -56,11 +56,11 @@ list-holds-spec =
     loop-holds
     pair-at-requires
     enum-known-pair
-    judge-pair-requires
+    evaluate-pair-requires
     loop-less
     loop-again
     enum-known-pair-2
-    judge-pair-requires-2
+    evaluate-pair-requires-2
     returns
     enum-told
     returns-2)

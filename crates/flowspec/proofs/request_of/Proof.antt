@@ -2,9 +2,9 @@
 use borrow.Author.Needs.{needs}
 use native.Mathlib.Omega.{arith}
 use Rattle.flowspec.proofs.FeasibilityLaws.{rule-there}
-use Rattle.flowspec.proofs.AskLaws.{ask-refused, ask-actions, ask-announce}
-use Rattle.flowspec.proofs.ask.Statement.{statement}
-use Rattle.flowspec.proofs.ask.Tie as tie
+use Rattle.flowspec.proofs.RequestLaws.{ask-refused, ask-actions, ask-announce}
+use Rattle.flowspec.proofs.request_of.Statement.{statement}
+use Rattle.flowspec.proofs.request_of.Tie as tie
 
 add-end : tie.Need-add-end
 add-end c = omega (arith, rule-there _ _ _ _ _ _ (c .before .before .before .before .before .before .before .read-with-routes .ensures) (c .before .before .before .before .before .start .given .1))
@@ -21,8 +21,8 @@ returns-2 c = search (ask-actions, needs)
 returns-3 : tie.Need-returns-3
 returns-3 c = search (ask-announce, needs)
 
-pub ask-spec : {M : Type 1} → statement M
-ask-spec =
+pub request-of-spec : {M : Type 1} → statement M
+request-of-spec =
     tie.close
     (tie.spec
     (λ c κs. search needs)

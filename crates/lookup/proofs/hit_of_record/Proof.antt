@@ -1,8 +1,8 @@
 -- The rule decides whether the record matches, and T in its actions whether the walk goes on.
 use Rattle.lookup.proofs.LookupLaws.{judge-missed, judge-goes-on, judge-stops}
 use borrow.Author.Needs.{needs}
-use Rattle.lookup.proofs.judge_record.Statement.{statement}
-use Rattle.lookup.proofs.judge_record.Tie as tie
+use Rattle.lookup.proofs.hit_of_record.Statement.{statement}
+use Rattle.lookup.proofs.hit_of_record.Tie as tie
 
 hits-record-requires : tie.Need-hits-record-requires
 hits-record-requires c κs = search needs
@@ -19,6 +19,6 @@ returns-2 c = search (judge-goes-on, needs)
 returns-3 : tie.Need-returns-3
 returns-3 c = search (judge-stops, needs)
 
-pub judge-record-spec : {M : Type 1} → statement M
-judge-record-spec =
+pub hit-of-record-spec : {M : Type 1} → statement M
+hit-of-record-spec =
     tie.close (tie.spec hits-record-requires returns record-actions-requires returns-2 returns-3)

@@ -21,7 +21,7 @@ use Rattle.flowspec.specs.declared.Request.the-variants.{Announce, Refus
 use Rattle.flowspec.specs.declared.Change.the-variants.{Done, Refused as NotDone}
 use Rattle.flowspec.specs.Input.{Announcement, Policy}
 use Rattle.flowspec.specs.Feasibility.{readWithRoutes, isFeasible}
-use Rattle.flowspec.specs.Announce.{changeOf, askedBy, asked}
+use Rattle.flowspec.specs.Announce.{changeOf, requestFor, requestOf}
 use Rattle.flowspec.proofs.FeasibilityLaws.{with-routes}
 
 -- a rule's value is octets
@@ -38,19 +38,19 @@ unfolding changeOf
 change-refused number h = rw (ne-eqb number 0 h)
 
 module _ (family : Family) (policy : Policy) (a : Announcement) (reading : Reading) (read-is : reading ≡ readWithRoutes family (policy .routes) (a .rule)) where
-  pub ask-refused : (number place : ℕ) → reading ≡ NotRead number place → Refused number place ≡ asked family policy a
-  unfolding asked
+  pub ask-refused : (number place : ℕ) → reading ≡ NotRead number place → Refused number place ≡ requestOf family policy a
+  unfolding requestOf
   ask-refused number place e = rw (← read-is, e)
 
   module _ (start size : ℕ) (e : reading ≡ Rule start size) (actions : ActionsReading) (acts : actions ≡ actionsOf (a .communities)) where
-    pub ask-actions : actions ≡ Unsound → Refused 13 0 ≡ asked family policy a
-    unfolding asked
+    pub ask-actions : actions ≡ Unsound → Refused 13 0 ≡ requestOf family policy a
+    unfolding requestOf
     ask-actions h = rw (← read-is, e, ← acts, h)
 
     pub ask-announce : (read : Actions) (judged : Bool) → actions ≡ Read read
         → judged ≡ isFeasible family policy (valueOf (a .rule) start (start + size - start)) (a .originator)
-        → Announce start size read judged ≡ asked family policy a
-    unfolding asked
+        → Announce start size read judged ≡ requestOf family policy a
+    unfolding requestOf
     ask-announce read judged h j = rw (← read-is, e, ← acts, h, j, add-sub-cancel-left start size)
 
 -- what an announcement that asks for an entry was read from, and how it was judged
@@ -60,14 +60,14 @@ pub record Asked (family : Family) (policy : Policy) (a : Announcement) (start s
   pub is : judged ≡ isFeasible family policy (valueOf (a .rule) start size) (a .originator)
 
 module _ (family : Family) (policy : Policy) (a : Announcement) (start size : ℕ) (actions : Actions) (judged : Bool) where
-  pub asked-from : asked family policy a ≡ Announce start size actions judged
+  pub asked-from : requestOf family policy a ≡ Announce start size actions judged
       → Asked family policy a start size actions judged
-  unfolding asked
+  unfolding requestOf
   asked-from e =
       go (readWithRoutes family (policy .routes) (a .rule)) refl (actionsOf (a .communities)) refl e
     where
       go : (r : Reading) → readWithRoutes family (policy .routes) (a .rule) ≡ r → (acts : ActionsReading) → actionsOf (a .communities) ≡ acts
-          → askedBy family policy a r acts ≡ Announce start size actions judged
+          → requestFor family policy a r acts ≡ Announce start size actions judged
           → Asked family policy a start size actions judged
       go (NotRead number place) f acts g z = apart (cc)
       go (Rule begin extent) f Unsound g z = apart (cc)
@@ -78,5 +78,5 @@ module _ (family : Family) (policy : Policy) (a : Announcement) (start size : �
           let judges : isFeasible family policy (valueOf (a .rule) begin extent) (a .originator) ≡ judged = cc in
           record { read = with-routes family (policy .routes) (a .rule) start size (f ∙ rw (starts, sizes)); acts = g ∙ rw reads; is = sym judges ∙ rw (starts, sizes) }
 
-  pub asked-rule : asked family policy a ≡ Announce start size actions judged → ReadRule family (a .rule) start size
+  pub asked-rule : requestOf family policy a ≡ Announce start size actions judged → ReadRule family (a .rule) start size
   asked-rule e = one-read family (a .rule) start size (asked-from e .read)

@@ -1,8 +1,8 @@
 -- One law for each return.
 use borrow.Author.Needs.{needs}
 use Rattle.flowspec.proofs.TableLaws.{see-unsound, see-unusable, see-usable}
-use Rattle.flowspec.proofs.see.Statement.{statement}
-use Rattle.flowspec.proofs.see.Tie as tie
+use Rattle.flowspec.proofs.open_lookup.Statement.{statement}
+use Rattle.flowspec.proofs.open_lookup.Tie as tie
 
 sound-table-requires : tie.Need-sound-table-requires
 sound-table-requires c κs = search needs
@@ -16,8 +16,8 @@ returns-2 c = search (see-unusable, needs)
 returns-3 : tie.Need-returns-3
 returns-3 c = search (see-usable, needs)
 
-pub see-spec : {M : Type 1} → statement M
-see-spec =
+pub open-lookup-spec : {M : Type 1} → statement M
+open-lookup-spec =
     tie.close
     (tie.spec
     sound-table-requires

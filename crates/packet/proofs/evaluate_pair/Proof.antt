@@ -1,14 +1,14 @@
 -- The operator, its value and the test are what the calls answer.
 use Rattle.packet.proofs.ListLaws.{judged-pair}
 use borrow.Author.Needs.{needs}
-use Rattle.packet.proofs.judge_pair.Statement.{statement}
-use Rattle.packet.proofs.judge_pair.Tie as tie
+use Rattle.packet.proofs.evaluate_pair.Statement.{statement}
+use Rattle.packet.proofs.evaluate_pair.Tie as tie
 
 returns : tie.Need-returns
 returns c = search (judged-pair, needs)
 
-pub judge-pair-spec : {M : Type 1} → statement M
-judge-pair-spec =
+pub evaluate-pair-spec : {M : Type 1} → statement M
+evaluate-pair-spec =
     tie.close
     (tie.spec
     (λ c κs. search needs)

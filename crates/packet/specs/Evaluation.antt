@@ -6,21 +6,21 @@ use mathlib.Core.List.{List}
 use lib.Dec.{eqb}
 use Rattle.rule.specs.declared.Shape.{Shape}
 use Rattle.rule.specs.Component.{pairOf}
-use Rattle.packet.specs.declared.Judged.{Judged}
+use Rattle.packet.specs.declared.Evaluated.{Evaluated}
 use Rattle.packet.specs.PairList.{joins}
 use Rattle.packet.specs.Match.{pairHolds}
 
 -- One pair further (`found`: an earlier group held; `group`: the present group holds so far): a pair that AND joins goes with the
 -- present group, any other ends that group and begins the next.
-abbrev pub withPair : Judged → Bool → Bool → Judged
-withPair judged joined holds =
+abbrev pub withPair : Evaluated → Bool → Bool → Evaluated
+withPair evaluated joined holds =
     record {
-      found = judged .found || judged .group && not joined;
-      group = holds && (judged .group || not joined);
+      found = evaluated .found || evaluated .group && not joined;
+      group = holds && (evaluated .group || not joined);
     }
 
 -- The pair that stands from one place of a body up to another: the first one stands at 0, and its AND is ignored.
-abbrev pub judgePair : Shape → List ℕ → ℕ → ℕ → ℕ → Judged → Judged
-judgePair shape body at next «data» judged =
+abbrev pub evaluatePair : Shape → List ℕ → ℕ → ℕ → ℕ → Evaluated → Evaluated
+evaluatePair shape body at next «data» evaluated =
     let pair = pairOf body at next in
-    withPair judged (joins pair && not (eqb at 0)) (pairHolds shape «data» pair)
+    withPair evaluated (joins pair && not (eqb at 0)) (pairHolds shape «data» pair)

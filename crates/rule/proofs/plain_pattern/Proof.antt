@@ -1,10 +1,10 @@
 -- Shifted down and up again, an octet keeps its first bits.
 use native.Mathlib.Omega.{arith}
-use Rattle.rule.specs.Plain.{plainAddress}
+use Rattle.rule.specs.Plain.{plainPattern}
 use Rattle.rule.proofs.PlainLaws.{shifted, shifted-small, whole-octet}
 use borrow.Author.Needs.{needs}
-use Rattle.rule.proofs.plain_address.Statement.{statement}
-use Rattle.rule.proofs.plain_address.Tie as tie
+use Rattle.rule.proofs.plain_pattern.Statement.{statement}
+use Rattle.rule.proofs.plain_pattern.Tie as tie
 
 returns : tie.Need-returns
 returns c = search (whole-octet, needs)
@@ -13,11 +13,11 @@ cast-result-2 : tie.Need-cast-result-2
 cast-result-2 c = record { fits = shifted-small _ _ (omega arith) }
 
 returns-2 : tie.Need-returns-2
-unfolding plainAddress
+unfolding plainPattern
 returns-2 c = shifted _ _ (omega arith)
 
-pub plain-address-spec : {M : Type 1} → statement M
-plain-address-spec =
+pub plain-pattern-spec : {M : Type 1} → statement M
+plain-pattern-spec =
     tie.close
     (tie.spec
     returns
