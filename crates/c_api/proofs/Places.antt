@@ -13,7 +13,7 @@ use Rattle.octets.proofs.Cases.{by-test}
 use Rattle.rule.specs.declared.Family.{Family}
 use Rattle.rule.specs.declared.Reading.{Reading}
 use Rattle.rule.specs.declared.Reading.the-variants.{Rule, Refused as NotRead}
-use Rattle.rule.specs.Plain.{plain}
+use Rattle.spelling.specs.Plain.{plain}
 use Rattle.rule.specs.Reading.{valueOf, oneRule}
 use Rattle.rule.proofs.Refusal.{Refusal, placeless}
 use Rattle.rule.proofs.ReadingLaws.{SaysRule, one-says}

@@ -7,7 +7,7 @@ use mathlib.Core.List.{List, [], _∷_}
 use lib.ListN.{length}
 use Rattle.rule.specs.Family.{ipv4}
 use Rattle.rule.specs.Reading.{oneRule}
-use Rattle.rule.specs.Writing.{writing, afterWriting}
+use Rattle.spelling.specs.Writing.{writing, afterWriting}
 use Rattle.action.specs.Actions.{actionsOf}
 use Rattle.flowspec.specs.Compare.{compareRules}
 use Rattle.flowspec.specs.Input.{Announcement, Policy}

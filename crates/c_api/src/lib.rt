@@ -14,7 +14,7 @@ use flowspec::Feasibility;
 use flowspec::Looked;
 use lookup::Verdict;
 use rule::Reading;
-use rule::Writing;
+use spelling::Writing;
 
 // The word of a refusal: its number in the low 32 bits, its place in the high 32.
 fn word_of(number: u8, place: usize) -> u64

@@ -21,9 +21,9 @@ use Rattle.rule.specs.declared.Checked.{Checked}
 use Rattle.rule.specs.declared.Checked.the-variants.{Accepted, Refused}
 use Rattle.rule.specs.Component.{bodyEnd, componentAt}
 use Rattle.rule.specs.Value.{mostValue, between, Component, component, componentsFrom, components, checkValue}
-use Rattle.rule.specs.Plain.{plain}
+use Rattle.spelling.specs.Plain.{plain}
 use Rattle.rule.proofs.ValueLaws.{was-found, components-more, components-none, components-refused, check-walk, accepted-small, accepted-head, accepted-some}
-use Rattle.rule.proofs.PlainWalkLaws.{plainBody, plain-each, body-alone}
+use Rattle.spelling.proofs.PlainWalkLaws.{plainBody, plain-each, body-alone}
 use Rattle.action.specs.Possible.{couldBe}
 use Rattle.entry.specs.Entry.{Entry, isAccepted, plainValue, possible}
 

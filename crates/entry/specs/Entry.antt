@@ -8,7 +8,7 @@ use Rattle.rule.specs.declared.Family.{Family}
 use Rattle.rule.specs.declared.Checked.{Checked}
 use Rattle.rule.specs.declared.Checked.the-variants.{Accepted, Refused}
 use Rattle.rule.specs.Value.{checkValue}
-use Rattle.rule.specs.Plain.{plain}
+use Rattle.spelling.specs.Plain.{plain}
 use Rattle.order.specs.Key.{RuleKey, keysOf}
 use Rattle.action.specs.declared.Actions.{Actions}
 use Rattle.action.specs.Possible.{couldBe}

@@ -9,11 +9,11 @@ use Rattle.rule.specs.Operator.{endsList, sizeOf}
 use Rattle.rule.specs.Shape.{shapeOf}
 use Rattle.rule.specs.Component.{pairAt, pairsFrom, leadOf, offsetAt, prefixEnd, bodyEnd, componentAt}
 use Rattle.rule.specs.Value.{componentsFrom, components, checkValue}
-use Rattle.rule.specs.Plain.{expectedAtStart, bodyOf, patternAfter, operandAfter, after, withoutReserved, plainOperator, plainOperand, plainPattern, clearedOctet, plainFrom, plain}
+use Rattle.spelling.specs.Plain.{expectedAtStart, bodyOf, patternAfter, operandAfter, after, withoutReserved, plainOperator, plainOperand, plainPattern, clearedOctet, plainFrom, plain}
 use Rattle.rule.specs.declared.Reading.the-variants.{Rule}
 use Rattle.rule.specs.Family.{ipv4}
 use Rattle.rule.specs.Reading.{fieldSize, fieldLength, firstRule, oneRule}
-use Rattle.rule.specs.Writing.{lengthField}
+use Rattle.spelling.specs.Writing.{lengthField}
 use Rattle.order.specs.Precedence.{bodyOrder, componentOrder, componentsOrder, plainOrder, precedence}
 use Rattle.rate.specs.Rate.{scaled, numberFor, numberOfParts, rateOfParts, rateOf}
 use Rattle.packet.specs.Header.{isUnusable, fragmentData}

@@ -13,7 +13,7 @@ use Rattle.rule.specs.declared.Family.{Family}
 use Rattle.rule.specs.declared.Checked.{Checked}
 use Rattle.rule.specs.declared.Checked.the-variants.{Accepted, Refused}
 use Rattle.rule.specs.declared.Reading.{Reading}
-use Rattle.rule.specs.declared.Writing.{Writing}
+use Rattle.spelling.specs.declared.Writing.{Writing}
 use Rattle.rule.specs.Value.{checkValue}
 use Rattle.rule.specs.Reading.{checkRule}
 use Rattle.rule.proofs.RefusalsLaws.{Numbered, value-numbered, rule-numbered}

@@ -12,9 +12,9 @@ use Rattle.rule.specs.declared.Family.{Family}
 use Rattle.rule.specs.Family.{Fits}
 use Rattle.rule.specs.Shape.{shapeOf}
 use Rattle.rule.specs.Value.{Component, components}
-use Rattle.rule.specs.Plain.{bodyOf, plain}
-use Rattle.rule.specs.PlainComponent.{plainComponent}
-use Rattle.rule.proofs.SpellingLaws.{components-plain}
+use Rattle.spelling.specs.Plain.{bodyOf, plain}
+use Rattle.spelling.specs.PlainComponent.{plainComponent}
+use Rattle.spelling.proofs.SpellingLaws.{components-plain}
 use Rattle.rule.proofs.ComponentsLaws.{SoundComponent, each-octets, each-sound}
 use Rattle.route.specs.Route.{routesOf}
 use Rattle.route.specs.Destination.{destinationFor, destinationAmong, destinationOf}

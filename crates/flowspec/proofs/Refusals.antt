@@ -18,11 +18,11 @@ use Rattle.rule.specs.declared.Checked.the-variants.{Accepted}
 use Rattle.rule.specs.declared.Reading.{Reading}
 use Rattle.rule.specs.declared.Reading.the-variants.{Rule, Refused as NotRead}
 use Rattle.rule.specs.Family.{Fits}
-use Rattle.rule.specs.Plain.{plain}
+use Rattle.spelling.specs.Plain.{plain}
 use Rattle.rule.specs.Value.{checkValue}
 use Rattle.rule.specs.Reading.{fieldSize, fieldLength, valueOf, valueIn, checkRule, oneRule}
-use Rattle.rule.proofs.ClearedLaws.{octets-plain, plain-again}
-use Rattle.rule.proofs.SpellingLaws.{check-plain}
+use Rattle.spelling.proofs.ClearedLaws.{octets-plain, plain-again}
+use Rattle.spelling.proofs.SpellingLaws.{check-plain}
 use Rattle.rule.proofs.ReadingLaws.{one-read, one-refused}
 use Rattle.order.specs.Key.{RuleKey, keysOf, keyOrder}
 use Rattle.order.proofs.KeyLaws.{key-order, keys-only}

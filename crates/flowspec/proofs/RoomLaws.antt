@@ -10,10 +10,10 @@ use Rattle.octets.proofs.Facts.{Octets}
 use Rattle.rule.specs.declared.Family.{Family}
 use Rattle.rule.specs.declared.Reading.the-variants.{Rule}
 use Rattle.rule.specs.Family.{Fits}
-use Rattle.rule.specs.Plain.{plain}
+use Rattle.spelling.specs.Plain.{plain}
 use Rattle.rule.specs.Reading.{valueOf, oneRule}
 use Rattle.rule.proofs.ReadingLaws.{one-read}
-use Rattle.rule.proofs.ClearedLaws.{octets-plain}
+use Rattle.spelling.proofs.ClearedLaws.{octets-plain}
 use Rattle.order.specs.Key.{keysOf}
 use Rattle.route.specs.Route.{soundRoutes}
 use Rattle.action.specs.declared.Reading.{Reading as ActionsReading}

@@ -14,10 +14,10 @@ use Rattle.rule.specs.declared.Checked.{Checked}
 use Rattle.rule.specs.declared.Checked.the-variants.{Accepted, Refused as RefusedValue}
 use Rattle.rule.specs.declared.Reading.{Reading}
 use Rattle.rule.specs.declared.Reading.the-variants.{Rule, Refused as NotRead}
-use Rattle.rule.specs.Plain.{plain}
+use Rattle.spelling.specs.Plain.{plain}
 use Rattle.rule.specs.Value.{checkValue}
 use Rattle.rule.specs.Reading.{fieldSize, fieldLength, readAs, ruleEnd, valueIn, checkRule, alone, firstRule, oneRule}
-use Rattle.rule.specs.Writing.{ruleFor, intoRoom, writing}
+use Rattle.spelling.specs.Writing.{ruleFor, intoRoom, writing}
 use Rattle.rule.proofs.ReadingLaws.{one-read}
 use Rattle.order.specs.Key.{keysOf}
 use Rattle.order.specs.Precedence.{precedence}

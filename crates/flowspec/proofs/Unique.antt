@@ -4,7 +4,7 @@ use mathlib.Core.List.{List}
 use Prim.Native.Nat.{ℕ}
 use Rattle.rule.specs.declared.Family.{Family}
 use Rattle.rule.specs.declared.Reading.{Reading}
-use Rattle.rule.specs.declared.Writing.{Writing}
+use Rattle.spelling.specs.declared.Writing.{Writing}
 use Rattle.action.specs.declared.Reading.{Reading as ActionsReading}
 use Rattle.flowspec.specs.declared.Comparison.{Comparison}
 use Rattle.flowspec.specs.declared.Feasibility.{Feasibility}

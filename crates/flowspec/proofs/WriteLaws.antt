@@ -4,8 +4,8 @@ use mathlib.Core.List.{List, [], _∷_}
 use Prim.Native.Nat.{ℕ}
 use lib.ListN.{length}
 use Rattle.rule.specs.declared.Family.{Family}
-use Rattle.rule.specs.declared.Writing.{Writing}
-use Rattle.rule.specs.Writing.{writing, afterWriting}
+use Rattle.spelling.specs.declared.Writing.{Writing}
+use Rattle.spelling.specs.Writing.{writing, afterWriting}
 use Rattle.flowspec.specs.Told.{writingTold}
 use Rattle.flowspec.specs.Promise.{WritesOne}
 use Rattle.flowspec.proofs.ToldLaws.{write-tells}

@@ -7,7 +7,7 @@ use lib.Dec.{eqb}
 use Rattle.rule.specs.declared.Family.{Family}
 use Rattle.rule.specs.declared.Reading.{Reading}
 use Rattle.rule.specs.declared.Reading.the-variants.{Rule, Refused as NotRead}
-use Rattle.rule.specs.Plain.{plain}
+use Rattle.spelling.specs.Plain.{plain}
 use Rattle.rule.specs.Reading.{valueOf, oneRule}
 use Rattle.order.specs.Key.{keysOf}
 use Rattle.action.specs.declared.Actions.{Actions}

@@ -9,10 +9,10 @@ use Rattle.sorted.specs.Table.{byOrder}
 use Rattle.rule.specs.declared.Family.{Family}
 use Rattle.rule.specs.declared.Checked.{Checked}
 use Rattle.rule.specs.declared.Checked.the-variants.{Accepted, Refused}
-use Rattle.rule.specs.Plain.{plain}
+use Rattle.spelling.specs.Plain.{plain}
 use Rattle.rule.specs.Value.{checkValue}
 use Rattle.rule.specs.Reading.{fieldSize, fieldLength, ruleEnd, valueIn, checkRule}
-use Rattle.rule.specs.Writing.{ruleFor}
+use Rattle.spelling.specs.Writing.{ruleFor}
 use Rattle.order.specs.Key.{keysOf}
 use Rattle.order.specs.Precedence.{precedence}
 use Rattle.action.specs.declared.Actions.{Actions}

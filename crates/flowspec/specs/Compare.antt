@@ -8,7 +8,7 @@ use Rattle.octets.specs.declared.Order.the-variants.{First as OrderFirst, Secon
 use Rattle.rule.specs.declared.Family.{Family}
 use Rattle.rule.specs.declared.Reading.{Reading}
 use Rattle.rule.specs.declared.Reading.the-variants.{Rule, Refused as NotRead}
-use Rattle.rule.specs.Plain.{plain}
+use Rattle.spelling.specs.Plain.{plain}
 use Rattle.rule.specs.Reading.{valueOf, oneRule}
 use Rattle.order.specs.Precedence.{precedence}
 use Rattle.flowspec.specs.declared.Comparison.{Comparison}

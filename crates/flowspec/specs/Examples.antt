@@ -9,7 +9,7 @@ use Rattle.rule.specs.declared.Checked.the-variants.{Accepted, Refused}
 use Rattle.rule.specs.Family.{ipv4}
 use Rattle.rule.specs.Value.{checkValue}
 use Rattle.rule.specs.Reading.{fieldSize, fieldLength}
-use Rattle.rule.specs.Writing.{lengthField}
+use Rattle.spelling.specs.Writing.{lengthField}
 use Rattle.order.specs.Precedence.{precedence}
 use Rattle.rate.specs.declared.Rate.{Rate}
 use Rattle.rate.specs.declared.Rate.the-variants.{Number, NotANumber}

@@ -12,10 +12,10 @@ use Rattle.octets.specs.Test.{Each}
 use Rattle.rule.specs.declared.Family.{Family}
 use Rattle.rule.specs.declared.Checked.{Checked}
 use Rattle.rule.specs.declared.Checked.the-variants.{Refused}
-use Rattle.rule.specs.Plain.{plain}
+use Rattle.spelling.specs.Plain.{plain}
 use Rattle.rule.specs.Value.{checkValue}
 use Rattle.rule.specs.Reading.{valueIn, checkRule}
-use Rattle.rule.specs.Writing.{ruleFor}
+use Rattle.spelling.specs.Writing.{ruleFor}
 use Rattle.order.specs.Key.{keysOf}
 use Rattle.route.specs.Route.{soundRoutes}
 use Rattle.action.specs.Actions.{actionsOf}

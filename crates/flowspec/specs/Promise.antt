@@ -9,9 +9,9 @@ use mathlib.Core.List.{List, [], _∷_}
 use lib.ListN.{length}
 use Rattle.rule.specs.declared.Family.{Family}
 use Rattle.rule.specs.declared.Reading.{Reading}
-use Rattle.rule.specs.declared.Writing.{Writing}
+use Rattle.spelling.specs.declared.Writing.{Writing}
 use Rattle.rule.specs.Reading.{oneRule}
-use Rattle.rule.specs.Writing.{writing, afterWriting}
+use Rattle.spelling.specs.Writing.{writing, afterWriting}
 use Rattle.flowspec.specs.declared.Comparison.{Comparison}
 use Rattle.action.specs.declared.Reading.{Reading as ActionsReading}
 use Rattle.action.specs.Actions.{actionsOf}

@@ -5,8 +5,8 @@ use mathlib.Core.List.{List, [], _∷_}
 use lib.ListN.{replicate}
 use Rattle.rule.specs.declared.Reading.{Reading}
 use Rattle.rule.specs.declared.Reading.the-variants.{Rule, Refused as NotRead}
-use Rattle.rule.specs.declared.Writing.{Writing}
-use Rattle.rule.specs.declared.Writing.the-variants.{Written, Refused as NotWritten}
+use Rattle.spelling.specs.declared.Writing.{Writing}
+use Rattle.spelling.specs.declared.Writing.the-variants.{Written, Refused as NotWritten}
 use Rattle.action.specs.declared.Reading.{Reading as ActionsReading}
 use Rattle.action.specs.declared.Reading.the-variants.{Read, Unsound}
 use Rattle.action.specs.Actions.{valuesOf}

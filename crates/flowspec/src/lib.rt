@@ -18,7 +18,7 @@ use octets::Order;
 use packet::Packet;
 use rule::Family;
 use rule::Reading;
-use rule::Writing;
+use spelling::Writing;
 use table::Soundness;
 
 // The families of addresses whose rules are known (RFC 4760's address family).
@@ -100,7 +100,7 @@ pub fn read_rule(family: AddressFamily, rule: &[u8]) -> Reading
 pub fn write_rule(family: AddressFamily, value: &[u8], buffer: &mut [u8]) -> Writing
     ensures { λ r. ⌜ WritesOne (familyOf family) (now (value .entry)) (now (buffer .entry)) r (now (buffer .exit)) (now (value .exit) ∷ []) ⌝ }
 {
-    rule::write_rule(family_of(family), value, buffer)
+    spelling::write_rule(family_of(family), value, buffer)
 }
 
 // What an order of two values means for their rules.

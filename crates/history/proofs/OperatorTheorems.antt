@@ -14,7 +14,7 @@ use Rattle.sorted.proofs.TableLaws.{remove-absent}
 use Rattle.rule.specs.declared.Family.{Family}
 use Rattle.rule.specs.declared.Reading.the-variants.{Rule}
 use Rattle.rule.specs.Family.{Fits}
-use Rattle.rule.specs.Plain.{plain}
+use Rattle.spelling.specs.Plain.{plain}
 use Rattle.rule.specs.Reading.{valueOf, oneRule}
 use Rattle.order.specs.Precedence.{precedence}
 use Rattle.order.specs.Key.{keysOf, keyOrder}

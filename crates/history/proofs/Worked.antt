@@ -19,7 +19,7 @@ use Rattle.prefix.specs.Prefix.{bits, contains, patternIn, coversAddress, prefi
 use Rattle.rule.specs.declared.Reading.the-variants.{Rule}
 use Rattle.rule.specs.Component.{pairAt, pairsFrom, prefixEnd, bodyEnd, componentAt, leadOf, offsetAt}
 use Rattle.rule.specs.Operator.{endsList, sizeOf}
-use Rattle.rule.specs.Plain.{bodyOf, operandAfter, after, plainOperator, plainOperand, plainPattern, clearedOctet, plainFrom, plain, expectedAtStart, patternAfter, withoutReserved}
+use Rattle.spelling.specs.Plain.{bodyOf, operandAfter, after, plainOperator, plainOperand, plainPattern, clearedOctet, plainFrom, plain, expectedAtStart, patternAfter, withoutReserved}
 use Rattle.rule.specs.Reading.{fieldSize, fieldLength, firstRule, oneRule, valueOf}
 use Rattle.rule.specs.Value.{componentsFrom, components, checkValue}
 use Rattle.rule.specs.Family.{ipv4}

@@ -13,7 +13,7 @@ use Rattle.sorted.specs.History as S
 use Rattle.rule.specs.declared.Family.{Family}
 use Rattle.rule.specs.declared.Reading.{Reading}
 use Rattle.rule.specs.declared.Reading.the-variants.{Rule, Refused as NotRead}
-use Rattle.rule.specs.Plain.{plain}
+use Rattle.spelling.specs.Plain.{plain}
 use Rattle.rule.specs.Reading.{valueOf, oneRule}
 use Rattle.order.specs.Key.{RuleKey, keysOf, keyOrder}
 use Rattle.action.specs.declared.Reading.{Reading as ActionsReading}

@@ -14,8 +14,8 @@ use Rattle.octets.proofs.Facts.{Octets}
 use Rattle.rule.specs.declared.Family.{Family}
 use Rattle.rule.specs.Family.{Fits}
 use Rattle.rule.specs.Value.{between, headOf}
-use Rattle.rule.specs.Plain.{plain}
-use Rattle.rule.proofs.SpellingLaws.{head-kept}
+use Rattle.spelling.specs.Plain.{plain}
+use Rattle.spelling.proofs.SpellingLaws.{head-kept}
 use Rattle.action.specs.declared.Actions.{Actions}
 use Rattle.action.specs.Actions.{noActions}
 use Rattle.action.specs.Merging.{merged}

@@ -19,9 +19,9 @@ use Rattle.rule.specs.declared.Checked.the-variants.{Accepted}
 use Rattle.rule.specs.Family.{Fits}
 use Rattle.rule.specs.Shape.{shapeOf}
 use Rattle.rule.specs.Value.{Component, spelled, headOf, components, checkValue}
-use Rattle.rule.specs.Plain.{plain}
-use Rattle.rule.proofs.ClearedLaws.{plain-again}
-use Rattle.rule.proofs.SpellingLaws.{check-plain}
+use Rattle.spelling.specs.Plain.{plain}
+use Rattle.spelling.proofs.ClearedLaws.{plain-again}
+use Rattle.spelling.proofs.SpellingLaws.{check-plain}
 use Rattle.rule.proofs.ComponentsLaws.{spelled-whole}
 use Rattle.order.specs.Precedence.{bodyOrder, componentOrder, componentsOrder, headsOrder, plainOrder, precedence}
 use Rattle.order.specs.Key.{bodyKey, keyOf, keysOf, keyOrder}

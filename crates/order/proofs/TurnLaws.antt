@@ -23,7 +23,7 @@ use Rattle.rule.specs.declared.Shape.{Shape}
 use Rattle.rule.specs.Shape.{shapeOf}
 use Rattle.rule.specs.Component.{componentAt}
 use Rattle.rule.specs.Value.{Component, component, between, components}
-use Rattle.rule.specs.Plain.{plain}
+use Rattle.spelling.specs.Plain.{plain}
 use Rattle.rule.proofs.ValueLaws.{was-found, components-more, components-none, components-refused}
 use Rattle.order.specs.declared.Turn.{Turn}
 use Rattle.order.specs.declared.Turn.the-variants.{Decided, Tied}

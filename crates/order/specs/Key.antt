@@ -8,7 +8,7 @@ use Rattle.prefix.specs.Prefix.{Pattern, patternBits, patternIn}
 use Rattle.rule.specs.declared.Family.{Family}
 use Rattle.rule.specs.Shape.{shapeOf}
 use Rattle.rule.specs.Value.{Component, headOf, components}
-use Rattle.rule.specs.Plain.{plain}
+use Rattle.spelling.specs.Plain.{plain}
 
 -- A key: one list of numbers for what stands before the first component, and one for each component.
 abbrev pub RuleKey : Type 0

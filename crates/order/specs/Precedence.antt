@@ -8,7 +8,7 @@ use Rattle.prefix.specs.Prefix.{prefixOrder, patternIn}
 use Rattle.rule.specs.declared.Family.{Family}
 use Rattle.rule.specs.Shape.{shapeOf}
 use Rattle.rule.specs.Value.{Component, headOf, components}
-use Rattle.rule.specs.Plain.{plain}
+use Rattle.spelling.specs.Plain.{plain}
 
 -- Two bodies of one type: prefixes as prefixes, "other bodies: octet order, the lower first".
 unfoldable pub bodyOrder : Family → ℕ → List ℕ → List ℕ → Ordering

@@ -159,9 +159,9 @@ pub fn compare_values(family: Family, first: &[u8], second: &[u8]) -> Order
 {
     let size = first.len();
     let other = second.len();
-    let mut work = [0u8; rule::WORKING];
-    let mut space = [0u8; rule::WORKING];
-    rule::fill_plain(family, first, &mut work);
-    rule::fill_plain(family, second, &mut space);
+    let mut work = [0u8; spelling::WORKING];
+    let mut space = [0u8; spelling::WORKING];
+    spelling::fill_plain(family, first, &mut work);
+    spelling::fill_plain(family, second, &mut space);
     compare_plain(family, &work[..size], &space[..other])
 }

@@ -15,7 +15,7 @@ use Rattle.rule.specs.Shape.{shapeOf}
 use Rattle.rule.specs.Operator.{endsList, sizeOf}
 use Rattle.rule.specs.Component.{pairAt, pairsFrom, leadOf, offsetAt, prefixEnd, bodyEnd, componentAt}
 use Rattle.rule.specs.Value.{componentsFrom, components}
-use Rattle.rule.specs.Plain.{plainOperand}
+use Rattle.spelling.specs.Plain.{plainOperand}
 use Rattle.packet.specs.declared.Field.the-variants.{Shown, Hidden}
 use Rattle.packet.specs.declared.Packet.{Packet}
 use Rattle.packet.specs.declared.Reading.{Reading}

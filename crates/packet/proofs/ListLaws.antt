@@ -18,7 +18,7 @@ use Rattle.rule.specs.declared.BodyEnd.{BodyEnd}
 use Rattle.rule.specs.declared.Shape.{Shape}
 use Rattle.rule.specs.Operator.{sizeOf}
 use Rattle.rule.specs.Component.{pairAt, Pair, pairOf, pairsFrom}
-use Rattle.rule.specs.Plain.{plainOperand}
+use Rattle.spelling.specs.Plain.{plainOperand}
 use Rattle.rule.proofs.ComponentLaws.{pair-cases, more-within, pairs-more, pairs-last, pairs-refused}
 use Rattle.packet.specs.declared.Evaluated.{Evaluated}
 use Rattle.packet.specs.Operator.{numericHolds, bitmaskHolds}

@@ -12,16 +12,16 @@ use Rattle.prefix.specs.Prefix.{addressOf}
 use Rattle.prefix.proofs.ContainLaws.{covers-alike}
 use Rattle.rule.specs.declared.Family.{Family}
 use Rattle.rule.specs.declared.Shape.{Shape}
-use Rattle.rule.specs.declared.Expected.the-variants.{Length, Operator}
+use Rattle.spelling.specs.declared.Expected.the-variants.{Length, Operator}
 use Rattle.rule.specs.Family.{Fits}
 use Rattle.rule.specs.Shape.{shapeOf}
 use Rattle.rule.specs.Component.{Pair, pairsFrom}
 use Rattle.rule.specs.Value.{Component, components}
-use Rattle.rule.specs.Plain.{bodyOf, withoutReserved, plainOperator, plainOperand, plainFrom, plain}
-use Rattle.rule.specs.PlainComponent.{plainPair, plainPairs, plainComponent}
+use Rattle.spelling.specs.Plain.{bodyOf, withoutReserved, plainOperator, plainOperand, plainFrom, plain}
+use Rattle.spelling.specs.PlainComponent.{plainPair, plainPairs, plainComponent}
 use Rattle.rule.proofs.ComponentLaws.{pairs-ind}
-use Rattle.rule.proofs.ClearedLaws.{operator-small, operand-again}
-use Rattle.rule.proofs.SpellingLaws.{pairs-plain, components-plain}
+use Rattle.spelling.proofs.ClearedLaws.{operator-small, operand-again}
+use Rattle.spelling.proofs.SpellingLaws.{pairs-plain, components-plain}
 use Rattle.rule.proofs.ComponentsLaws.{PrefixBody, SoundComponent, each-octets, each-sound}
 use Rattle.packet.specs.declared.Field.{Field}
 use Rattle.packet.specs.declared.Field.the-variants.{Shown, Hidden}

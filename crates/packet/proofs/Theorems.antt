@@ -20,8 +20,8 @@ use Rattle.rule.specs.declared.Shape.{Shape}
 use Rattle.rule.specs.Shape.{shapeOf}
 use Rattle.rule.specs.Component.{Pair}
 use Rattle.rule.specs.Value.{Component, components}
-use Rattle.rule.specs.Plain.{plainOperand}
-use Rattle.rule.proofs.PlainLaws.{operand-small}
+use Rattle.spelling.specs.Plain.{plainOperand}
+use Rattle.spelling.proofs.PlainLaws.{operand-small}
 use Rattle.rule.proofs.ComponentsLaws.{each-found}
 use Rattle.packet.specs.declared.Field.the-variants.{Hidden}
 use Rattle.packet.specs.declared.Transport.{Transport}

@@ -12,7 +12,7 @@ use Rattle.rule.specs.declared.Shape.{Shape}
 use Rattle.rule.specs.Shape.{shapeOf}
 use Rattle.rule.specs.Component.{Pair, pairsFrom}
 use Rattle.rule.specs.Value.{Component, components}
-use Rattle.rule.specs.Plain.{plainOperand}
+use Rattle.spelling.specs.Plain.{plainOperand}
 use Rattle.packet.specs.declared.Field.{Field}
 use Rattle.packet.specs.declared.Field.the-variants.{Shown, Hidden}
 use Rattle.packet.specs.declared.Packet.{Packet}

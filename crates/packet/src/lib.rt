@@ -238,7 +238,7 @@ fn bitmask_holds(operator: u8, data: u64, value: u64) -> bool
 fn pair_holds(shape: Shape, operator: u8, value: u64, data: u64) -> bool
     ensures { λ r. ⌜ r ≡ holdsFor shape operator value «data» ⌝ }
 {
-    let wanted = rule::plain_operand(shape.ignored, value);
+    let wanted = spelling::plain_operand(shape.ignored, value);
     if shape.bitmask {
         return bitmask_holds(operator, data, wanted);
     }

@@ -7,14 +7,5 @@ pub mod ComponentLaws
 pub mod ReaderLaws
 pub mod ValueLaws
 pub mod ComponentsLaws
-pub mod PlainLaws
-pub mod ClearedLaws
-pub mod SpellingLaws
-pub mod PassingLaws
-pub mod PlainWalkLaws
-pub mod FillLaws
 pub mod ReadingLaws
 pub mod RefusalsLaws
-pub mod WritingLaws
-pub mod RoundTripLaws
-pub mod Examples

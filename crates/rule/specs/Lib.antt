@@ -5,8 +5,5 @@ pub mod Operator
 pub mod Component
 pub mod Value
 pub mod Reader
-pub mod Plain
-pub mod PlainComponent
 pub mod Reading
 pub mod Refusals
-pub mod Writing

@@ -9,10 +9,10 @@ use Rattle.octets.proofs.Facts.{Octets}
 use Rattle.rule.specs.declared.Family.{Family}
 use Rattle.rule.specs.declared.Checked.the-variants.{Accepted}
 use Rattle.rule.specs.Value.{checkValue}
-use Rattle.rule.specs.Plain.{plain}
-use Rattle.rule.proofs.ClearedLaws.{plain-again}
-use Rattle.rule.proofs.SpellingLaws.{check-plain}
-use Rattle.rule.proofs.WritingLaws.{front-plain}
+use Rattle.spelling.specs.Plain.{plain}
+use Rattle.spelling.proofs.ClearedLaws.{plain-again}
+use Rattle.spelling.proofs.SpellingLaws.{check-plain}
+use Rattle.spelling.proofs.WritingLaws.{front-plain}
 use Rattle.order.specs.Key.{keysOf}
 use Rattle.entry.specs.declared.Head.{Head}
 use Rattle.entry.specs.Entry.{entryFor, plainValue}

@@ -5,7 +5,7 @@ ghost use lib.ListN.{length};
 ghost use mathlib.Core.Bool.{true};
 ghost use Rattle.rule.specs.Family.{Fits};
 ghost use Rattle.rule.specs.Value.{checkValue};
-ghost use Rattle.rule.specs.Plain.{plain};
+ghost use Rattle.spelling.specs.Plain.{plain};
 ghost use Rattle.order.specs.Key.{keysOf};
 ghost use Rattle.entry.specs.Entry.{entryFor, plainValue};
 ghost use Rattle.table.specs.Walk.{recordAt, entries};
@@ -211,8 +211,8 @@ pub fn announce_value(
     ensures { λ r. ⌜ Leaves (announced family (now (table .entry)) (entryFor head (plain family (now (value .entry)))) feasible) r (now (table .exit)) ⌝ }
 {
     let size = value.len();
-    let mut work = [0u8; rule::WORKING];
-    rule::fill_plain(family, value, &mut work);
+    let mut work = [0u8; spelling::WORKING];
+    spelling::fill_plain(family, value, &mut work);
     if feasible {
         return insert_rule(family, table, used, head, &work[..size]);
     }
@@ -229,7 +229,7 @@ pub fn withdraw_value(family: Family, table: &mut [u8], used: usize, value: &[u8
     ensures { λ r. ⌜ Leaves (withdrawn family (now (table .entry)) (keysOf family (plain family (now (value .entry))))) r (now (table .exit)) ⌝ }
 {
     let size = value.len();
-    let mut work = [0u8; rule::WORKING];
-    rule::fill_plain(family, value, &mut work);
+    let mut work = [0u8; spelling::WORKING];
+    spelling::fill_plain(family, value, &mut work);
     remove_rule(family, table, used, &work[..size])
 }

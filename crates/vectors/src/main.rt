@@ -25,7 +25,7 @@ use libc::STDOUT_FILENO;
 use lookup::Verdict;
 use rule::Checked;
 use rule::Reading;
-use rule::Writing;
+use spelling::Writing;
 
 // A call's name by its first two letters: `ac`, `an`, `co`, `fe`, `fi`, `lo`, `ma`, `re`, `ta`, `wi`, `wr`.
 const ACTIONS: u64 = 0x6163;

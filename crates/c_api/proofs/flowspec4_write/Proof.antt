@@ -2,7 +2,7 @@
 use mathlib.Core.Path.{sym, _∙_, refl}
 use Rattle.rule.specs.Family.{ipv4}
 use Rattle.rule.proofs.Refusal.{Refusal}
-use Rattle.rule.proofs.WritingLaws.{not-written}
+use Rattle.spelling.proofs.WritingLaws.{not-written}
 use Rattle.flowspec.specs.Told.{writingTold}
 use Rattle.c_api.proofs.CallLaws.{refused, done, answered}
 use borrow.Author.Needs.{needs}

@@ -1,5 +1,5 @@
 -- The type says whether the body is a prefix or a list, as it said to the cursor.
-use Rattle.rule.proofs.PlainWalkLaws.{as-prefix, as-list}
+use Rattle.spelling.proofs.PlainWalkLaws.{as-prefix, as-list}
 use Rattle.entry.proofs.BodyLaws.{body-prefix, body-list}
 use borrow.Author.Needs.{needs}
 use Rattle.entry.proofs.is_plain_body.Statement.{statement}

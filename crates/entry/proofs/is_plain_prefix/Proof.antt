@@ -1,5 +1,5 @@
 -- The body is just one prefix, so that its last octet is the pattern's last one.
-use Rattle.rule.proofs.PlainWalkLaws.{prefix-some, last-inside, offset-below}
+use Rattle.spelling.proofs.PlainWalkLaws.{prefix-some, last-inside, offset-below}
 use Rattle.entry.proofs.BodyLaws.{prefix-all, prefix-last}
 use borrow.Author.Needs.{needs}
 use Rattle.entry.proofs.is_plain_prefix.Statement.{statement}

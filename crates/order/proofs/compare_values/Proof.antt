@@ -1,7 +1,7 @@
 -- Each working array begins with the plain spelling of its value.
 use native.Mathlib.Omega.{arith}
 use Rattle.rule.proofs.ValueLaws.{accepted-small}
-use Rattle.rule.proofs.WritingLaws.{front-plain, front-length}
+use Rattle.spelling.proofs.WritingLaws.{front-plain, front-length}
 use Rattle.order.proofs.TurnLaws.{spelled-order}
 use borrow.Author.Needs.{needs}
 use Rattle.order.proofs.compare_values.Statement.{statement}

@@ -1,7 +1,7 @@
 -- The plain spelling stands at the front of the working array; the change is that of the entries.
 use native.Mathlib.Omega.{arith}
 use Rattle.rule.proofs.ValueLaws.{accepted-small}
-use Rattle.rule.proofs.WritingLaws.{front-length}
+use Rattle.spelling.proofs.WritingLaws.{front-length}
 use Rattle.table.proofs.CallLaws.{front-held, withdrew}
 use borrow.Author.Needs.{needs}
 use Rattle.table.proofs.withdraw_value.Statement.{statement}
