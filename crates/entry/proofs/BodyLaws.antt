@@ -10,12 +10,11 @@ use borrow.Author.Tests.{not-true, not-false}
 use Rattle.octets.specs.Test.{sameList}
 use Rattle.rule.specs.declared.Family.{Family}
 use Rattle.rule.specs.declared.Shape.{Shape}
-use Rattle.spelling.specs.declared.Expected.the-variants.{Length, Operator}
+use Rattle.spelling.specs.Plain.{Length, Operator, bodyOf, after, plainOperator, plainOperand, plainPattern, clearedOctet, plainFrom}
 use Rattle.rule.specs.declared.BodyEnd.the-variants.{At}
 use Rattle.rule.specs.Shape.{shapeOf}
 use Rattle.rule.specs.Operator.{sizeOf}
 use Rattle.rule.specs.Component.{pairsFrom, offsetAt, prefixEnd}
-use Rattle.spelling.specs.Plain.{bodyOf, after, plainOperator, plainOperand, plainPattern, clearedOctet, plainFrom}
 use Rattle.rule.proofs.OperatorLaws.{size-positive}
 use Rattle.spelling.proofs.PlainWalkLaws.{plainFromHere, pair-there, pair-plain, none-plain, prefix-there, prefix-whole-octets, prefix-last-octet}
 

@@ -8,7 +8,7 @@ ghost use Rattle.octets.specs.Store.{stored};
 ghost use Rattle.octets.specs.Test.{sameList};
 ghost use Rattle.rule.specs.Shape.{shapeOf};
 ghost use Rattle.rule.specs.Component.{pairsFrom, prefixEnd, bodyEnd};
-ghost use Rattle.spelling.specs.Plain.{bodyOf, plainFrom};
+ghost use Rattle.spelling.specs.Plain.{Length, Operator, bodyOf, plainFrom};
 ghost use Rattle.action.specs.Actions.{flagsOf, valuesOf};
 ghost use Rattle.entry.specs.Entry.{entryFor, plainValue};
 ghost use Rattle.entry.specs.Record.{headCost, writtenFields, recordOf, fieldIf, actionsIn, entryOf, Measured, goodRecord};
@@ -29,7 +29,6 @@ use rule::next_component;
 use rule::offset_at;
 use rule::shape_of;
 use rule::size_of;
-use spelling::Expected;
 use spelling::plain_operand;
 use spelling::plain_operator;
 use spelling::plain_pattern;
@@ -182,7 +181,7 @@ pub fn record_actions(octets: &[u8]) -> Actions
 // Whether a prefix's body is its own plain spelling: only its last octet can have bits past the length.
 fn is_plain_prefix(family: Family, body: &[u8]) -> bool
     requires { ⌜ prefixEnd family (now body) 0 ≡ BodyEnd.At (length (now body)) ⌝ }
-    ensures { λ r. ⌜ r ≡ sameList (plainFrom family Expected.Length (now (body .entry))) (now (body .entry)) ⌝ }
+    ensures { λ r. ⌜ r ≡ sameList (plainFrom family Length (now (body .entry))) (now (body .entry)) ⌝ }
 {
     let bits = body[0] - offset_at(family, body, 1);
     let kept = bits % 8;
@@ -195,7 +194,7 @@ fn is_plain_prefix(family: Family, body: &[u8]) -> bool
 
 // Whether an operator, a list's first or a later one, and the first octet of its value are their own plain spelling.
 fn is_plain_pair(family: Family, kind: u8, first: bool, operator: u8, octet: u8) -> bool
-    ensures { λ r. ⌜ r ≡ sameList (plainFrom family (Expected.Operator kind first) (operator ∷ octet ∷ [])) (operator ∷ octet ∷ []) ⌝ }
+    ensures { λ r. ⌜ r ≡ sameList (plainFrom family (Operator kind first) (operator ∷ octet ∷ [])) (operator ∷ octet ∷ []) ⌝ }
 {
     let shape = shape_of(family, kind);
     let value = octet as u64;
@@ -206,7 +205,7 @@ fn is_plain_pair(family: Family, kind: u8, first: bool, operator: u8, octet: u8)
 // Whether a list's body is its own plain spelling: of a value only the first octet is looked at, since one that loses bits has no other.
 fn is_plain_list(family: Family, kind: u8, body: &[u8]) -> bool
     requires { ⌜ pairsFrom (shapeOf family kind .largest) (now body) 0 .ending ≡ BodyEnd.At (length (now body)) ⌝ }
-    ensures { λ r. ⌜ r ≡ sameList (plainFrom family (Expected.Operator kind true) (now (body .entry))) (now (body .entry)) ⌝ }
+    ensures { λ r. ⌜ r ≡ sameList (plainFrom family (Operator kind true) (now (body .entry))) (now (body .entry)) ⌝ }
 {
     let mut first = true;
     let mut at = 0;

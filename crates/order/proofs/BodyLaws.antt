@@ -21,13 +21,11 @@ use Rattle.octets.proofs.NumberLaws.{number-behind, first-octet, number-none}
 use Rattle.prefix.specs.Prefix.{Pattern, offsetIn, patternIn, WellFormed}
 use Rattle.prefix.proofs.BodyLaws.{ClearBody, clear-formed, body-only}
 use Rattle.rule.specs.declared.Family.{Family}
-use Rattle.spelling.specs.declared.Expected.{Expected}
-use Rattle.spelling.specs.declared.Expected.the-variants.{Kind, Length, PatternOctet}
+use Rattle.spelling.specs.Plain.{Expected, Kind, Length, PatternOctet, bodyOf, patternAfter, after, clearedOctet, plainPattern, plainFrom, plain}
 use Rattle.rule.specs.Shape.{shapeOf}
 use Rattle.rule.specs.Component.{leadOf, offsetAt}
 use Rattle.rule.specs.Value.{Component, components}
 use Rattle.spelling.specs.PlainComponent.{plainComponent}
-use Rattle.spelling.specs.Plain.{bodyOf, patternAfter, after, clearedOctet, plainPattern, plainFrom, plain}
 use Rattle.spelling.proofs.PlainLaws.{above, length-plain-from, length-kept}
 use Rattle.spelling.proofs.ClearedLaws.{octets-plain-from}
 use Rattle.rule.proofs.ComponentLaws.{lead-some}

@@ -18,11 +18,9 @@ use Rattle.prefix.specs.Prefix.{Pattern, bits, patternBits, offsetIn, patternSt
 use Rattle.prefix.proofs.BitLaws.{between-first, first-of}
 use Rattle.prefix.proofs.ContainLaws.{Alike}
 use Rattle.rule.specs.declared.Family.{Family}
-use Rattle.spelling.specs.declared.Expected.{Expected}
-use Rattle.spelling.specs.declared.Expected.the-variants.{Kind, Length, PatternOctet}
+use Rattle.spelling.specs.Plain.{Expected, Kind, Length, PatternOctet, patternAfter, after, plainPattern, clearedOctet, plainFrom}
 use Rattle.rule.specs.Family.{Fits}
 use Rattle.rule.specs.Component.{offsetAt}
-use Rattle.spelling.specs.Plain.{patternAfter, after, plainPattern, clearedOctet, plainFrom}
 use Rattle.spelling.proofs.PlainLaws.{whole-octet, above, after-length, after-length-offset}
 use Rattle.spelling.proofs.ClearedLaws.{octets-plain-from}
 use Rattle.rule.proofs.ComponentsLaws.{PrefixBody}

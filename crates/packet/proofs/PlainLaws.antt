@@ -12,12 +12,11 @@ use Rattle.prefix.specs.Prefix.{addressOf}
 use Rattle.prefix.proofs.ContainLaws.{covers-alike}
 use Rattle.rule.specs.declared.Family.{Family}
 use Rattle.rule.specs.declared.Shape.{Shape}
-use Rattle.spelling.specs.declared.Expected.the-variants.{Length, Operator}
+use Rattle.spelling.specs.Plain.{Length, Operator, bodyOf, withoutReserved, plainOperator, plainOperand, plainFrom, plain}
 use Rattle.rule.specs.Family.{Fits}
 use Rattle.rule.specs.Shape.{shapeOf}
 use Rattle.rule.specs.Component.{Pair, pairsFrom}
 use Rattle.rule.specs.Value.{Component, components}
-use Rattle.spelling.specs.Plain.{bodyOf, withoutReserved, plainOperator, plainOperand, plainFrom, plain}
 use Rattle.spelling.specs.PlainComponent.{plainPair, plainPairs, plainComponent}
 use Rattle.rule.proofs.ComponentLaws.{pairs-ind}
 use Rattle.spelling.proofs.ClearedLaws.{operator-small, operand-again}

@@ -13,11 +13,9 @@ use lib.Pow.{shl-shr, split}
 use borrow.Author.Tests.{ltb-true}
 use Rattle.octets.proofs.Facts.{Octets, allBelow, below, octet, octet-test}
 use Rattle.rule.specs.declared.Family.{Family}
-use Rattle.spelling.specs.declared.Expected.{Expected}
-use Rattle.spelling.specs.declared.Expected.the-variants.{Head, Kind, Length, Offset, PatternOctet, Operator, Operand}
+use Rattle.spelling.specs.Plain.{Expected, Head, Kind, Length, Offset, PatternOctet, Operator, Operand, expectedAtStart, after, withoutReserved, plainOperator, plainOperand, plainPattern, clearedOctet, plainFrom, plain}
 use Rattle.rule.specs.Shape.{shapeOf}
 use Rattle.rule.specs.Operator.{endsList, sizeOf}
-use Rattle.spelling.specs.Plain.{expectedAtStart, after, withoutReserved, plainOperator, plainOperand, plainPattern, clearedOctet, plainFrom, plain}
 use Rattle.spelling.proofs.PlainLaws.{operand-small}
 
 -- an operator is cleared by one of four masks: what holds of each holds of the clearing

@@ -19,7 +19,7 @@ use Rattle.octets.proofs.Facts.{Octets}
 use Rattle.octets.proofs.StoreLaws.{length-stored}
 use Rattle.rule.specs.declared.Family.{Family}
 use Rattle.rule.specs.declared.Shape.{Shape}
-use Rattle.spelling.specs.declared.Expected.the-variants.{Kind, Length, Operator, Operand}
+use Rattle.spelling.specs.Plain.{Kind, Length, Operator, Operand, bodyOf, operandAfter, after, plainOperator, plainOperand, plainPattern, clearedOctet, plainFrom, plain}
 use Rattle.rule.specs.declared.BodyEnd.the-variants.{At}
 use Rattle.rule.specs.declared.Next.{Next}
 use Rattle.rule.specs.declared.Next.the-variants.{Nothing, Another, Refused as RefusedNext}
@@ -29,7 +29,6 @@ use Rattle.rule.specs.Shape.{shapeOf}
 use Rattle.rule.specs.Operator.{endsList, sizeOf}
 use Rattle.rule.specs.Component.{pairsFrom, offsetAt, prefixEnd, bodyEnd, componentAt}
 use Rattle.rule.specs.Value.{Component, spelled, between, componentsFrom, components, checkValue}
-use Rattle.spelling.specs.Plain.{bodyOf, operandAfter, after, plainOperator, plainOperand, plainPattern, clearedOctet, plainFrom, plain}
 use Rattle.spelling.specs.PlainComponent.{plainComponent}
 use Rattle.rule.proofs.ShapeLaws.{one-octet-or-whole}
 use Rattle.rule.proofs.OperatorLaws.{size-positive}

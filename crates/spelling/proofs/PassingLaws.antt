@@ -13,11 +13,9 @@ use lib.Seq.{drop-cons, take-all, take-suc-set, drop-set-lt, append-snoc, set-ge
 use borrow.Author.Tests.{lt-leb, lt-ltb}
 use Rattle.octets.proofs.Cases.{by-test}
 use Rattle.rule.specs.declared.Family.{Family}
-use Rattle.spelling.specs.declared.Expected.{Expected}
-use Rattle.spelling.specs.declared.Expected.the-variants.{Kind, Length, Offset, PatternOctet, Operator, Operand}
+use Rattle.spelling.specs.Plain.{Expected, Kind, Length, Offset, PatternOctet, Operator, Operand, patternAfter, operandAfter, after, plainPattern, clearedOctet, plainFrom}
 use Rattle.rule.specs.Shape.{shapeOf}
 use Rattle.rule.specs.Component.{leadOf, offsetAt}
-use Rattle.spelling.specs.Plain.{patternAfter, operandAfter, after, plainPattern, clearedOctet, plainFrom}
 use Rattle.rule.proofs.ComponentLaws.{lead-with, lead-without, lead-some, offset-with, offset-without}
 use Rattle.rule.proofs.ComponentsLaws.{PrefixBody}
 use Rattle.spelling.proofs.PlainLaws.{whole-octet, whole-operand, pattern-some, after-length-offset, after-length, after-offset}

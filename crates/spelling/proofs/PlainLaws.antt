@@ -10,9 +10,7 @@ use lib.ListN.{length, getD}
 use lib.Pow.{pow-add, split}
 use borrow.Author.Tests.{eq-eqb, ne-eqb, le-leb, lt-leb}
 use Rattle.rule.specs.declared.Family.{Family}
-use Rattle.spelling.specs.declared.Expected.{Expected}
-use Rattle.spelling.specs.declared.Expected.the-variants.{Head, Kind, Length, Offset, PatternOctet}
-use Rattle.spelling.specs.Plain.{expectedAtStart, patternAfter, after, plainOperand, plainPattern, clearedOctet, plainFrom, plain}
+use Rattle.spelling.specs.Plain.{Expected, Head, Kind, Length, Offset, PatternOctet, expectedAtStart, patternAfter, after, plainOperand, plainPattern, clearedOctet, plainFrom, plain}
 
 -- what the shifts of `plain_pattern` leave
 pub shifted : (x k : ℕ) → x < 256 → x / 2 ^ k * 2 ^ k % 2 ^ 32 ≡ x / 2 ^ k * 2 ^ k

@@ -19,8 +19,7 @@ use Rattle.octets.proofs.Facts.{Octets}
 use Rattle.octets.proofs.TestLaws.{list-same}
 use Rattle.rule.specs.declared.Family.{Family}
 use Rattle.rule.specs.declared.Shape.{Shape}
-use Rattle.spelling.specs.declared.Expected.{Expected}
-use Rattle.spelling.specs.declared.Expected.the-variants.{Kind, Length, Operator, Operand}
+use Rattle.spelling.specs.Plain.{Expected, Kind, Length, Operator, Operand, bodyOf, operandAfter, after, plainOperator, plainOperand, plainPattern, clearedOctet, plainFrom, plain}
 use Rattle.rule.specs.declared.NextPair.{NextPair}
 use Rattle.rule.specs.declared.NextPair.the-variants.{More, Last, Refused as RefusedPair}
 use Rattle.rule.specs.declared.BodyEnd.{BodyEnd}
@@ -30,7 +29,6 @@ use Rattle.rule.specs.Shape.{shapeOf}
 use Rattle.rule.specs.Operator.{endsList, sizeOf}
 use Rattle.rule.specs.Component.{pairAt, Pair, pairsFrom, leadOf, offsetAt, prefixEnd, bodyEnd}
 use Rattle.rule.specs.Value.{Component, spelled, between, headOf, components, checkValue}
-use Rattle.spelling.specs.Plain.{bodyOf, operandAfter, after, plainOperator, plainOperand, plainPattern, clearedOctet, plainFrom, plain}
 use Rattle.spelling.specs.PlainComponent.{plainComponent}
 use Rattle.rule.proofs.ShapeLaws.{one-octet-or-whole}
 use Rattle.rule.proofs.OperatorLaws.{size-positive}

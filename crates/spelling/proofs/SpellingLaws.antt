@@ -20,8 +20,7 @@ use Rattle.octets.proofs.Facts.{Octets}
 use Rattle.octets.proofs.NumberLaws.{number-alike, one-octet}
 use Rattle.rule.specs.declared.Family.{Family}
 use Rattle.rule.specs.declared.Shape.{Shape}
-use Rattle.spelling.specs.declared.Expected.{Expected}
-use Rattle.spelling.specs.declared.Expected.the-variants.{Head, Kind, Length, Offset, PatternOctet, Operator, Operand}
+use Rattle.spelling.specs.Plain.{Expected, Head, Kind, Length, Offset, PatternOctet, Operator, Operand, expectedAtStart, bodyOf, patternAfter, operandAfter, after, plainOperand, clearedOctet, plainFrom, plain}
 use Rattle.rule.specs.declared.NextPair.{NextPair}
 use Rattle.rule.specs.declared.NextPair.the-variants.{More, Last, Refused as RefusedPair}
 use Rattle.rule.specs.declared.BodyEnd.{BodyEnd}
@@ -34,7 +33,6 @@ use Rattle.rule.specs.Shape.{shapeOf}
 use Rattle.rule.specs.Operator.{endsList, sizeOf}
 use Rattle.rule.specs.Component.{pairAt, Pair, pairOf, pairsFrom, leadOf, offsetAt, prefixEnd, bodyEnd, found, componentAt}
 use Rattle.rule.specs.Value.{Component, spelled, between, headOf, atStart, componentsFrom, components, checkValue}
-use Rattle.spelling.specs.Plain.{expectedAtStart, bodyOf, patternAfter, operandAfter, after, plainOperand, clearedOctet, plainFrom, plain}
 use Rattle.spelling.specs.PlainComponent.{plainPair, plainPairs, plainComponent}
 use Rattle.rule.proofs.ShapeLaws.{one-octet-or-whole}
 use Rattle.rule.proofs.OperatorLaws.{size-positive}

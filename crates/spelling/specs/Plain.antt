@@ -7,10 +7,20 @@ use mathlib.Core.List.{List, [], _∷_}
 use lib.Bits.{bitAnd}
 use lib.Dec.{leb, ltb, eqb}
 use Rattle.rule.specs.declared.Family.{Family}
-use Rattle.spelling.specs.declared.Expected.{Expected}
-use Rattle.spelling.specs.declared.Expected.the-variants.{Head, Kind, Length, Offset, PatternOctet, Operator, Operand}
 use Rattle.rule.specs.Shape.{shapeOf}
 use Rattle.rule.specs.Operator.{endsList, sizeOf}
+
+-- What the next octet of a value is: one before the first component with the octets of these still to come (`Head`), a type, a prefix's length,
+-- its offset behind that length, an octet of its pattern with the bits still to come, an operator (of a type; a list's first or a later one),
+-- or an octet of a pair's value (of a type; with the octets still to come; of a list's last pair or an earlier one).
+pub data Expected : Type 0 where
+  Head : ℕ → Expected
+  Kind : Expected
+  Length : Expected
+  Offset : ℕ → Expected
+  PatternOctet : ℕ → Expected
+  Operator : ℕ → Bool → Expected
+  Operand : ℕ → ℕ → Bool → Expected
 
 -- What is expected where a value begins: the octets before the first component, or a type where the family has none.
 unfoldable pub expectedAtStart : Family → Expected

@@ -6,7 +6,7 @@ ghost use Prim.Native.Nat.{_≤_};
 ghost use lib.ListN.{length, drop};
 ghost use Rattle.rule.specs.Component.{prefixEnd, bodyEnd};
 ghost use Rattle.rule.specs.Value.{mostValue, checkValue};
-ghost use Rattle.spelling.specs.Plain.{bodyOf, withoutReserved, plainOperator, plainOperand, plainPattern, plainFrom, plain};
+ghost use Rattle.spelling.specs.Plain.{Length, bodyOf, withoutReserved, plainOperator, plainOperand, plainPattern, plainFrom, plain};
 ghost use Rattle.spelling.specs.Writing.{lengthField, intoRoom, filled, writing, afterWriting};
 ghost use Rattle.octets.specs.Store.{stored};
 use octets::store;
@@ -23,19 +23,6 @@ use rule::size_of;
 
 // The octets of a working array, in which a plain spelling is built.
 pub const WORKING: usize = MOST_VALUE + 1;
-
-// What the next octet of a value is: one before the first component with the octets of these still to come, a type, a prefix's length, its
-// offset behind that length, an octet of its pattern with the bits still to come, an operator (a list's first or a later one), or an octet
-// of a value with the octets still to come (of a list's last pair or an earlier one).
-pub enum Expected {
-    Head(usize),
-    Kind,
-    Length,
-    Offset(u8),
-    PatternOctet(u8),
-    Operator { kind: u8, first: bool },
-    Operand { kind: u8, left: usize, last: bool },
-}
 
 // How many octets were written, or a refusal.
 pub enum Writing {
@@ -89,7 +76,7 @@ pub fn plain_pattern(left: u8, x: u8) -> u8
 // Clears the bits past the length of a prefix's body, which only its last octet can have.
 fn clear_prefix(family: Family, body: &mut [u8])
     requires { ⌜ prefixEnd family (now body) 0 ≡ BodyEnd.At (length (now body)) ⌝ }
-    ensures { λ _. ⌜ now (body .exit) ≡ plainFrom family Expected.Length (now (body .entry)) ⌝ }
+    ensures { λ _. ⌜ now (body .exit) ≡ plainFrom family Length (now (body .entry)) ⌝ }
 {
     let bits = body[0] - offset_at(family, body, 1);
     let kept = bits % 8;
