@@ -7,9 +7,20 @@ use borrow.Author.Needs.{needs}
 use Rattle.flowspec.proofs.announce.Statement.{statement}
 use Rattle.flowspec.proofs.announce.Tie as tie
 
-rule-read : (c : tie.After-known-told3) → ReadRule (c .before .before .before .before .before .before .before .before .before .family-of .result) (c .before .before .before .before .before .before .before .before .before .before .before .before .before .before .args .rule .now) (c .before .start .given .0 .0) (c .before .start .given .0 .1 .0)
-rule-read c =
-    announce-rule _ _ (c .before .before .before .before .before .before .before .before .before .family-of .ensures) _ _ _ _ (c .before .before .before .before .before .before .before .sound-table .ensures) _ (c .before .before .before .before .before .used .given .1) _ (c .before .before .before .request-of .ensures) _ _ _ _ (c .before .start .given .1)
+-- where the rule was read: the table checked, the family chosen, and the function's start
+module _ (c : tie.After-known-told3) where
+  abbrev checked : tie.After-sound-table
+  checked = c .before .before .before .before .before .before .before
+
+  abbrev chosen : tie.After-family-of
+  chosen = checked .before .before
+
+  abbrev start : tie.Start
+  start = chosen .before .before .before .before .before
+
+  rule-read : ReadRule (chosen .family-of .result) (start .args .rule .now) (c .before .start .given .0 .0) (c .before .start .given .0 .1 .0)
+  rule-read =
+      announce-rule _ _ (chosen .family-of .ensures) _ _ _ _ (checked .sound-table .ensures) _ (c .before .before .before .before .before .used .given .1) _ (c .before .before .before .request-of .ensures) _ _ _ _ (c .before .start .given .1)
 
 sound-table-requires : tie.Need-sound-table-requires
 sound-table-requires c κs = search (chosen-fits, needs)
@@ -18,14 +29,14 @@ request-of-requires : tie.Need-request-of-requires
 request-of-requires c κs = search (chosen-fits, needs)
 
 add-end : tie.Need-add-end
-add-end c = omega (arith, rule-read c, c .before .before .before .before .before .before .before .before .before .before .before .before .before .before)
+add-end c = omega (arith, rule-read c, start c)
 
 part-announce-value-end : tie.Need-part-announce-value-end
 part-announce-value-end c = omega (arith, rule-read (c .before))
 
 announce-value-requires : tie.Need-announce-value-requires
 announce-value-requires c κs = let k = c .before .before in
-    announce-requires _ _ (k .before .before .before .before .before .before .before .before .before .family-of .ensures) _ _ _ _ (k .before .before .before .before .before .before .before .sound-table .ensures) _ (k .before .before .before .before .before .used .given .1) _ (k .before .before .before .request-of .ensures) _ _ _ _ (k .before .start .given .1) (search (chosen-fits, needs))
+    announce-requires _ _ (chosen k .family-of .ensures) _ _ _ _ (checked k .sound-table .ensures) _ (k .before .before .before .before .before .used .given .1) _ (k .before .before .before .request-of .ensures) _ _ _ _ (k .before .start .given .1) (search (chosen-fits, needs))
 
 returns : tie.Need-returns
 returns c = search (announce-unsound, needs)

@@ -7,8 +7,19 @@ use borrow.Author.Needs.{needs}
 use Rattle.flowspec.proofs.withdraw.Statement.{statement}
 use Rattle.flowspec.proofs.withdraw.Tie as tie
 
-rule-read : (c : tie.After-known-told3) → ReadRule (c .before .before .before .before .before .before .before .before .before .family-of .result) (c .before .before .before .before .before .before .before .before .before .before .before .before .args .rule .now) (c .before .start .given .0 .0) (c .before .start .given .0 .1 .0)
-rule-read c = search (withdraw-rule, needs)
+-- where the rule was read: the table checked, the family chosen, and the function's start
+module _ (c : tie.After-known-told3) where
+  abbrev checked : tie.After-sound-table
+  checked = c .before .before .before .before .before .before .before
+
+  abbrev chosen : tie.After-family-of
+  chosen = checked .before .before
+
+  abbrev start : tie.Start
+  start = chosen .before .before .before
+
+  rule-read : ReadRule (chosen .family-of .result) (start .args .rule .now) (c .before .start .given .0 .0) (c .before .start .given .0 .1 .0)
+  rule-read = search (withdraw-rule, needs)
 
 sound-table-requires : tie.Need-sound-table-requires
 sound-table-requires c κs = search (chosen-fits, needs)
@@ -21,7 +32,7 @@ part-withdraw-value-end c = omega (arith, rule-read (c .before))
 
 withdraw-value-requires : tie.Need-withdraw-value-requires
 withdraw-value-requires c κs = let k = c .before .before in
-    withdraw-requires _ _ (k .before .before .before .before .before .before .before .before .before .family-of .ensures) _ _ _ (k .before .before .before .before .before .before .before .sound-table .ensures) _ (k .before .before .before .before .before .used .given .1) _ (k .before .before .before .one-rule .ensures) _ _ (k .before .start .given .1) (search (chosen-fits, needs))
+    withdraw-requires _ _ (chosen k .family-of .ensures) _ _ _ (checked k .sound-table .ensures) _ (k .before .before .before .before .before .used .given .1) _ (k .before .before .before .one-rule .ensures) _ _ (k .before .start .given .1) (search (chosen-fits, needs))
 
 returns : tie.Need-returns
 returns c = search (withdraw-unsound, needs)
