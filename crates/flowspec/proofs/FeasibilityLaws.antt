@@ -24,16 +24,17 @@ use Rattle.flowspec.specs.Promise.{JudgesOne}
 use Rattle.flowspec.proofs.ToldLaws.{judge-tells}
 
 -- reading a rule once the routes are found sound
-module _ (family : Family) (words rule : List ℕ) where
-  pub with-unsound : (sound : Bool) → sound ≡ soundRoutes family words → not sound ≡ true → NotRead 9 0 ≡ readWithRoutes family words rule
+module _ (family chosen : Family) (chose : chosen ≡ family) (words rule : List ℕ) where
+  pub with-unsound : (sound : Bool) → sound ≡ soundRoutes chosen words → not sound ≡ true → NotRead 9 0 ≡ readWithRoutes family words rule
   unfolding readWithRoutes
-  with-unsound sound is h = rw (← is, not-true sound h)
+  with-unsound sound is h = rw (← chose, ← is, not-true sound h)
 
-  pub with-sound : (sound : Bool) (reading : Reading) → sound ≡ soundRoutes family words → not sound ≡ false → reading ≡ oneRule family rule
+  pub with-sound : (sound : Bool) (reading : Reading) → sound ≡ soundRoutes chosen words → not sound ≡ false → reading ≡ oneRule chosen rule
       → reading ≡ readWithRoutes family words rule
   unfolding readWithRoutes
-  with-sound sound reading is h read = read ∙ rw (← is, not-false sound h)
+  with-sound sound reading is h read = read ∙ rw (← chose, ← is, not-false sound h)
 
+module _ (family : Family) (words rule : List ℕ) where
   -- a rule that was so read is one that was read
   pub with-routes : (start size : ℕ) → readWithRoutes family words rule ≡ Rule start size → oneRule family rule ≡ Rule start size
   unfolding readWithRoutes
@@ -43,12 +44,12 @@ module _ (family : Family) (words rule : List ℕ) where
   rule-there reading start size is e = one-read family rule start size (with-routes start size (sym is ∙ e))
 
 -- judging a value
-pub value-judged : (family : Family) (policy : Policy) (value : List ℕ) (originator : ℕ) (destination : Destination) (feasibly : Bool)
-    → destinationIn destination ≡ destinationOf family value
-    → feasibly ≡ feasible (family .width) (policy .allowsNoDestination) (destinationIn destination) originator (routesOf family (policy .routes))
+pub value-judged : (family chosen : Family) → chosen ≡ family → (policy : Policy) (value : List ℕ) (originator : ℕ) (destination : Destination) (feasibly : Bool)
+    → destinationIn destination ≡ destinationOf chosen value
+    → feasibly ≡ feasible (chosen .width) (policy .allowsNoDestination) (destinationIn destination) originator (routesOf chosen (policy .routes))
     → feasibly ≡ isFeasible family policy value originator
 unfolding isFeasible
-value-judged family policy value originator destination feasibly is says = says ∙ rw is
+value-judged family chosen chose policy value originator destination feasibly is says = says ∙ rw (← chose, is)
 
 -- a promise from the equation for the answer
 kept : (family : Family) (policy : Policy) (rule : List ℕ) (originator : ℕ) (answer : Feasibility) → answer ≡ judgement family policy rule originator
@@ -56,16 +57,16 @@ kept : (family : Family) (policy : Policy) (rule : List ℕ) (originator : ℕ) 
 kept family policy rule originator answer e =
     record { is = e; tells = ap feasibilityTold e ∙ judge-tells family policy rule originator; keeps = refl }
 
-module _ (family chosen : Family) (chose : chosen ≡ family) (policy : Policy) (rule : List ℕ) (originator : ℕ) (reading : Reading)
-    (read : reading ≡ readWithRoutes chosen (policy .routes) rule) where
+module _ (family : Family) (policy : Policy) (rule : List ℕ) (originator : ℕ) (reading : Reading)
+    (read : reading ≡ readWithRoutes family (policy .routes) rule) where
   pub judge-refused : (number place : ℕ) → reading ≡ NotRead number place
       → JudgesOne family policy rule originator (Refused number place) (policy .routes ∷ rule ∷ [])
   unfolding judgement
-  judge-refused number place e = rw (← chose) (kept chosen policy rule originator _ (rw (← read, e)))
+  judge-refused number place e = kept family policy rule originator _ (rw (← read, e))
 
   pub judge-read : (start size : ℕ) (feasibly : Bool) (answer : Feasibility) → reading ≡ Rule start size
-      → feasibly ≡ isFeasible chosen policy (valueOf rule start (start + size - start)) originator → answer ≡ feasibilityOf feasibly
+      → feasibly ≡ isFeasible family policy (valueOf rule start (start + size - start)) originator → answer ≡ feasibilityOf feasibly
       → JudgesOne family policy rule originator answer (policy .routes ∷ rule ∷ [])
   unfolding judgement
   judge-read start size feasibly answer e f a =
-      rw (← chose) (kept chosen policy rule originator answer (a ∙ rw (← read, e, f, add-sub-cancel-left start size)))
+      kept family policy rule originator answer (a ∙ rw (← read, e, f, add-sub-cancel-left start size))

@@ -65,16 +65,19 @@ module _ (family chosen : Family) (chose : chosen ≡ family) (policy : Policy) 
   unfolding announcing
   announce-unsound e = rw (← chose) (announce-kept chosen policy a t (refusal 10 0 t) _ _ (rw (was-unsound chosen t s is e)) refl refl)
 
-  module _ (used : ℕ) (e : s ≡ Sound used) (request : Request) (asks : request ≡ requestOf chosen policy a) where
+  module _ (used : ℕ) (e : s ≡ Sound used) (request : Request) (asks : request ≡ requestOf family policy a) where
+    asks-so : request ≡ requestOf chosen policy a
+    asks-so = rw chose asks
+
     pub announce-refused : (number place : ℕ) → request ≡ NoRequest number place
         → Announces family policy a t (NotDone number place) t (policy .routes ∷ a .rule ∷ a .communities ∷ [])
     unfolding announcing
     announce-refused number place f =
-        rw (← chose) (announce-kept chosen policy a t (refusal number place t) _ _ (rw (was-sound chosen t s is used e .0, ← asks, f)) refl refl)
+        rw (← chose) (announce-kept chosen policy a t (refusal number place t) _ _ (rw (was-sound chosen t s is used e .0, ← asks-so, f)) refl refl)
 
     module _ (start size : ℕ) (actions : Actions) (feasible : Bool) (f : request ≡ Announce start size actions feasible) where
       pub announce-rule : ReadRule chosen (a .rule) start size
-      announce-rule = asked-rule chosen policy a start size actions feasible (sym asks ∙ f)
+      announce-rule = asked-rule chosen policy a start size actions feasible (sym asks-so ∙ f)
 
       pub announce-requires : Fits chosen → Ready chosen t used × (checkValue chosen (take (start + size - start) (drop start (a .rule))) ≡ Accepted)
       announce-requires fits = (was-ready chosen t s is fits used e, rw (add-sub-cancel-left start size) (announce-rule .accepted))
@@ -87,7 +90,7 @@ module _ (family chosen : Family) (chose : chosen ≡ family) (policy : Policy) 
           let k = rw (add-sub-cancel-left start size) at h in
           rw (← chose)
           (announce-kept chosen policy a t (outcome (announced chosen t (announcedEntry chosen a start size actions) feasible)) answer exit
-          (rw (was-sound chosen t s is used e .0, ← asks, f)) (says ∙ ap changeOf (k .number)) (k .table))
+          (rw (was-sound chosen t s is used e .0, ← asks-so, f)) (says ∙ ap changeOf (k .number)) (k .table))
 
 -- ---- withdrawing ----
 

@@ -142,10 +142,10 @@ pub fn compare_rules(family: AddressFamily, first: &[u8], second: &[u8]) -> Comp
 }
 
 // Reads one rule, once the routes that it is to be judged by are found sound.
-fn read_with_routes(family: Family, routes: &[u32], rule: &[u8]) -> Reading
-    requires { ⌜ Fits family ⌝ }
-    ensures { λ r. ⌜ r ≡ readWithRoutes family (now (routes .entry)) (now (rule .entry)) ⌝ }
+fn read_with_routes(family: AddressFamily, routes: &[u32], rule: &[u8]) -> Reading
+    ensures { λ r. ⌜ r ≡ readWithRoutes (familyOf family) (now (routes .entry)) (now (rule .entry)) ⌝ }
 {
+    let family = family_of(family);
     if !route::sound_routes(family, routes) {
         return Reading::Refused {
             number: 9,
@@ -157,15 +157,15 @@ fn read_with_routes(family: Family, routes: &[u32], rule: &[u8]) -> Reading
 
 // Whether an accepted value is feasible for an originator by the lent routes.
 fn is_feasible(
-    family: Family,
+    family: AddressFamily,
     allows_no_destination: bool,
     routes: &[u32],
     value: &[u8],
     originator: u32,
 ) -> bool
-    requires { ⌜ Fits family ⌝ }
-    ensures { λ r. ⌜ r ≡ isFeasible family (policyOf (now (routes .entry)) «allows_no_destination») (now (value .entry)) originator ⌝ }
+    ensures { λ r. ⌜ r ≡ isFeasible (familyOf family) (policyOf (now (routes .entry)) «allows_no_destination») (now (value .entry)) originator ⌝ }
 {
+    let family = family_of(family);
     let destination = route::destination_of(family, value);
     route::is_feasible(
         family,
@@ -199,7 +199,6 @@ pub fn judge_rule(
 ) -> Feasibility
     ensures { λ r. ⌜ JudgesOne (familyOf family) (policyOf (now (routes .entry)) «allows_no_destination») (now (rule .entry)) originator r (now (routes .exit) ∷ now (rule .exit) ∷ []) ⌝ }
 {
-    let family = family_of(family);
     match read_with_routes(family, routes, rule) {
         Reading::Refused { number, place } => Feasibility::Refused { number, place },
         Reading::Rule { start, size } => {
@@ -224,15 +223,14 @@ pub fn read_actions(communities: &[u8]) -> action::Reading
 
 // Reads and judges an announcement, in the order in which 01 has the checks.
 fn request_of(
-    family: Family,
+    family: AddressFamily,
     allows_no_destination: bool,
     routes: &[u32],
     rule: &[u8],
     originator: u32,
     communities: &[u8],
 ) -> Request
-    requires { ⌜ Fits family ⌝ }
-    ensures { λ r. ⌜ r ≡ requestOf family (policyOf (now (routes .entry)) «allows_no_destination») (announcementOf (now (rule .entry)) originator (now (communities .entry))) ⌝ }
+    ensures { λ r. ⌜ r ≡ requestOf (familyOf family) (policyOf (now (routes .entry)) «allows_no_destination») (announcementOf (now (rule .entry)) originator (now (communities .entry))) ⌝ }
 {
     match read_with_routes(family, routes, rule) {
         Reading::Refused { number, place } => Request::Refused { number, place },
@@ -283,8 +281,8 @@ pub fn announce(
 ) -> Change
     ensures { λ r. ⌜ Announces (familyOf family) (policyOf (now (routes .entry)) «allows_no_destination») (announcementOf (now (rule .entry)) originator (now (communities .entry))) (now (table .entry)) r (now (table .exit)) (now (routes .exit) ∷ now (rule .exit) ∷ now (communities .exit) ∷ []) ⌝ }
 {
-    let family = family_of(family);
-    match table::sound_table(family, table) {
+    let chosen = family_of(family);
+    match table::sound_table(chosen, table) {
         Soundness::Unsound => Change::Refused {
             number: 10,
             place: 0,
@@ -310,7 +308,7 @@ pub fn announce(
                     actions,
                 };
                 let answer = table::announce_value(
-                    family,
+                    chosen,
                     table,
                     used,
                     head,

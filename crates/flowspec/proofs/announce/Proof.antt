@@ -25,9 +25,6 @@ module _ (c : tie.After-known-told3) where
 sound-table-requires : tie.Need-sound-table-requires
 sound-table-requires c κs = search (chosen-fits, needs)
 
-request-of-requires : tie.Need-request-of-requires
-request-of-requires c κs = search (chosen-fits, needs)
-
 add-end : tie.Need-add-end
 add-end c = omega (arith, rule-read c, start c)
 
@@ -55,7 +52,7 @@ announce-spec =
     sound-table-requires
     (λ c. search needs)
     (λ c. search needs)
-    request-of-requires
+    (λ c κs. search needs)
     (λ c. search needs)
     (λ c. search needs)
     add-end

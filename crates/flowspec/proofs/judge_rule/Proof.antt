@@ -1,22 +1,15 @@
 -- A rule that was read lies in its octets; then one law for each return.
 use borrow.Author.Needs.{needs}
 use native.Mathlib.Omega.{arith}
-use Rattle.flowspec.proofs.FamiliesLaws.{chosen-fits}
 use Rattle.flowspec.proofs.FeasibilityLaws.{rule-there, judge-refused, judge-read}
 use Rattle.flowspec.proofs.judge_rule.Statement.{statement}
 use Rattle.flowspec.proofs.judge_rule.Tie as tie
-
-read-with-routes-requires : tie.Need-read-with-routes-requires
-read-with-routes-requires c κs = search (chosen-fits, needs)
 
 add-end : tie.Need-add-end
 add-end c = omega (arith, rule-there _ _ _ _ _ _ (c .before .before .before .read-with-routes .ensures) (c .before .start .given .1))
 
 part-is-feasible-end : tie.Need-part-is-feasible-end
 part-is-feasible-end c = omega (arith, rule-there _ _ _ _ _ _ (c .before .before .before .read-with-routes .ensures) (c .before .start .given .1))
-
-is-feasible-requires : tie.Need-is-feasible-requires
-is-feasible-requires c κs = search (chosen-fits, needs)
 
 returns : tie.Need-returns
 returns c = search (judge-refused, needs)
@@ -29,14 +22,13 @@ judge-rule-spec =
     tie.close
     (tie.spec
     (λ c κs. search needs)
-    read-with-routes-requires
     (λ c. search needs)
     (λ c. search needs)
     add-end
     (λ c. search needs)
     (λ c. search needs)
     part-is-feasible-end
-    is-feasible-requires
+    (λ c κs. search needs)
     (λ c κs. search needs)
     returns
     returns-2)

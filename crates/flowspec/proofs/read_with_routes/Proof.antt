@@ -1,11 +1,12 @@
 -- Unsound routes are refused before the rule is read.
 use borrow.Author.Needs.{needs}
+use Rattle.flowspec.proofs.FamiliesLaws.{chosen-fits}
 use Rattle.flowspec.proofs.FeasibilityLaws.{with-unsound, with-sound}
 use Rattle.flowspec.proofs.read_with_routes.Statement.{statement}
 use Rattle.flowspec.proofs.read_with_routes.Tie as tie
 
 sound-routes-requires : tie.Need-sound-routes-requires
-sound-routes-requires c κs = search needs
+sound-routes-requires c κs = search (chosen-fits, needs)
 
 returns : tie.Need-returns
 returns c = search (with-unsound, needs)
@@ -18,4 +19,4 @@ returns-2 c = search (with-sound, needs)
 
 pub read-with-routes-spec : {M : Type 1} → statement M
 read-with-routes-spec =
-    tie.close (tie.spec sound-routes-requires returns one-rule-requires returns-2)
+    tie.close (tie.spec (λ c κs. search needs) sound-routes-requires returns one-rule-requires returns-2)
