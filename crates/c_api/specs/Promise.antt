@@ -23,7 +23,8 @@ pub record Returns (answer : Told) (entry : List ℕ) (result : ℕ) (exit : Lis
   pub out : exit ≡ outAfter answer entry
 
 -- The same of a call that is lent slices to be read, and leaves them as they were.
-pub record ReturnsKeeping (answer : Told) (lent : List (List ℕ)) (entry : List ℕ) (result : ℕ) (exit : List ℕ) (kept : List (List ℕ)) : Type 0 where
+pub record ReturnsKeeping (answer : Told) (lent : List (List ℕ)) (entry : List ℕ) (result : ℕ) (exit : List ℕ)
+    (kept : List (List ℕ)) : Type 0 where
   pub returns : Returns answer entry result exit
   pub keeps : kept ≡ lent
 
@@ -54,7 +55,8 @@ ActionsCall communities entry result exit kept =
     ReturnsKeeping (actionsTold (actionsOf communities)) (communities ∷ []) entry result exit kept
 
 -- flowspec4_announce: refusals 10, 9, 1 to 7, 15, 13, 8, 11; of these 8 alone changes the table, where the rule was held.
-pub record AnnounceCall (table : List ℕ) (policy : Policy) (announcement : Announcement) (result : ℕ) (left : List ℕ) (kept : List (List ℕ)) : Type 0 where
+pub record AnnounceCall (table : List ℕ) (policy : Policy) (announcement : Announcement) (result : ℕ) (left : List ℕ)
+    (kept : List (List ℕ)) : Type 0 where
   pub is : result ≡ wordOf (changeTold (announcing ipv4 policy announcement table .answer))
   pub leaves : left ≡ announcing ipv4 policy announcement table .table
   pub keeps : kept ≡ policy .routes ∷ announcement .rule ∷ announcement .communities ∷ []

@@ -1,4 +1,4 @@
--- Writing one rule: the promise from what the rule crate's writer ensures. Assumes nothing.
+-- Writing one rule: the promise from what the spelling crate's writer ensures. Assumes nothing.
 use mathlib.Core.Path.{_≡_, refl, ap, _∙_}
 use mathlib.Core.List.{List, [], _∷_}
 use Prim.Native.Nat.{ℕ}

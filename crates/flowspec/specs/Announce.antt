@@ -40,7 +40,7 @@ requestFor family policy a (Rule start size) Unsound = NoRequest 13 0
 requestFor family policy a (Rule start size) (Read actions) =
     Announce start size actions (isFeasible family policy (valueOf (a .rule) start size) (a .originator))
 
--- The rule is read once the routes are found sound.
+-- What an announcement asks of a table: its rule is read once the routes are found sound (9).
 unfoldable pub requestOf : Family → Policy → Announcement → Request
 requestOf family policy a = requestFor family policy a (readWithRoutes family (policy .routes) (a .rule)) (actionsOf (a .communities))
 
@@ -48,7 +48,7 @@ requestOf family policy a = requestFor family policy a (readWithRoutes family (p
 abbrev pub outcome : Changed → Outcome
 outcome c = record { answer = changeOf (c .number); table = c .table }
 
--- A refusal that comes before the table is asked (10, 9, 1 to 7, 15, 13) gives back the octets it was given.
+-- A refusal that comes before any change of the table (10, 9, 1 to 7, 15, 13) gives back the octets it was given.
 abbrev pub refusal : ℕ → ℕ → List ℕ → Outcome
 refusal number place t = record { answer = NotDone number place; table = t }
 
@@ -61,7 +61,8 @@ announcedEntry family a start size actions =
 -- What an announcement leaves in a sound table.
 abbrev pub announcedBy : Family → Announcement → List ℕ → Request → Outcome
 announcedBy family a t (NoRequest number place) = refusal number place t
-announcedBy family a t (Announce start size actions feasible) = outcome (announced family t (announcedEntry family a start size actions) feasible)
+announcedBy family a t (Announce start size actions feasible) =
+    outcome (announced family t (announcedEntry family a start size actions) feasible)
 
 -- 01: "Announce checks 10, 9, 1 to 7, 15, 13, 8, 11".
 unfoldable pub announcing : Family → Policy → Announcement → List ℕ → Outcome

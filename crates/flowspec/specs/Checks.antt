@@ -39,7 +39,7 @@ pub record Check : Type 0 where
   pub number : ℕ
   pub place : ℕ
 
--- 01: "3 to 7 carry a place in the value"; "Others carry place 0."
+-- A check whose refusal carries place 0; 01: "3 to 7 carry a place in the value"; "Others carry place 0."
 abbrev pub check : Bool → ℕ → Check
 check holds number = record { holds = holds; number = number; place = 0 }
 
@@ -114,7 +114,7 @@ judgeChecks family policy rule originator =
     ∷ check (isFeasible family policy (valueIn rule) originator) 8
     ∷ []
 
--- The entry that an announcement asks for.
+-- The entry that an announcement asks for, by its octets as read; it counts only where all checks before it hold.
 abbrev pub entryIn : Family → Announcement → Entry
 entryIn family a =
     announcedEntry family a (fieldSize (a .rule)) (fieldLength (a .rule)) (actionsRead (actionsOf (a .communities)))
@@ -144,7 +144,8 @@ withdrawChecks family rule table =
 abbrev pub lookupChecks : Family → List ℕ → List ℕ → List Check
 lookupChecks family table packet = check (soundTable family table) 10 ∷ check (not (isUnusable family packet)) 12 ∷ []
 
--- 01: "matched with the merged actions and the count collected": the count, then the values of the actions; each is 0 where no rule matches.
+-- 01: "matched with the merged actions and the count collected": the count, then the values of the actions; each is 0 where no rule
+-- matches.
 abbrev pub lookupValues : Family → List ℕ → List ℕ → List ℕ
 lookupValues family table packet =
     let rules = collected (hit family noHead (fieldsOf family packet)) (entries table) in

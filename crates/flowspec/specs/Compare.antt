@@ -24,7 +24,8 @@ comparisonOf OrderSame = Same
 abbrev pub compareRead : Family → List ℕ → Reading → List ℕ → Reading → Comparison
 compareRead family a (NotRead number place) b second = Refused number place
 compareRead family a (Rule start size) b (NotRead number place) = Refused number place
-compareRead family a (Rule start size) b (Rule begin span) = comparisonOf (ordered (precedence family (valueOf a start size) (valueOf b begin span)))
+compareRead family a (Rule start size) b (Rule begin span) =
+    comparisonOf (ordered (precedence family (valueOf a start size) (valueOf b begin span)))
 
 -- Comparing two rules.
 unfoldable pub compareRules : Family → List ℕ → List ℕ → Comparison

@@ -36,7 +36,7 @@ abbrev pub checkedAs : Checked → List ℕ
 checkedAs Accepted = 0 ∷ 0 ∷ []
 checkedAs (Refused number place) = number ∷ place ∷ []
 
--- The number that a rate gives, or 13.
+-- 0 and the number that a rate gives, or 13.
 abbrev pub ratedAs : Rate → List ℕ
 ratedAs (Number n) = 0 ∷ n ∷ []
 ratedAs NotANumber = 13 ∷ []

@@ -1,5 +1,5 @@
--- The families of addresses that the calls know, each by what it decides (rule/specs/Family.antt). Every definition behind the door takes that;
--- none asks which family it is.
+-- The families of addresses that the calls know, each by what it decides (rule/specs/Family.antt). A definition behind the door that
+-- depends on the family takes that; none asks which family it is.
 use Rattle.rule.specs.declared.Family.{Family}
 use Rattle.rule.specs.Family.{ipv4}
 use Rattle.flowspec.specs.declared.AddressFamily.{AddressFamily}

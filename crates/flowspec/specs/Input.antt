@@ -14,9 +14,10 @@ pub record Policy : Type 0 where
   pub routes : List ℕ
   pub allowsNoDestination : Bool
 
--- The same from the values that a call is lent one by one.
+-- An announcement from the values that a call is lent one by one.
 abbrev pub announcementOf : List ℕ → ℕ → List ℕ → Announcement
 announcementOf rule originator communities = record { rule = rule; originator = originator; communities = communities }
 
+-- A policy from the values that a call is lent one by one.
 abbrev pub policyOf : List ℕ → Bool → Policy
 policyOf routes allowsNoDestination = record { routes = routes; allowsNoDestination = allowsNoDestination }

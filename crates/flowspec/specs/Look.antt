@@ -18,7 +18,7 @@ use Rattle.flowspec.specs.declared.Opening.{Opening}
 use Rattle.flowspec.specs.declared.Opening.the-variants.{With, Refused as NotOpened}
 use Rattle.flowspec.specs.Told.{lookupTold}
 
--- An unusable packet is 12.
+-- What a lookup begins with, by what the octets show: an unusable packet is 12.
 abbrev pub openingOf : PacketReading → Opening
 openingOf Unusable = NotOpened 12
 openingOf (Usable packet) = With packet
@@ -27,7 +27,8 @@ openingOf (Usable packet) = With packet
 unfoldable pub opening : Family → List ℕ → List ℕ → Opening
 opening family t octets = cond (soundTable family t) (openingOf (packetOf family octets)) (NotOpened 10)
 
--- The head that a packet is asked for under: a lookup names no head today.
+-- The head that a packet is looked up under: none, as in IPv4. In a family whose values have a head no value has the empty one, so that its
+-- lookups have to name a head.
 abbrev pub noHead : List ℕ
 noHead = []
 
@@ -40,16 +41,17 @@ lookedUp family t (With packet) = Answered (verdictFor family noHead packet (ent
 unfoldable pub lookingUp : Family → List ℕ → List ℕ → Looked
 lookingUp family t octets = lookedUp family t (opening family t octets)
 
--- Where the first match's record stands; nowhere is an empty part at octet 0.
+-- Where the first match's record stands; where there is none, an empty part at octet 0.
 abbrev pub firstIn : Family → List ℕ → Opening → Place
 firstIn family t (NotOpened number) = record { start = 0; end = 0 }
 firstIn family t (With packet) = firstPlace (hit family noHead packet) 0 (entries t)
 
--- The first match.
+-- Where the first match's record stands in a table.
 unfoldable pub firstMatch : Family → List ℕ → List ℕ → Place
 firstMatch family t octets = firstIn family t (opening family t octets)
 
 -- The same with the lookup's number.
 unfoldable pub matchPlace : Family → List ℕ → List ℕ → MatchPlace
 matchPlace family t octets =
-    record { number = lookupTold (lookingUp family t octets) .number; start = firstMatch family t octets .start; end = firstMatch family t octets .end }
+    let place = firstMatch family t octets in
+    record { number = lookupTold (lookingUp family t octets) .number; start = place .start; end = place .end }

@@ -1,5 +1,5 @@
--- 01's table of refusals, "given exactly when", call by call: where an answer has each number, and where it has the number 0. That the answers
--- of the calls are such is shown in proofs/Numbers.antt, from their promises; what a value's own refusals 1 to 7 are is in rule's
+-- 01's table of refusals, "given exactly when", call by call: where an answer has each number, and where it has the number 0. That the
+-- answers of the calls are such is shown in proofs/Numbers.antt, from their promises; what a value's own refusals 1 to 7 are is in rule's
 -- specs/Refusals.antt. That the others have place 0 is in each promise's `tells`.
 use Prim.Native.Nat.{ℕ, _≤_}
 use mathlib.Core.Path.{_≡_}
@@ -45,7 +45,8 @@ AllHold = Each (λ c. c .holds ≡ true)
 
 -- Refusals 1 to 7, each with its place: told exactly where a value is refused so, and what is checked before it holds.
 abbrev pub OneToSeven : Told → (ℕ → ℕ → Type 0) → Type 0
-OneToSeven answer exactly = (number place : ℕ) → 1 ≤ number → number ≤ 7 → ((answer .number ≡ number) × (answer .place ≡ place)) ↔ exactly number place
+OneToSeven answer exactly = (number place : ℕ) → 1 ≤ number → number ≤ 7
+    → ((answer .number ≡ number) × (answer .place ≡ place)) ↔ exactly number place
 
 -- Reading one rule.
 pub record ReadNumbers (family : Family) (rule : List ℕ) (answer : Told) : Type 0 where
@@ -59,6 +60,10 @@ pub record WriteNumbers (family : Family) (value buffer : List ℕ) (answer : To
   pub sixteen : (answer .number ≡ 16) ↔ (Accepts (checkValue family value) × No (leb (length (ruleFor family value)) (length buffer)))
   pub zero : (answer .number ≡ 0) ↔ AllHold (writeChecks family value buffer)
 
+-- One rule is read, and the rest holds.
+abbrev pub OneRule : Family → List ℕ → Type 0 → Type 0
+OneRule family rule then = Accepts (checkRule family rule) × (Yes (endsThere rule) × then)
+
 -- Comparing two rules.
 pub record CompareNumbers (family : Family) (first second : List ℕ) (answer : Told) : Type 0 where
   pub one-to-seven : OneToSeven answer (λ number place. (checkRule family first ≡ Refused number place)
@@ -70,10 +75,12 @@ pub record CompareNumbers (family : Family) (first second : List ℕ) (answer : 
 -- Judging one rule.
 pub record JudgeNumbers (family : Family) (policy : Policy) (rule : List ℕ) (originator : ℕ) (answer : Told) : Type 0 where
   pub nine : (answer .number ≡ 9) ↔ No (soundRoutes family (policy .routes))
-  pub one-to-seven : OneToSeven answer (λ number place. Yes (soundRoutes family (policy .routes)) × (checkRule family rule ≡ Refused number place))
-  pub fifteen : (answer .number ≡ 15) ↔ (Yes (soundRoutes family (policy .routes)) × (Accepts (checkRule family rule) × No (endsThere rule)))
+  pub one-to-seven :
+      OneToSeven answer (λ number place. Yes (soundRoutes family (policy .routes)) × (checkRule family rule ≡ Refused number place))
+  pub fifteen : (answer .number ≡ 15)
+      ↔ (Yes (soundRoutes family (policy .routes)) × (Accepts (checkRule family rule) × No (endsThere rule)))
   pub eight : (answer .number ≡ 8)
-      ↔ (Yes (soundRoutes family (policy .routes)) × (Accepts (checkRule family rule) × (Yes (endsThere rule) × No (isFeasible family policy (valueIn rule) originator))))
+      ↔ (Yes (soundRoutes family (policy .routes)) × OneRule family rule (No (isFeasible family policy (valueIn rule) originator)))
   pub zero : (answer .number ≡ 0) ↔ AllHold (judgeChecks family policy rule originator)
 
 -- Reading actions.
@@ -81,13 +88,9 @@ pub record ActionsNumbers (communities : List ℕ) (answer : Told) : Type 0 wher
   pub thirteen : (answer .number ≡ 13) ↔ No (isSound (actionsOf communities))
   pub zero : (answer .number ≡ 0) ↔ AllHold (actionsChecks communities)
 
--- Table and routes are sound, and then.
+-- Table and routes are sound, and the rest holds.
 abbrev pub SoundBoth : Family → Policy → List ℕ → Type 0 → Type 0
 SoundBoth family policy table then = Yes (soundTable family table) × (Yes (soundRoutes family (policy .routes)) × then)
-
--- One rule is read, and then.
-abbrev pub OneRule : Family → List ℕ → Type 0 → Type 0
-OneRule family rule then = Accepts (checkRule family rule) × (Yes (endsThere rule) × then)
 
 -- Announcing.
 pub record AnnounceNumbers (family : Family) (policy : Policy) (a : Announcement) (table : List ℕ) (answer : Told) : Type 0 where
@@ -95,9 +98,11 @@ pub record AnnounceNumbers (family : Family) (policy : Policy) (a : Announcement
   pub nine : (answer .number ≡ 9) ↔ (Yes (soundTable family table) × No (soundRoutes family (policy .routes)))
   pub one-to-seven : OneToSeven answer (λ number place. SoundBoth family policy table (checkRule family (a .rule) ≡ Refused number place))
   pub fifteen : (answer .number ≡ 15) ↔ SoundBoth family policy table (Accepts (checkRule family (a .rule)) × No (endsThere (a .rule)))
-  pub thirteen : (answer .number ≡ 13) ↔ SoundBoth family policy table (OneRule family (a .rule) (No (isSound (actionsOf (a .communities)))))
+  pub thirteen : (answer .number ≡ 13)
+      ↔ SoundBoth family policy table (OneRule family (a .rule) (No (isSound (actionsOf (a .communities)))))
   pub eight : (answer .number ≡ 8)
-      ↔ SoundBoth family policy table (OneRule family (a .rule) (Yes (isSound (actionsOf (a .communities))) × No (isFeasible family policy (valueIn (a .rule)) (a .originator))))
+      ↔ SoundBoth family policy table (OneRule family (a .rule) (Yes (isSound (actionsOf (a .communities)))
+      × No (isFeasible family policy (valueIn (a .rule)) (a .originator))))
   pub eleven : (answer .number ≡ 11)
       ↔ SoundBoth family policy table (OneRule family (a .rule) (Yes (isSound (actionsOf (a .communities)))
       × (Yes (isFeasible family policy (valueIn (a .rule)) (a .originator)) × No (hasRoom family table (entryIn family a)))))

@@ -1,8 +1,8 @@
--- What each public call promises, for whatever family of addresses (Families.antt has what it decides, `family` here) and whatever octets it is
--- lent: its answer (`is`), the number, place and values of that answer (`tells`), by the list of 01's checks that the call goes through
--- (Checks.antt), what each buffer lent to be changed holds at exit (`leaves`), and that what is lent to be read alone is as it was (`keeps`; `kept`
--- is what those slices hold at exit). `FirstMatches` has no `tells`: its answer is octets, and `begins` says where they stand. No call has a
--- `requires`. That no second result satisfies a promise is shown in proofs/Unique.antt.
+-- What each public call promises, for whatever family of addresses (Families.antt has what it decides, `family` here) and whatever octets
+-- it is lent: its answer (`is`), the number, place and values of that answer (`tells`), by the list of 01's checks that the call goes
+-- through (Checks.antt), what each buffer lent to be changed holds at exit (`leaves`), and that what is lent to be read alone is as it was
+-- (`keeps`; `kept` is what those slices hold at exit). `FirstMatches` has no `tells`: its answer is octets, and `begins` says where they
+-- stand. No call has a `requires`. That no second result satisfies a promise is shown in proofs/Unique.antt.
 use Prim.Native.Nat.{ℕ, _+_, _≤_}
 use mathlib.Core.Path.{_≡_}
 use mathlib.Core.List.{List, [], _∷_}
@@ -49,7 +49,8 @@ pub record ComparesTwo (family : Family) (first second : List ℕ) (answer : Com
   pub keeps : kept ≡ first ∷ second ∷ []
 
 -- Judging one rule: refusals 9, 1 to 7, 15, 8.
-pub record JudgesOne (family : Family) (policy : Policy) (rule : List ℕ) (originator : ℕ) (answer : Feasibility) (kept : List (List ℕ)) : Type 0 where
+pub record JudgesOne (family : Family) (policy : Policy) (rule : List ℕ) (originator : ℕ)
+    (answer : Feasibility) (kept : List (List ℕ)) : Type 0 where
   pub is : answer ≡ judgement family policy rule originator
   pub tells : feasibilityTold answer ≡ told (judgeChecks family policy rule originator) []
   pub keeps : kept ≡ policy .routes ∷ rule ∷ []
@@ -62,7 +63,8 @@ pub record ReadsActions (communities : List ℕ) (answer : ActionsReading) (kept
 
 -- Announcing: refusals 10, 9, 1 to 7, 15, 13, 8, 11. The table at exit is the outcome's: changed where done and, at 8, where the rule was
 -- held; every other refusal changes no octet.
-pub record Announces (family : Family) (policy : Policy) (announcement : Announcement) (table : List ℕ) (answer : Change) (exit : List ℕ) (kept : List (List ℕ)) : Type 0 where
+pub record Announces (family : Family) (policy : Policy) (announcement : Announcement) (table : List ℕ)
+    (answer : Change) (exit : List ℕ) (kept : List (List ℕ)) : Type 0 where
   pub is : answer ≡ announcing family policy announcement table .answer
   pub tells : changeTold answer ≡ told (announceChecks family policy announcement table) []
   pub leaves : exit ≡ announcing family policy announcement table .table
@@ -92,7 +94,8 @@ pub record LocatesFirst (family : Family) (table packet : List ℕ) (answer : Ma
 
 -- The first match's record: the table's octets at its place, and none where nothing matches or the lookup is refused. `lent` and `stands`
 -- are where the table and the part stand in memory, a block and a place in it: the part begins in the table, at its place there.
-pub record FirstMatches (family : Family) (table packet : List ℕ) (lent : ℕ × ℕ) (part : List ℕ) (stands : ℕ × ℕ) (kept : List (List ℕ)) : Type 0 where
+pub record FirstMatches (family : Family) (table packet : List ℕ) (lent : ℕ × ℕ) (part : List ℕ) (stands : ℕ × ℕ)
+    (kept : List (List ℕ)) : Type 0 where
   pub is : part ≡ between table (firstMatch family table packet .start) (firstMatch family table packet .end)
   pub begins : stands ≡ (lent .0, firstMatch family table packet .start + lent .1)
   pub keeps : kept ≡ table ∷ packet ∷ []

@@ -68,13 +68,13 @@ abbrev pub changeTold : Change → Told
 changeTold Done = done []
 changeTold (NotDone number place) = refused number place 0
 
--- The count, then flags, DSCP, byte rate, packet rate and redirect community of the merged actions, in which T is never set; each is 0 where
--- no rule matches.
+-- The count, then flags, DSCP, byte rate, packet rate and redirect community of the merged actions, in which T is never set; each is 0
+-- where no rule matches.
 abbrev pub verdictTold : Verdict → Told
 verdictTold Unmatched = done (replicate 6 0)
 verdictTold (Matched actions count) = done (count ∷ valuesOf actions)
 
--- The verdict's, where the packet was judged.
+-- The verdict's, where the packet was looked up.
 abbrev pub lookupTold : Looked → Told
 lookupTold (Answered verdict) = verdictTold verdict
 lookupTold (NotLookedUp number place) = refused number place 6

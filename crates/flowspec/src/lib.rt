@@ -1,6 +1,6 @@
 // The door: every public call of the flow-rule part, each with its promise (specs/Promise.antt). No call has a `requires`: whatever
 // octets it is lent, it answers; which number and place of 01's table an answer says is in specs/Told.antt. A call is told the family
-// of its addresses; behind it stands what that family decides, a struct of numbers, so that nothing there asks which family it is.
+// of its addresses; the crates below take what that family decides, a struct of numbers, so that nothing there asks which family it is.
 ghost use mathlib.Core.Path.{_≡_};
 ghost use mathlib.Core.List.{[], _∷_};
 ghost use Rattle.rule.specs.Family.{Fits};
@@ -342,7 +342,7 @@ pub fn withdraw(family: AddressFamily, table: &mut [u8], rule: &[u8]) -> Change
     }
 }
 
-// Checks a table, and sees a packet.
+// Checks a table, and reads a packet's octets.
 fn open_lookup(family: Family, table: &[u8], packet: &[u8]) -> Opening
     requires { ⌜ Fits family ⌝ }
     ensures { λ r. ⌜ r ≡ opening family (now (table .entry)) (now (packet .entry)) ⌝ }
@@ -351,7 +351,7 @@ fn open_lookup(family: Family, table: &[u8], packet: &[u8]) -> Opening
         Soundness::Unsound => Opening::Refused(10),
         Soundness::Sound(_) => match packet::packet_of(family, packet) {
             packet::Reading::Unusable => Opening::Refused(12),
-            packet::Reading::Usable(sight) => Opening::With(sight),
+            packet::Reading::Usable(shown) => Opening::With(shown),
         },
     }
 }
@@ -363,7 +363,7 @@ pub fn lookup(family: AddressFamily, table: &[u8], packet: &[u8]) -> Looked
     let family = family_of(family);
     match open_lookup(family, table, packet) {
         Opening::Refused(number) => Looked::Refused { number, place: 0 },
-        Opening::With(sight) => Looked::Answered(lookup::look_up(family, b"", table, sight)),
+        Opening::With(shown) => Looked::Answered(lookup::look_up(family, b"", table, shown)),
     }
 }
 
@@ -378,8 +378,8 @@ pub fn first_match_place(family: AddressFamily, table: &[u8], packet: &[u8]) -> 
             start: 0,
             end: 0,
         },
-        Opening::With(sight) => {
-            let place = lookup::first_place(family, b"", table, sight);
+        Opening::With(shown) => {
+            let place = lookup::first_place(family, b"", table, shown);
             MatchPlace {
                 number: 0,
                 start: place.start,

@@ -1,5 +1,5 @@
--- Histories: calls that change one table, each with its answer and the octets it left. A rule is known by its key: two accepted rules have one
--- key exactly when their plain spellings are equal (crate order, KeyLaws: `keys-only` and `keys-same`).
+-- Histories: calls that change one table, each with its answer and the octets it left. A rule is known by its key: two accepted rules have
+-- one key exactly when their plain spellings are equal (crate order, KeyLaws: `keys-only` and `keys-same`).
 use Prim.Native.Nat.{ℕ, _^_, _<_, _≤_}
 use mathlib.Core.Path.{_≡_}
 use mathlib.Core.List.{List, [], _∷_, List·Memᴰ}
@@ -157,6 +157,8 @@ module _ (family : Family) (policy : Policy) where
 -- actions, and one first match, which stands at one place of tables that stand at one place.
 pub record EndAlike (family : Family) (table other : List ℕ) : Type 0 where
   pub octets : table ≡ other
-  pub verdicts : (packet : List ℕ) (a b : Looked) (k l : List (List ℕ)) → LooksUp family table packet a k → LooksUp family other packet b l → a ≡ b
-  pub matches : (packet part rest : List ℕ) (lent stands stood : ℕ × ℕ) (k l : List (List ℕ)) → FirstMatches family table packet lent part stands k
+  pub verdicts : (packet : List ℕ) (a b : Looked) (k l : List (List ℕ))
+      → LooksUp family table packet a k → LooksUp family other packet b l → a ≡ b
+  pub matches : (packet part rest : List ℕ) (lent stands stood : ℕ × ℕ) (k l : List (List ℕ))
+      → FirstMatches family table packet lent part stands k
       → FirstMatches family other packet lent rest stood l → (part ≡ rest) × (stands ≡ stood)

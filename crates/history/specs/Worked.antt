@@ -23,6 +23,7 @@ policy = policyOf (0xc0000200 ∷ 24 ∷ 7 ∷ 64500 ∷ []) false
 abbrev pub mailValue : List ℕ
 mailValue = 0x01 ∷ 0x19 ∷ 0xc0 ∷ 0x00 ∷ 0x02 ∷ 0x00 ∷ 0x03 ∷ 0x81 ∷ 0x06 ∷ 0x04 ∷ 0x81 ∷ 0x19 ∷ []
 
+-- Mail as NLRI.
 abbrev pub mail : List ℕ
 mail = 12 ∷ mailValue
 
@@ -34,13 +35,15 @@ mailSpelled = 0xf0 ∷ 12 ∷ 0x01 ∷ 0x19 ∷ 0xc0 ∷ 0x00 ∷ 0x02 ∷ 0x7f 
 abbrev pub pingValue : List ℕ
 pingValue = 0x01 ∷ 0x18 ∷ 0xc0 ∷ 0x00 ∷ 0x02 ∷ 0x03 ∷ 0x81 ∷ 0x01 ∷ []
 
+-- Ping as NLRI.
 abbrev pub ping : List ℕ
 ping = 8 ∷ pingValue
 
--- A byte rate of 0, and a marking with DSCP 10.
+-- A byte rate of 0.
 abbrev pub dropping : List ℕ
 dropping = 0x80 ∷ 0x06 ∷ 0 ∷ 0 ∷ 0 ∷ 0 ∷ 0 ∷ 0 ∷ []
 
+-- A marking with DSCP 10.
 abbrev pub marking : List ℕ
 marking = 0x80 ∷ 0x09 ∷ 0 ∷ 0 ∷ 0 ∷ 0 ∷ 0 ∷ 10 ∷ []
 
@@ -48,42 +51,51 @@ marking = 0x80 ∷ 0x09 ∷ 0 ∷ 0 ∷ 0 ∷ 0 ∷ 0 ∷ 10 ∷ []
 abbrev pub droppingSpelled : List ℕ
 droppingSpelled = 0x00 ∷ 0x02 ∷ 0xfd ∷ 0xe8 ∷ 0 ∷ 0 ∷ 0 ∷ 1 ∷ dropping
 
--- The actions as read.
+-- The byte rate of 0 as read.
 abbrev pub drops : Actions
 drops = withByteRate noActions (given 0)
 
+-- The marking as read.
 abbrev pub marks : Actions
 marks = withMarking noActions (given 10)
 
--- Mail as the table holds it, the records of mail and of ping, and the tables that are left: with mail, with ping, and with both.
+-- Mail as the table holds it.
 abbrev pub mailEntry : Entry
 mailEntry = record { originator = 7; actions = drops; value = mailValue }
 
+-- The record of mail.
 abbrev pub mailRecord : List ℕ
 mailRecord = 0 ∷ 12 ∷ 0 ∷ 0 ∷ 0 ∷ 7 ∷ 1 ∷ 0 ∷ replicate 24 0 ++ mailValue
 
+-- The record of ping.
 abbrev pub pingRecord : List ℕ
 pingRecord = 0 ∷ 8 ∷ 0 ∷ 0 ∷ 0 ∷ 7 ∷ 16 ∷ 10 ∷ replicate 24 0 ++ pingValue
 
+-- The table with mail.
 abbrev pub mailTable : List ℕ
 mailTable = mailRecord ++ replicate 52 0
 
+-- The table with ping.
 abbrev pub pingTable : List ℕ
 pingTable = pingRecord ++ replicate 56 0
 
+-- The table with both.
 abbrev pub bothTable : List ℕ
 bothTable = mailRecord ++ pingRecord ++ replicate 12 0
 
--- The announcements: of mail by its originator, by another, and in the other spelling; and of ping.
+-- Mail announced by its originator.
 abbrev pub owned : Announcement
 owned = announcementOf mail 7 dropping
 
+-- Mail announced by another.
 abbrev pub foreign : Announcement
 foreign = announcementOf mail 8 dropping
 
+-- Mail announced in the other spelling.
 abbrev pub respelled : Announcement
 respelled = announcementOf mailSpelled 7 droppingSpelled
 
+-- Ping announced.
 abbrev pub pinged : Announcement
 pinged = announcementOf ping 7 marking
 

@@ -47,8 +47,8 @@ countText count = quoted "rules\t" ++ (decimalOf count ++ quoted "\n")
 unfoldable pub listText : List ℕ → List ℕ
 listText table = cond (soundTable ipv4 table) (countText (length (records table)) ++ rulesText (records table)) (answerText 10 0)
 
--- No text that the program prints is longer than this. 65,536 octets hold at most 1,985 records, since a record has at least 33; so a list's
--- first line has at most 11 octets, and the others have two for each octet of the records and six more each.
+-- No text that the program prints is longer than this. 65,536 octets hold at most 1,985 records, since a record has at least 33; so a
+-- list's first line has at most 11 octets, and the others have two for each octet of the records and six more each.
 abbrev pub mostText : ℕ
 mostText = 142993
 

@@ -1,6 +1,6 @@
--- How the program comes to what a whole input prints, by blocks of any length: where it stands between two octets, what an octet, a block and
--- the end of the input print and leave, and how its buffers hold where it stands. The contracts of `line_program` speak
--- of that: of its buffers, routes and table.
+-- How the program comes to what a whole input prints, by blocks of any length: where it stands between two octets, what an octet, a block
+-- and the end of the input print and leave, and how its buffers hold where it stands. The contracts of `line_program` speak of that: of
+-- its buffers, routes and table.
 use Prim.Native.Nat.{ℕ, _+_, _≤_}
 use mathlib.Core.Path.{_≡_}
 use mathlib.Core.Bool.{cond}
@@ -60,7 +60,8 @@ blocksText s (block ∷ blocks) = blockText s block ++ blocksText (afterBlock s 
 abbrev pub standingAfter : List ℕ → Standing
 standingAfter input = afterBlock (standing [] firstState) input
 
--- How the program's buffers hold where it stands: the line's buffer has one octet more than a line may have, and as much of the rest as fits.
+-- How the program's buffers hold where it stands: the line's buffer has one octet more than a line may have, and as much of the rest as
+-- fits.
 pub record Holds (s : Standing) (line : List ℕ) (held used : ℕ) (routes table : List ℕ) : Type 0 where
   pub long : length line ≡ mostSigns + 1
   pub within : held ≤ length line

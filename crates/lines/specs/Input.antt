@@ -1,6 +1,6 @@
--- What is to be printed for a whole input, and what it leaves: the lines of the input are served one after the other, from an empty state on.
--- That the text is the same however the input is cut into blocks (Blocks.antt) is shown in proofs/InputLaws.antt; that the program hands it
--- to the operating system is run, as no contract can say what is written.
+-- What is to be printed for a whole input, and what it leaves: the lines of the input are served one after the other, from an empty state
+-- on. That the text is the same however the input is cut into blocks (Blocks.antt) is shown in proofs/InputLaws.antt; that the program
+-- hands it to the operating system is run, as no contract can say what is written.
 use Prim.Native.Nat.{ℕ}
 use mathlib.Core.Bool.{cond}
 use mathlib.Core.List.{List, [], _∷_, _++_}

@@ -40,16 +40,16 @@ abbrev pub changing : Outcome → ℕ → List ℕ → Serving
 changing changed used routes =
     record { text = changeText (changeTold (changed .answer)); used = used; routes = routes; table = changed .table }
 
--- 01: "A route line adds to the list and prints nothing"; "a route past 4,096 prints `answer\t?`". Whether the routes are sound is judged by
--- the announcements that follow.
+-- 01: "A route line adds to the list and prints nothing"; "a route past 4,096 prints `answer\t?`". Whether the routes are sound is judged
+-- by the announcements that follow.
 abbrev pub adding : List ℕ → ℕ → List ℕ → List ℕ → Serving
 adding words used routes table =
     cond (routeFits used routes)
     (record { text = []; used = used + ipv4 .words; routes = stored routes used words; table = table })
     (printing unknownText used routes table)
 
--- What a line says is done. 01: "the setting is off": a rule with no destination is infeasible. The routes in use are all words where `used`
--- passes the buffer's end.
+-- What a line says is done. 01: "the setting is off": a rule with no destination is infeasible. The routes in use are all words where
+-- `used` passes the buffer's end.
 abbrev pub servedAs : Line → ℕ → List ℕ → List ℕ → Serving
 servedAs (route address size originator neighbour) used routes table = adding (address ∷ size ∷ originator ∷ neighbour ∷ []) used routes table
 servedAs (announce rule originator communities) used routes table =
@@ -62,7 +62,8 @@ servedAs other used routes table = printing unknownText used routes table
 unfoldable pub served : List ℕ → ℕ → List ℕ → List ℕ → Serving
 served line used routes table = servedAs (lineOf line) used routes table
 
--- The answer for what serving leaves: how long its text is, which may be longer than the buffer that it is printed into, and the words in use.
+-- The answer for what serving leaves: how long its text is, which may be longer than the buffer that it is printed into, and the words in
+-- use.
 abbrev pub servedTold : Serving → Served
 servedTold serving = record { printed = length (serving .text); used = serving .used }
 
@@ -71,8 +72,8 @@ pub record Changes (changed : Outcome) (out : List ℕ) (printed : ℕ) (tableEx
   pub leaves : tableExit ≡ changed .table
   pub prints : Answered out (changeText (changeTold (changed .answer))) outExit printed
 
--- How the code holds what a route line leaves, which no promise names: the routes, the printed text, and the answer. The table, which it leaves alone, is not lent
--- to it.
+-- How the code holds what a route line leaves, which no promise names: the routes, the printed text, and the answer. The table, which it
+-- leaves alone, is not lent to it.
 pub record Adds (added : Serving) (out : List ℕ) (answer : Served) (routesExit outExit : List ℕ) : Type 0 where
   pub is : answer ≡ servedTold added
   pub leaves : routesExit ≡ added .routes

@@ -21,8 +21,8 @@ use Rattle.table.specs.declared.Place.{Place}
 use Rattle.entry.specs.Entry.{Entry}
 use Rattle.table.specs.Sound.{cost}
 
--- Whether a packet, asked for under a head, matches an entry's rule: the value's head (the octets before its first component; none in IPv4)
--- is that head, and its components match.
+-- Whether a packet, looked up under a head, matches an entry's rule: the value's head (the octets before its first component; none in
+-- IPv4) is that head, and its components match.
 abbrev pub hit : Family → List ℕ → Packet → Entry → Bool
 hit family head packet e = sameList (headOf family (e .value)) head && matches family (e .value) packet
 
@@ -40,7 +40,7 @@ mergedOnto actions (e ∷ es) = mergedOnto (merged actions (e .actions)) es
 unfoldable pub verdictOf : Actions → ℕ → Verdict
 verdictOf actions count = cond (eqb count 0) Unmatched (Matched actions count)
 
--- The verdict on a packet, asked for under a head.
+-- The verdict on a packet, looked up under a head.
 unfoldable pub verdictFor : Family → List ℕ → Packet → List Entry → Verdict
 verdictFor family head packet es =
     let rules = collected (hit family head packet) es in

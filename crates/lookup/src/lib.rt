@@ -1,4 +1,4 @@
-// Looking a packet up in a table: the verdict on it, and where the first match's record stands (01, "The table").
+// Looking a packet up in a table: the verdict on it, and where the first match's record stands (01, "Matching and lookup").
 ghost use mathlib.Core.Path.{_≡_};
 ghost use Prim.Native.Nat.{_≤_};
 ghost use lib.ListN.{length};
@@ -28,7 +28,7 @@ pub enum Hit {
     Stops(Actions),
 }
 
-// Whether a value's head is the one asked for.
+// Whether a value's head is the given one.
 fn has_head(family: Family, head: &[u8], value: &[u8]) -> bool
     ensures { λ r. ⌜ r ≡ sameList (headOf family (now (value .entry))) (now (head .entry)) ⌝ }
 {
@@ -39,7 +39,7 @@ fn has_head(family: Family, head: &[u8], value: &[u8]) -> bool
     octets::same_octets(&value[..size], head)
 }
 
-// Whether a packet, asked for under a head, matches a record's rule.
+// Whether a packet, looked up under a head, matches a record's rule.
 fn hits_record(family: Family, head: &[u8], held: &[u8], packet: Packet) -> bool
     requires { ⌜ Fits family × (headCost ≤ length (now held)) ⌝ }
     ensures { λ r. ⌜ r ≡ hit family (now (head .entry)) packet (entryOf (now (held .entry))) ⌝ }
@@ -51,7 +51,7 @@ fn hits_record(family: Family, head: &[u8], held: &[u8], packet: Packet) -> bool
     packet::matches_rule(family, value, packet)
 }
 
-// What a record says of a packet, asked for under a head.
+// What a record says of a packet, looked up under a head.
 fn hit_of_record(family: Family, head: &[u8], held: &[u8], packet: Packet) -> Hit
     requires { ⌜ Fits family × (headCost ≤ length (now held)) ⌝ }
     ensures { λ r. ⌜ r ≡ hitOf (hit family (now (head .entry)) packet (entryOf (now (held .entry)))) (entryOf (now (held .entry)) .actions) ⌝ }
@@ -76,7 +76,7 @@ fn verdict_of(actions: Actions, count: usize) -> Verdict
     Verdict::Matched { actions, count }
 }
 
-// Looks a packet up in a sound table, under a head: goes down the records, collects those that match, and stops after one without T.
+// Looks a packet up in a table, under a head: goes down the records, collects those that match, and stops after one without T.
 pub fn look_up(family: Family, head: &[u8], table: &[u8], packet: Packet) -> Verdict
     requires { ⌜ Fits family ⌝ }
     ensures { λ r. ⌜ r ≡ verdictFor family (now (head .entry)) packet (entries (now (table .entry))) ⌝ }
@@ -114,7 +114,7 @@ pub fn look_up(family: Family, head: &[u8], table: &[u8], packet: Packet) -> Ver
     }
 }
 
-// Where the first match's record stands in a sound table, for a packet asked for under a head; 0 and 0 where nothing matches.
+// Where the first match's record stands in a table, for a packet looked up under a head; 0 and 0 where nothing matches.
 pub fn first_place(family: Family, head: &[u8], table: &[u8], packet: Packet) -> Place
     requires { ⌜ Fits family ⌝ }
     ensures { λ r. ⌜ (r ≡ firstPlace (hit family (now (head .entry)) packet) 0 (entries (now (table .entry)))) × ((r .start ≤ r .end) × (r .end ≤ length (now (table .entry)))) ⌝ }

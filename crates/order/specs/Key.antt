@@ -21,7 +21,8 @@ patternKey w p = p .offset ∷ patternBits w p
 
 -- The key of a body: that of a prefix, and of "other bodies: octet order" the octets.
 unfoldable pub bodyKey : Family → ℕ → List ℕ → List ℕ
-bodyKey family kind body = cond (shapeOf family kind .prefix) (patternKey (family .width) (patternIn (family .width) (family .offsets) body)) body
+bodyKey family kind body =
+    cond (shapeOf family kind .prefix) (patternKey (family .width) (patternIn (family .width) (family .offsets) body)) body
 
 -- The key of a component: its type, as "of two types the lower comes first", then the key of its body.
 unfoldable pub keyOf : Family → Component → List ℕ

@@ -34,7 +34,8 @@ turnFor Same kind here there = Tied kind here there
 -- The answer for both values, where a turn decided it or what is left decides it.
 abbrev pub settled : Family → List ℕ → List ℕ → Turn → Order
 settled family v w (Decided order) = order
-settled family v w (Tied kind here there) = ordered (componentsOrder family (componentsLeft family v here kind) (componentsLeft family w there kind))
+settled family v w (Tied kind here there) =
+    ordered (componentsOrder family (componentsLeft family v here kind) (componentsLeft family w there kind))
 
 -- A turn that ties goes on in the first value.
 abbrev pub Ahead : List ℕ → ℕ → Turn → Type 0
@@ -43,5 +44,6 @@ Ahead v at (Tied kind here there) = (at < here) × (here ≤ length v)
 
 -- What a turn must say.
 pub record Turned (family : Family) (v : List ℕ) (here : ℕ) (w : List ℕ) (there previous : ℕ) (turn : Turn) : Type 0 where
-  pub says : settled family v w turn ≡ ordered (componentsOrder family (componentsLeft family v here previous) (componentsLeft family w there previous))
+  pub says : settled family v w turn
+      ≡ ordered (componentsOrder family (componentsLeft family v here previous) (componentsLeft family w there previous))
   pub ahead : Ahead v here turn

@@ -1,4 +1,4 @@
--- How the code judges a list: pair by pair, with two answers kept. No promise to a caller names these words; that they come to the OR
+-- How the code evaluates a list: pair by pair, with two answers kept. No promise to a caller names these words; that they come to the OR
 -- of ANDs of PairList is proved.
 use Prim.Native.Nat.{ℕ}
 use mathlib.Core.Bool.{Bool, not, _&&_, _||_}
@@ -19,7 +19,8 @@ withPair evaluated joined holds =
       group = holds && (evaluated .group || not joined);
     }
 
--- The pair that stands from one place of a body up to another: the first one stands at 0, and its AND is ignored.
+-- A list evaluated one pair further, by the pair that stands from one place of a body up to another: the first one stands at 0, and its AND
+-- is ignored.
 abbrev pub evaluatePair : Shape → List ℕ → ℕ → ℕ → ℕ → Evaluated → Evaluated
 evaluatePair shape body at next «data» evaluated =
     let pair = pairOf body at next in

@@ -1,5 +1,6 @@
 -- The IPv4 header (RFC 791) at the front of a packet's octets: the fields that rules and 01 speak of, when octets are unusable as a
--- packet, and the fragment component's data. An octet that is not there counts as 0.
+-- packet, and the fragment component's data. An octet that is not there counts as 0. Of the family only the version counts here: a family
+-- whose packets have another header needs definitions of its own.
 use Prim.Native.Nat.{ℕ, _+_, _*_, _/_}
 use mathlib.Core.Bool.{Bool, not, _&&_, _||_}
 use mathlib.Core.List.{List}

@@ -39,7 +39,8 @@ unfoldable pub fieldMatches : Shape → List ℕ → Field → Bool
 fieldMatches shape body (Shown «data») = bodyHolds shape body «data»
 fieldMatches shape body Hidden = false
 
--- What a type that has no row here is judged on: no field, so that it matches no packet. No component of a rule comes to it.
+-- What a type that has no row here is judged on: no field, so that it matches no packet. No component of an IPv4 rule comes to it; the flow
+-- label of RFC 8956 (section 3.7, type 13) needs a row.
 abbrev pub noField : List Field
 noField = []
 

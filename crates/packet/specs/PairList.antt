@@ -1,4 +1,4 @@
--- A list of pairs of operator and value, judged by a test of single pairs (RFC 8955 section 4.2.1.1, "AND bit"): "The AND operator has
+-- A list of pairs of operator and value, evaluated by a test of single pairs (RFC 8955 section 4.2.1.1, "AND bit"): "The AND operator has
 -- higher priority than OR". So a list is groups of pairs; it holds where one of its groups does, and a group where all its pairs do.
 use mathlib.Core.Bool.{Bool, cond}
 use mathlib.Core.List.{List, [], _∷_, _++_}

@@ -21,7 +21,8 @@ transportFound words offset = eqb words 5 && eqb offset 0
 -- 01: "Transport octets count only up to the smaller of lent and total length"; they begin behind the header.
 unfoldable pub transportOctets : List ℕ → List ℕ
 transportOctets s =
-    cond (transportFound (headerWords s) (fragmentOffset (fragmentField s))) (between s (4 * headerWords s) (min (length s) (totalLength s))) []
+    cond (transportFound (headerWords s) (fragmentOffset (fragmentField s)))
+    (between s (4 * headerWords s) (min (length s) (totalLength s))) []
 
 -- 01: "Ports need protocol 6 or 17 and 4 transport octets".
 abbrev pub hasPorts : ℕ → ℕ → Bool

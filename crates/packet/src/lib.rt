@@ -56,7 +56,7 @@ pub enum Reading {
     Unusable,
 }
 
-// A list of pairs judged so far: whether a group before the present one holds, and whether the present one does.
+// A list of pairs evaluated so far: whether a group before the present one holds, and whether the present one does.
 struct Evaluated {
     pub found: bool,
     pub group: bool,
@@ -245,7 +245,7 @@ fn pair_holds(shape: Shape, operator: u8, value: u64, data: u64) -> bool
     numeric_holds(operator, data, wanted)
 }
 
-// A list judged one pair further: a pair that AND joins goes with the group before it, any other begins a new group.
+// A list evaluated one pair further: a pair that AND joins goes with the group before it, any other begins a new group.
 fn with_pair(evaluated: Evaluated, joined: bool, holds: bool) -> Evaluated
     ensures { λ r. ⌜ r ≡ withPair evaluated joined holds ⌝ }
 {
@@ -255,7 +255,7 @@ fn with_pair(evaluated: Evaluated, joined: bool, holds: bool) -> Evaluated
     }
 }
 
-// A list judged one pair further, by the pair from one place up to another; the first pair's AND is ignored.
+// A list evaluated one pair further, by the pair from one place up to another; the first pair's AND is ignored.
 fn evaluate_pair(
     shape: Shape,
     body: &[u8],
@@ -352,7 +352,7 @@ fn matches_component(family: Family, kind: u8, body: &[u8], packet: Packet) -> b
         10 => list_holds(shape, body, packet.length as u64),
         11 => list_holds(shape, body, packet.dscp as u64),
         12 => list_holds(shape, body, packet.fragment as u64),
-        // No component of a rule has another type.
+        // No component of an IPv4 rule has another type.
         _ => false,
     }
 }

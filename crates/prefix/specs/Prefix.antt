@@ -21,11 +21,11 @@ pub record Pattern : Type 0 where
   pub length : ℕ
   pub address : ℕ
 
--- The number that an address of the code is, in its two words.
+-- The number that an address of the code stands for, in its two words.
 abbrev pub addressOf : Address → ℕ
 addressOf a = a .high * 2 ^ 64 + a .low
 
--- The pattern that a prefix of the code is.
+-- The pattern that a prefix of the code stands for.
 abbrev pub patternOf : Prefix → Pattern
 patternOf p = record { offset = p .offset; length = p .length; address = addressOf (p .address) }
 

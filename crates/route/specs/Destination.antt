@@ -14,7 +14,7 @@ pub data Destination : Type 0 where
   Missing : Destination
   At : Pattern → Destination
 
--- The destination that one of the code is.
+-- The destination that a destination of the code stands for.
 abbrev pub destinationIn : DestinationInCode → Destination
 destinationIn MissingInCode = Missing
 destinationIn (AtInCode p) = At (patternOf p)

@@ -32,7 +32,7 @@ pub data BestMatch : Type 0 where
   Nothing : BestMatch
   Found : Route → BestMatch
 
--- The best match that one of the code is.
+-- The best match that one in the code stands for.
 abbrev pub matchOf : BestMatchInCode → BestMatch
 matchOf NothingInCode = Nothing
 matchOf (FoundInCode r) = Found (routeOf r)
@@ -66,7 +66,8 @@ judged w destination originator routes =
     ]
 
 -- Section 6 a): a rule with a destination, 0.0.0.0/0 like any other, is feasible as that is judged, whatever the setting; 01: "A setting
--- may allow rules with no destination; those are then always feasible."
+-- may allow rules with no destination; those are then always feasible." A destination with an offset is infeasible, as RFC 8956 section 5
+-- a) asks for offset 0: routes have offset 0, so that none covers it.
 unfoldable pub feasible : ℕ → Bool → Destination → ℕ → List Route → Bool
 feasible w allowsNoDestination Missing originator routes = allowsNoDestination
 feasible w allowsNoDestination (At destination) originator routes = judged w destination originator routes

@@ -16,7 +16,7 @@ pub record Route : Type 0 where
   pub originator : ℕ
   pub neighbour : ℕ
 
--- The route that one of the code is.
+-- The route that a route of the code stands for.
 abbrev pub routeOf : RouteInCode → Route
 routeOf r = record { prefix = patternOf (r .prefix); originator = r .originator; neighbour = r .neighbour }
 

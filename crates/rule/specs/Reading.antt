@@ -41,7 +41,7 @@ valueIn rule = valueOf rule (fieldSize rule) (fieldLength rule)
 abbrev pub checkRule : Family → List ℕ → Checked
 checkRule family rule = cond (ltb (length rule) (ruleEnd rule)) (RefusedValue 1 0) (checkValue family (valueIn rule))
 
--- That rule as it is read.
+-- The rule that octets begin with, as it is read.
 unfoldable pub firstRule : Family → List ℕ → Reading
 firstRule family s = readAs (fieldSize s) (fieldLength s) (checkRule family s)
 

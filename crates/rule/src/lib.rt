@@ -1,6 +1,7 @@
-// One rule (RFC 8955 section 4): its components, and reading one. `component_at` is the one cursor of reading: it and the functions that it calls make every bounds check of that walk. `Reader`, a value with a place in it, is thin above
-// the cursor: it tells what stands at its place, hands on the body that lies there, and is moved behind it. Whoever walks a value asks
-// `next_component` and `component_body`, which take plain parameters.
+// One rule (RFC 8955 section 4): its components, and reading one. `component_at` is the one cursor of reading: it and the functions that
+// it calls make every bounds check of that walk. `Reader`, a value with a place in it, is thin above the cursor: it tells what stands at
+// its place, hands on the body that lies there, and is moved behind it. Whoever walks a value asks `next_component` and
+// `component_body`, which take plain parameters.
 ghost use mathlib.Core.Path.{_≡_};
 ghost use Prim.Native.Nat.{_<_, _≤_};
 ghost use lib.ListN.{length};

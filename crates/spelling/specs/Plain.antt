@@ -10,17 +10,22 @@ use Rattle.rule.specs.declared.Family.{Family}
 use Rattle.rule.specs.Shape.{shapeOf}
 use Rattle.rule.specs.Operator.{endsList, sizeOf}
 
--- What the next octet of a value is: one before the first component with the octets of these still to come (`Head`), a type, a prefix's length,
--- its offset behind that length, an octet of its pattern with the bits still to come, an operator (of a type; a list's first or a later one),
--- or an octet of a pair's value (of a type; with the octets still to come; of a list's last pair or an earlier one).
+-- What the next octet of a value is.
 pub data Expected : Type 0 where
-  Head : ℕ → Expected
+  -- One of the octets before the first component, of which `left` are still to come, this one included.
+  Head : (left : ℕ) → Expected
+  -- A type octet.
   Kind : Expected
+  -- A prefix's length octet.
   Length : Expected
-  Offset : ℕ → Expected
-  PatternOctet : ℕ → Expected
-  Operator : ℕ → Bool → Expected
-  Operand : ℕ → ℕ → Bool → Expected
+  -- Its offset octet, behind a length octet that says `bits`.
+  Offset : (bits : ℕ) → Expected
+  -- An octet of its pattern, of which `left` bits are still to come, this octet's included.
+  PatternOctet : (left : ℕ) → Expected
+  -- An operator of a list of the type `kind`, the list's first or a later one.
+  Operator : (kind : ℕ) (first : Bool) → Expected
+  -- An octet of a pair's value, of which `left` octets are still to come, this one included; the list's last pair's or an earlier one's.
+  Operand : (kind left : ℕ) (last : Bool) → Expected
 
 -- What is expected where a value begins: the octets before the first component, or a type where the family has none.
 unfoldable pub expectedAtStart : Family → Expected
@@ -38,10 +43,7 @@ patternAfter bits offset = cond (leb bits offset) Kind (PatternOctet (bits - off
 unfoldable pub operandAfter : ℕ → ℕ → Bool → Expected
 operandAfter kind left last = cond (ltb 1 left) (Operand kind (left - 1) last) (cond last Kind (Operator kind false))
 
--- What is expected after the octet x, where x was as expected. `Head left` has `left` octets before the first component to come,
--- `Offset bits` is the offset behind that length, `PatternOctet left` has `left` bits of the pattern to come, `Operator kind first` is the
--- list's first operator or a later one, and `Operand kind left last` has `left` octets to come of a value, that of the list's last pair or
--- of an earlier one.
+-- What is expected after the octet x, where x was as expected.
 unfoldable pub after : Family → Expected → ℕ → Expected
 after family (Head left) x = cond (leb left 1) Kind (Head (left - 1))
 after family Kind x = bodyOf family x
@@ -51,17 +53,18 @@ after family (PatternOctet left) x = cond (leb left 8) Kind (PatternOctet (left 
 after family (Operator kind first) x = Operand kind (sizeOf x) (endsList x)
 after family (Operand kind left last) x = operandAfter kind left last
 
--- 01: "0x08 of numeric and 0x0c of bitmask operators"
+-- An operator without the bits that are always ignored; 01: "0x08 of numeric and 0x0c of bitmask operators".
 unfoldable pub withoutReserved : Bool → ℕ → ℕ
 withoutReserved bitmask x = cond bitmask (bitAnd x 0xf3) (bitAnd x 0xf7)
 
--- 01: "AND in a list's first operator", which is 0x40.
+-- An operator in its plain spelling: 01 also ignores "AND in a list's first operator", which is 0x40.
 unfoldable pub plainOperator : Bool → Bool → ℕ → ℕ
 plainOperator bitmask first x =
     let operator = withoutReserved bitmask x in
     cond first (bitAnd operator 0xbf) operator
 
--- 01: "the top two bits of a DSCP value; the top four of a fragment value"
+-- A value, or an octet of one, without the bits to be ignored, which `shapeOf` says by type; 01: "the top two bits of a DSCP value; the top
+-- four of a fragment value".
 unfoldable pub plainOperand : ℕ → ℕ → ℕ
 plainOperand ignored x = x - bitAnd x ignored
 

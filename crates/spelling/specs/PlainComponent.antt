@@ -11,7 +11,8 @@ use Rattle.spelling.specs.Plain.{bodyOf, plainOperator, plainOperand, pl
 
 -- The plain spelling of a pair, the list's first or a later one.
 abbrev pub plainPair : Shape → Bool → Pair → Pair
-plainPair shape first p = record { operator = plainOperator (shape .bitmask) first (p .operator); value = plainOperand (shape .ignored) (p .value) }
+plainPair shape first p =
+    record { operator = plainOperator (shape .bitmask) first (p .operator); value = plainOperand (shape .ignored) (p .value) }
 
 -- The plain spelling of pairs, from the list's first on (`first`) or from a later one on; only the list's first loses its AND.
 abbrev pub plainPairs : Shape → Bool → List Pair → List Pair

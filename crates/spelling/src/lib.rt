@@ -1,5 +1,5 @@
-// The plain spelling of a value (01, "Plain spelling"), made body by body, and writing a rule in it (RFC 8955 section 4.1). Only what fills or
-// writes a buffer asks for its size.
+// The plain spelling of a value (01, "Plain spelling"), made body by body, and writing a rule in it (RFC 8955 section 4.1). What clears
+// asks for a whole body, what fills or writes for an accepted value; `write_rule`, which checks its value, asks nothing.
 ghost use mathlib.Core.Path.{_≡_};
 ghost use mathlib.Core.List.{_++_};
 ghost use Prim.Native.Nat.{_≤_};

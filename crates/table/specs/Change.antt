@@ -19,17 +19,19 @@ use Rattle.table.specs.Sound.{cost, tableOf, soundTable}
 unfoldable pub holds : Family → List ℕ → RuleKey → Bool
 holds family t k = isHeld (lookup keyOrder (entryKey family) k (entries t))
 
--- The entries of a table without a rule, by its key, and the table that holds these.
+-- The entries of a table without a rule, by its key.
 abbrev pub entriesWithout : Family → List ℕ → RuleKey → List Entry
 entriesWithout family t k = remove keyOrder (entryKey family) k (entries t)
 
+-- The table without that rule.
 unfoldable pub removed : Family → List ℕ → RuleKey → List ℕ
 removed family t k = tableOf (length t) (entriesWithout family t k)
 
--- The entries of a table with an entry, in the place of the one it held for the same rule, and the table that holds these.
+-- The entries of a table with an entry, in the place of the one it held for the same rule.
 abbrev pub entriesWith : Family → List ℕ → Entry → List Entry
 entriesWith family t e = insert keyOrder (entryKey family) e (entries t)
 
+-- The table with that entry.
 unfoldable pub inserted : Family → List ℕ → Entry → List ℕ
 inserted family t e = tableOf (length t) (entriesWith family t e)
 
@@ -54,14 +56,16 @@ withoutRule family number t k = record { number = number; used = costs cost (ent
 -- An announcement: a feasible one is put in if there is room, else 11; an infeasible one is 8, and removes a held equal rule.
 abbrev pub announced : Family → List ℕ → Entry → Bool → Changed
 announced family t e true =
-    cond (hasRoom family t e) (record { number = 0; used = costs cost (entriesWith family t e); table = inserted family t e }) (unchanged 11 t)
+    cond (hasRoom family t e)
+    (record { number = 0; used = costs cost (entriesWith family t e); table = inserted family t e }) (unchanged 11 t)
 announced family t e false = withoutRule family 8 t (entryKey family e)
 
 -- A withdrawal: the rule is taken out, and one that is not held is 14.
 unfoldable pub withdrawn : Family → List ℕ → RuleKey → Changed
 withdrawn family t k = cond (holds family t k) (withoutRule family 0 t k) (unchanged 14 t)
 
--- What the code asks of a table that it changes: that it is sound, and that its records take as many octets as it is told.
+-- What the code asks of a table that it changes: that the family fits, that the table is sound, and that its records take as many octets
+-- as it is told.
 pub record Ready (family : Family) (t : List ℕ) (used : ℕ) : Type 0 where
   pub fits : Fits family
   pub sound : soundTable family t ≡ true

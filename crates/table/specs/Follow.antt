@@ -20,4 +20,5 @@ pub record Adjacent (t : List ℕ) (previous at next : ℕ) : Type 0 where
 -- The record at `at` comes after the record at `previous` in precedence order; a record at octet 0 has none before it.
 unfoldable pub followsAt : Family → List ℕ → ℕ → ℕ → ℕ → Bool
 followsAt family t previous at next =
-    cond (eqb at 0) true (byOrder (plainOrder family (between t (previous + headCost) at) (between t (at + headCost) next)) true false false)
+    cond (eqb at 0) true
+    (byOrder (plainOrder family (between t (previous + headCost) at) (between t (at + headCost) next)) true false false)

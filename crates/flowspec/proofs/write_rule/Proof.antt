@@ -1,4 +1,4 @@
--- The writer of crate rule keeps the promise.
+-- The writer of crate spelling keeps the promise.
 use Rattle.flowspec.proofs.WriteLaws.{writes}
 use borrow.Author.Needs.{needs}
 use Rattle.flowspec.proofs.write_rule.Statement.{statement}
