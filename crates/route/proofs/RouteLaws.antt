@@ -1,22 +1,19 @@
 -- The routes that words spell, one after the other, and the soundness of a list route by route. Assumes nothing.
-use mathlib.Core.Path.{_≡_, refl, ap, sym, _∙_}
-use mathlib.Core.Bool.{Bool, true, false, not, _&&_, and-false, and-assoc}
+use mathlib.Core.Path.{_≡_, refl, sym, _∙_}
+use mathlib.Core.Bool.{Bool, true, false, not, _&&_, _||_, and-false, and-assoc, or-false}
 use mathlib.Core.List.{List, [], _∷_}
-use Prim.Native.Nat.{ℕ, zero, suc, _+_, _-_, _*_, _/_, _%_, _^_, _≤_, _<_, compare, Ordering, Ordering·lt, Ordering·eq, Ordering·gt}
+use Prim.Native.Nat.{ℕ, zero, suc, _+_, _-_, _*_, _/_, _%_, _^_, _≤_, _<_}
 use native.Mathlib.Omega.{arith}
-use native.Mathlib.Nat.{zero-add, add-zero, add-suc, add-assoc, pow-suc, sub-zero, div-eq-of-lt, div-eq-sub-div}
+use native.Mathlib.Nat.{zero-add, add-zero, add-suc, add-assoc, pow-suc, sub-zero, mul-le-mul-right, div-eq-of-lt, div-eq-sub-div}
 use native.Mathlib.Numerals.{add-one}
 use lib.Dec.{ltb, eqb, lit<}
 use lib.ListN.{length, getD}
-use borrow.Author.Tests.{lt-ltb, le-ltb, le-leb, lt-leb, eq-eqb, ne-eqb, not-true, not-false}
-use Rattle.octets.specs.declared.Order.{Order}
-use Rattle.octets.specs.declared.Order.the-variants.{First, Second, Same}
-use Rattle.octets.specs.Order.{ordered}
+use borrow.Author.Tests.{lt-ltb, le-ltb, ltb-true, ltb-false, le-leb, lt-leb, eq-eqb, ne-eqb, eqb-true, eqb-false, not-true, not-false}
 use Rattle.octets.specs.Test.{every}
-use Rattle.octets.proofs.Cases.{apart}
-use Rattle.octets.proofs.OrderLaws.{swap, cmp-lt, nat-order}
+use Rattle.octets.proofs.Cases.{by-test}
 use Rattle.prefix.specs.declared.Address.{Address}
-use Rattle.prefix.specs.Prefix.{Pattern, addressOf}
+use Rattle.prefix.specs.declared.Prefix.{Prefix}
+use Rattle.prefix.specs.Prefix.{Pattern, addressOf, patternOf}
 use Rattle.prefix.proofs.BitLaws.{eqb-parts}
 use Rattle.rule.specs.declared.Family.{Family}
 use Rattle.rule.specs.Family.{Fits}
@@ -182,45 +179,64 @@ pub by-rest : (w : ℕ) (p : Pattern) (past : Address) → p .length ≤ w → p
 unfolding plainPrefix
 by-rest w p past h l e = rw (le-leb (p .length) w h, ← e) (sym (eqb-parts 64 (past .high) 0 (past .low) 0 l (lit< tt)))
 
-cmp-gt : (a b : ℕ) → compare a b ≡ Ordering·gt → b < a
-cmp-gt a b e = cmp-lt b a (nat-order .flip a b ∙ ap swap e)
-
 pub by-both : (w : ℕ) (previous p : Pattern) (a b : Bool) → a ≡ plainPrefix w p → b ≡ rises previous p → a && b ≡ mayFollow w previous p
 unfolding mayFollow
 by-both w previous p a b e f = rw (e, f)
 
--- how the code compares two prefixes
-module _ (p q : Pattern) (o : Order) (is : o ≡ ordered (compare (p .address) (q .address))) where
-  by-addresses : (x : Ordering) → compare (p .address) (q .address) ≡ x → o ≡ ordered x
-  by-addresses x e = is ∙ ap ordered e
+-- what two numbers share does not change which is lower
+ltb-low : (k u v : ℕ) → ltb (k + u) (k + v) ≡ ltb u v
+ltb-low k u v =
+    by-test (ltb u v) (λ t. let h = ltb-true u v t in rw t (lt-ltb (k + u) (k + v) (omega arith)))
+    (λ t. let h = ltb-false u v t in rw t (le-ltb (k + u) (k + v) (omega arith)))
 
-  pub lower : o ≡ First → true ≡ rises p q
-  unfolding rises
-  lower e = go (compare (p .address) (q .address)) refl
-    where
-      go : (x : Ordering) → compare (p .address) (q .address) ≡ x → true ≡ rises p q
-      go Ordering·lt f = rw (lt-ltb (p .address) (q .address) (cmp-lt (p .address) (q .address) f))
-      go Ordering·eq f = let g = by-addresses Ordering·eq f in apart (cc)
-      go Ordering·gt f = let g = by-addresses Ordering·gt f in apart (cc)
+-- of numbers of a high and a low part the one with the lower high part is lower, and where those are equal the one with the lower low part
+ltb-parts : (k x y u v : ℕ) → u < k → v < k → ltb (x * k + u) (y * k + v) ≡ ltb x y || eqb x y && ltb u v
+ltb-parts k x y u v h l =
+    by-test (ltb x y)
+    (λ t.
+    let below = ltb-true x y t in
+    let n : x + 1 ≤ y = omega arith in
+    rw t (lt-ltb (x * k + u) (y * k + v) (omega (arith, mul-le-mul-right k n))))
+    (λ t.
+    let above = ltb-false x y t in
+    by-test (eqb x y)
+    (λ e. rw (t, e, eqb-true x y e) (ltb-low (y * k) u v))
+    (λ e.
+    let other = eqb-false x y e in
+    let n : y + 1 ≤ x = omega arith in
+    rw (t, e) (le-ltb (x * k + u) (y * k + v) (omega (arith, mul-le-mul-right k n)))))
 
-  pub higher : o ≡ Second → false ≡ rises p q
+-- how the code compares two prefixes: the high words decide, where they are equal the low ones, and then the lengths
+module _ (p q : Prefix) (first : p .address .low < 2 ^ 64) (second : q .address .low < 2 ^ 64) where
+  by-words : rises (patternOf p) (patternOf q)
+      ≡ (ltb (p .address .high) (q .address .high) || eqb (p .address .high) (q .address .high) && ltb (p .address .low) (q .address .low))
+      || (eqb (p .address .high) (q .address .high) && eqb (p .address .low) (q .address .low)) && ltb (p .length) (q .length)
   unfolding rises
-  higher e = go (compare (p .address) (q .address)) refl
-    where
-      go : (x : Ordering) → compare (p .address) (q .address) ≡ x → false ≡ rises p q
-      go Ordering·lt f = let g = by-addresses Ordering·lt f in apart (cc)
-      go Ordering·eq f = let g = by-addresses Ordering·eq f in apart (cc)
-      go Ordering·gt f =
-          let below = cmp-gt (p .address) (q .address) f in
-          rw (le-ltb (p .address) (q .address) (omega arith), ne-eqb (p .address) (q .address) (λ g. omega arith))
+  by-words =
+      rw (
+        ltb-parts (2 ^ 64) (p .address .high) (q .address .high) (p .address .low) (q .address .low) first second,
+        eqb-parts 64 (p .address .high) (q .address .high) (p .address .low) (q .address .low) first second,
+      )
 
-  pub one-address : o ≡ Same → ltb (p .length) (q .length) ≡ rises p q
-  unfolding rises
-  one-address e = go (compare (p .address) (q .address)) refl
-    where
-      go : (x : Ordering) → compare (p .address) (q .address) ≡ x → ltb (p .length) (q .length) ≡ rises p q
-      go Ordering·lt f = let g = by-addresses Ordering·lt f in apart (cc)
-      go Ordering·eq f =
-          let same = nat-order .only (p .address) (q .address) f in
-          rw (le-ltb (p .address) (q .address) (omega arith), eq-eqb (p .address) (q .address) same)
-      go Ordering·gt f = let g = by-addresses Ordering·gt f in apart (cc)
+  pub by-high : (p .address .high ≡ q .address .high → ⊥) → ltb (p .address .high) (q .address .high) ≡ rises (patternOf p) (patternOf q)
+  by-high h =
+      let t = ltb (p .address .high) (q .address .high) in
+      sym (by-words ∙ rw (ne-eqb (p .address .high) (q .address .high) h) (or-false (t || false) ∙ or-false t))
+
+  module _ (same : p .address .high ≡ q .address .high) where
+    pub by-low : (p .address .low ≡ q .address .low → ⊥) → ltb (p .address .low) (q .address .low) ≡ rises (patternOf p) (patternOf q)
+    by-low h =
+        let t = ltb (p .address .low) (q .address .low) in
+        sym (by-words
+        ∙ rw (eq-eqb (p .address .high) (q .address .high) same, le-ltb (p .address .high) (q .address .high) (omega arith), ne-eqb (p .address .low) (q .address .low) h)
+        (or-false t))
+
+    pub by-length : p .address .low ≡ q .address .low → ltb (p .length) (q .length) ≡ rises (patternOf p) (patternOf q)
+    by-length e =
+        sym (by-words
+        ∙ rw (
+          eq-eqb (p .address .high) (q .address .high) same,
+          le-ltb (p .address .high) (q .address .high) (omega arith),
+          eq-eqb (p .address .low) (q .address .low) e,
+          le-ltb (p .address .low) (q .address .low) (omega arith),
+        ))

@@ -9,7 +9,6 @@ ghost use Rattle.route.specs.Route.{routeOf, numberInWords, routeAt, rou
 ghost use Rattle.route.specs.Destination.{Missing, destinationIn, destinationFor, destinationOf};
 ghost use Rattle.route.specs.Feasible.{matchOf, matched, longer, judged, feasible};
 ghost use Rattle.route.specs.Pass.{mayFollow, added, noted, agrees, validated};
-use octets::Order;
 use prefix::Address;
 use prefix::Prefix;
 use rule::Family;
@@ -116,11 +115,15 @@ fn is_plain(width: u8, prefix: Prefix) -> bool
 fn rises_to(from: Prefix, to: Prefix) -> bool
     ensures { λ r. ⌜ r ≡ rises (patternOf from) (patternOf to) ⌝ }
 {
-    match prefix::compare_addresses(from.address, to.address) {
-        Order::First => true,
-        Order::Second => false,
-        Order::Same => from.length < to.length,
+    let one = from.address;
+    let other = to.address;
+    if one.high != other.high {
+        return one.high < other.high;
     }
+    if one.low != other.low {
+        return one.low < other.low;
+    }
+    from.length < to.length
 }
 
 // Whether a prefix is plain and comes behind the one before it.
