@@ -17,6 +17,7 @@ use Rattle.prefix.specs.Prefix.{Pattern, addressOf, patternOf}
 use Rattle.prefix.proofs.BitLaws.{eqb-parts}
 use Rattle.rule.specs.declared.Family.{Family}
 use Rattle.rule.specs.Family.{Fits}
+use Rattle.route.specs.declared.Route.{Route as RouteInCode}
 use Rattle.route.specs.Route.{Route, routeOf, numberInWords, addressWords, routeAt, routesFrom, routesOf, plainPrefix, rises, rising, mostRoutes, soundRoutes}
 use Rattle.route.specs.Pass.{mayFollow}
 
@@ -41,29 +42,40 @@ pub routes-end : (family : Family) (ws : List ℕ) (at : ℕ) → length ws - at
 unfolding routesFrom
 routes-end family ws at h = rw (div-eq-of-lt h)
 
--- every prefix is plain, and the routes rise: from the first on, and behind a route before them
+-- the routes rise behind a prefix before them
+pub risingBehind : Pattern → List Route → Bool
+risingBehind previous [] = true
+risingBehind previous (r ∷ rs) = rises previous (r .prefix) && risingBehind (r .prefix) rs
+
+rising-behind : (r : Route) (rs : List Route) → rising (r ∷ rs) ≡ risingBehind (r .prefix) rs
+unfolding rising risingBehind
+rising-behind r [] = refl
+rising-behind r (s ∷ rs) = rw (rising-behind s rs)
+
+-- every prefix is plain, and the routes rise: from the first on, and behind a prefix before them
 abbrev inOrder : ℕ → List Route → Bool
 inOrder w rs = every (λ (r : Route). plainPrefix w (r .prefix)) rs && rising rs
 
-abbrev inOrderBehind : ℕ → Route → List Route → Bool
-inOrderBehind w previous rs = every (λ (r : Route). plainPrefix w (r .prefix)) rs && rising (previous ∷ rs)
+abbrev inOrderBehind : ℕ → Pattern → List Route → Bool
+inOrderBehind w previous rs = every (λ (r : Route). plainPrefix w (r .prefix)) rs && risingBehind previous rs
 
 in-turn : (a b c d : Bool) → ((a && b) && (c && d)) ≡ ((a && c) && (b && d))
 in-turn true b true d = refl
 in-turn true b false d = and-false b
 in-turn false b c d = refl
 
-first-in-order : (w : ℕ) (r : Route) (rs : List Route) → inOrder w (r ∷ rs) ≡ plainPrefix w (r .prefix) && inOrderBehind w r rs
+first-in-order : (w : ℕ) (r : Route) (rs : List Route) → inOrder w (r ∷ rs) ≡ plainPrefix w (r .prefix) && inOrderBehind w (r .prefix) rs
 unfolding every
-first-in-order w r rs = and-assoc (plainPrefix w (r .prefix)) (every (λ (s : Route). plainPrefix w (s .prefix)) rs) (rising (r ∷ rs))
+first-in-order w r rs =
+    rw (rising-behind r rs) (and-assoc (plainPrefix w (r .prefix)) (every (λ (s : Route). plainPrefix w (s .prefix)) rs) (risingBehind (r .prefix) rs))
 
-next-in-order : (w : ℕ) (p r : Route) (rs : List Route) → inOrderBehind w p (r ∷ rs) ≡ mayFollow w (p .prefix) (r .prefix) && inOrderBehind w r rs
-unfolding every rising mayFollow
+next-in-order : (w : ℕ) (p : Pattern) (r : Route) (rs : List Route) → inOrderBehind w p (r ∷ rs) ≡ mayFollow w p (r .prefix) && inOrderBehind w (r .prefix) rs
+unfolding every risingBehind mayFollow
 next-in-order w p r rs =
-    in-turn (plainPrefix w (r .prefix)) (every (λ (s : Route). plainPrefix w (s .prefix)) rs) (rises (p .prefix) (r .prefix)) (rising (r ∷ rs))
+    in-turn (plainPrefix w (r .prefix)) (every (λ (s : Route). plainPrefix w (s .prefix)) rs) (rises p (r .prefix)) (risingBehind (r .prefix) rs)
 
 -- what holds before each route of the check but the first: the list is sound exactly where the routes from here on are in order
-pub record Checked (family : Family) (ws : List ℕ) (previous : Route) (at : ℕ) : Type 0 where
+pub record Checked (family : Family) (ws : List ℕ) (previous : Pattern) (at : ℕ) : Type 0 where
   pub within : at ≤ length ws
   pub rest : inOrderBehind (family .width) previous (ahead family ws at) ≡ soundRoutes family ws
 
@@ -86,38 +98,38 @@ module _ (family : Family) (F : Fits family) (ws : List ℕ) where
     unfolding every rising
     no-routes h = rw (← routes-all family ws, routes-end family ws 0 (omega arith)) at by-order
 
-    module _ (r : Route) (p : Bool) (here : r ≡ routeAt family ws 0) (plain : p ≡ plainPrefix (family .width) (r .prefix)) (some : family .words ≤ length ws) where
-      first-plain : soundRoutes family ws ≡ p && inOrderBehind (family .width) r (ahead family ws (0 + family .words))
+    module _ (r : RouteInCode) (p : Bool) (here : routeOf r ≡ routeAt family ws 0) (plain : p ≡ plainPrefix (family .width) (patternOf (r .prefix))) (some : family .words ≤ length ws) where
+      first-plain : soundRoutes family ws ≡ p && inOrderBehind (family .width) (patternOf (r .prefix)) (ahead family ws (0 + family .words))
       first-plain =
           let positive = F .words in
           sym by-order
           ∙ rw (← routes-all family ws, routes-next family ws 0 (omega arith) (omega arith), ← here, plain)
-          (first-in-order (family .width) r (ahead family ws (0 + family .words)))
+          (first-in-order (family .width) (routeOf r) (ahead family ws (0 + family .words)))
 
       pub first-not-plain : not p ≡ true → false ≡ soundRoutes family ws
       first-not-plain e = sym (first-plain ∙ rw (not-true p e))
 
-      pub check-start : not p ≡ false → Checked family ws r (family .words)
+      pub check-start : not p ≡ false → Checked family ws (patternOf (r .prefix)) (family .words)
       check-start e =
           let z : 0 + family .words ≡ family .words = omega arith in
-          let behind : soundRoutes family ws ≡ inOrderBehind (family .width) r (ahead family ws (0 + family .words)) = first-plain ∙ rw (not-false p e) in
+          let behind : soundRoutes family ws ≡ inOrderBehind (family .width) (patternOf (r .prefix)) (ahead family ws (0 + family .words)) = first-plain ∙ rw (not-false p e) in
           record { within = some; rest = sym (rw z at behind) }
 
-  module _ (previous r : Route) (at : ℕ) (p : Bool) (c : Checked family ws previous at) (h : family .words ≤ length ws - at)
-      (here : r ≡ routeAt family ws at) (follows : p ≡ mayFollow (family .width) (previous .prefix) (r .prefix)) where
-    turn : inOrderBehind (family .width) previous (ahead family ws at) ≡ p && inOrderBehind (family .width) r (ahead family ws (at + family .words))
+  module _ (previous : Pattern) (r : RouteInCode) (at : ℕ) (p : Bool) (c : Checked family ws previous at) (h : family .words ≤ length ws - at)
+      (here : routeOf r ≡ routeAt family ws at) (follows : p ≡ mayFollow (family .width) previous (patternOf (r .prefix))) where
+    turn : inOrderBehind (family .width) previous (ahead family ws at) ≡ p && inOrderBehind (family .width) (patternOf (r .prefix)) (ahead family ws (at + family .words))
     turn =
         let positive = F .words in
-        rw (routes-next family ws at (omega arith) h, ← here, follows) (next-in-order (family .width) previous r (ahead family ws (at + family .words)))
+        rw (routes-next family ws at (omega arith) h, ← here, follows) (next-in-order (family .width) previous (routeOf r) (ahead family ws (at + family .words)))
 
     pub not-following : not p ≡ true → false ≡ soundRoutes family ws
     not-following e = rw (not-true p e) at (sym turn) ∙ c .rest
 
-    pub check-on : not p ≡ false → Checked family ws r (at + family .words)
+    pub check-on : not p ≡ false → Checked family ws (patternOf (r .prefix)) (at + family .words)
     check-on e = record { within = omega arith; rest = rw (not-false p e) at (sym turn) ∙ c .rest }
 
-  pub check-end : (previous : Route) (at : ℕ) → Checked family ws previous at → length ws - at < family .words → true ≡ soundRoutes family ws
-  unfolding every rising
+  pub check-end : (previous : Pattern) (at : ℕ) → Checked family ws previous at → length ws - at < family .words → true ≡ soundRoutes family ws
+  unfolding every risingBehind
   check-end previous at c h = rw (routes-end family ws at h) at (c .rest)
 
 -- a number in two parts

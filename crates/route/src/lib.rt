@@ -152,14 +152,14 @@ pub fn sound_routes(family: Family, words: &[u32]) -> bool
     if !is_plain(family.width, first.prefix) {
         return false;
     }
-    let mut previous = first;
+    let mut previous = first.prefix;
     let mut at = stride;
     while stride <= words.len() - at {
         let route = route_at(family, words, at);
-        if !may_follow(family.width, previous.prefix, route.prefix) {
+        if !may_follow(family.width, previous, route.prefix) {
             return false;
         }
-        previous = route;
+        previous = route.prefix;
         at += stride;
     }
     true

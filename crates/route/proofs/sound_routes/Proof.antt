@@ -1,14 +1,14 @@
 -- Before each route but the first, the list is sound exactly where the routes from here on are in order: those before were.
 use Prim.Native.Nat.{_-_}
 use lib.ListN.{length}
-use Rattle.route.specs.Route.{routeOf}
+use Rattle.prefix.specs.Prefix.{patternOf}
 use Rattle.route.proofs.RouteLaws.{Checked, too-long, left-over, no-routes, first-not-plain, check-start, not-following, check-on, check-end}
 use borrow.Author.Needs.{needs}
 use Rattle.route.proofs.sound_routes.Statement.{statement}
 use Rattle.route.proofs.sound_routes.Tie as tie
 
 abbrev Inv-loop : tie.InvT-loop
-Inv-loop family words stride previous₀ at₀ previous at = Checked family words (routeOf previous) at
+Inv-loop family words stride previous₀ at₀ previous at = Checked family words (patternOf previous) at
 
 abbrev μ-loop : tie.MeasureT-loop
 μ-loop family words stride previous₀ at₀ previous at = length words - at
@@ -38,7 +38,7 @@ returns-4 : tie.Need-returns-4 Inv-loop μ-loop
 returns-4 c = search (first-not-plain, needs)
 
 loop-holds : tie.Need-loop-holds Inv-loop μ-loop
-loop-holds c = check-start _ (search needs) _ (search needs) (search needs) _ _ (search needs) (c .before .is-plain .ensures) (search needs) (search needs)
+loop-holds c = search (check-start, needs)
 
 sub-loop : tie.Need-sub-loop Inv-loop μ-loop
 sub-loop c = search needs
