@@ -75,8 +75,8 @@ pub record CompareNumbers (family : Family) (first second : List ℕ) (answer : 
 -- Judging one rule.
 pub record JudgeNumbers (family : Family) (policy : Policy) (rule : List ℕ) (originator : ℕ) (answer : Told) : Type 0 where
   pub nine : (answer .number ≡ 9) ↔ No (soundRoutes family (policy .routes))
-  pub one-to-seven :
-      OneToSeven answer (λ number place. Yes (soundRoutes family (policy .routes)) × (checkRule family rule ≡ Refused number place))
+  pub one-to-seven : OneToSeven answer
+      (λ number place. Yes (soundRoutes family (policy .routes)) × (checkRule family rule ≡ Refused number place))
   pub fifteen : (answer .number ≡ 15)
       ↔ (Yes (soundRoutes family (policy .routes)) × (Accepts (checkRule family rule) × No (endsThere rule)))
   pub eight : (answer .number ≡ 8)

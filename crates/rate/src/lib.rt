@@ -10,7 +10,7 @@ pub enum Rate {
 }
 
 // The number that a single without its sign gives, by the size of its exponent.
-fn whole_of(exponent: u32, fraction: u32) -> u64
+fn number_of_parts(exponent: u32, fraction: u32) -> u64
     requires { ⌜ fraction < 2 ^ 23 ⌝ }
     ensures { λ r. ⌜ r ≡ numberOfParts exponent fraction ⌝ }
 {
@@ -45,7 +45,7 @@ pub fn rate_of(single: u32) -> Rate
     if sign != 0 {
         return Rate::Number(0);
     }
-    let number = whole_of(exponent, fraction);
+    let number = number_of_parts(exponent, fraction);
     Rate::Number(number)
 }
 

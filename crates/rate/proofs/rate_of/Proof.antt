@@ -12,11 +12,11 @@ returns c = not-a-number _ _ _ (search needs) ∙ by-masks _
 returns-2 : tie.Need-returns-2
 returns-2 c = negative _ _ _ (search needs) (search needs) ∙ by-masks _
 
-whole-of-requires : tie.Need-whole-of-requires
-whole-of-requires c κs = mask-lt (c .before .before .args .single) 23
+number-of-parts-requires : tie.Need-number-of-parts-requires
+number-of-parts-requires c κs = mask-lt (c .before .before .args .single) 23
 
 returns-3 : tie.Need-returns-3
 returns-3 c = not-negative _ _ _ _ (search needs) (search needs) (cc) ∙ by-masks _
 
 pub rate-of-spec : {M : Type 1} → statement M
-rate-of-spec = tie.close (tie.spec returns returns-2 whole-of-requires returns-3)
+rate-of-spec = tie.close (tie.spec returns returns-2 number-of-parts-requires returns-3)

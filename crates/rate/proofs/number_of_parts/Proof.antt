@@ -1,8 +1,8 @@
 -- The number of a single without its sign. Each return is one size of the exponent and the law of that size.
 use borrow.Author.Needs.{needs}
 use Rattle.rate.proofs.Rates.{whole-zero, whole-below-one, whole-past-limit, whole-up, whole-down}
-use Rattle.rate.proofs.whole_of.Statement.{statement}
-use Rattle.rate.proofs.whole_of.Tie as tie
+use Rattle.rate.proofs.number_of_parts.Statement.{statement}
+use Rattle.rate.proofs.number_of_parts.Tie as tie
 
 returns : tie.Need-returns
 returns c = search (whole-zero, needs)
@@ -19,8 +19,8 @@ returns-4 c = search (whole-up, needs)
 returns-5 : tie.Need-returns-5
 returns-5 c = search (whole-down, needs)
 
-pub whole-of-spec : {M : Type 1} → statement M
-whole-of-spec =
+pub number-of-parts-spec : {M : Type 1} → statement M
+number-of-parts-spec =
     tie.close
     (tie.spec
     returns
