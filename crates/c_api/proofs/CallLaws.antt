@@ -16,6 +16,7 @@ use Rattle.action.specs.declared.Reading.the-variants.{Read, Unsound}
 use Rattle.action.specs.Actions.{valuesOf}
 use Rattle.lookup.specs.declared.Verdict.{Verdict}
 use Rattle.lookup.specs.declared.Verdict.the-variants.{Unmatched, Matched}
+use Rattle.rule.specs.Value.{mostValue}
 use Rattle.flowspec.specs.declared.Looked.the-variants.{Answered}
 use Rattle.flowspec.specs.declared.MatchPlace.{MatchPlace}
 use Rattle.flowspec.specs.Told.{Told, readingTold, actionsTold, verdictTold, lookupTold, matchPlaceTold}
@@ -48,7 +49,7 @@ module _ (family : Family) (rule : List ℕ) (r : Reading) (lent : List (List �
   pub read-refusal : (number place : ℕ) → r ≡ NotRead number place → Refusal number place
   read-refusal number place e = one-refused family rule number place (sym (kept .is) ∙ e)
 
-  pub read-near : (number place : ℕ) → r ≡ NotRead number place → place ≤ 4095
+  pub read-near : (number place : ℕ) → r ≡ NotRead number place → place ≤ mostValue
   read-near number place e = read-refusal number place e .near
 
   pub read-refused : (entry : List ℕ) (number place result : ℕ) → r ≡ NotRead number place → result ≡ word number place

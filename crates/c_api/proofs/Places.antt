@@ -29,6 +29,7 @@ use Rattle.packet.specs.Packet.{packetOf}
 use Rattle.entry.specs.Entry.{Entry}
 use Rattle.table.specs.Sound.{soundTable}
 use Rattle.table.specs.Change.{holds, hasRoom, announced, withdrawn}
+use Rattle.rule.specs.Value.{mostValue}
 use Rattle.flowspec.specs.declared.Comparison.{Comparison}
 use Rattle.flowspec.specs.declared.Comparison.the-variants.{First, Second, Same, Refused as NotCompared}
 use Rattle.flowspec.specs.declared.Feasibility.{Feasibility}
@@ -108,7 +109,7 @@ Changes (NotDone number place) = Refusal number place
 Changes Done = Unit {0}
 
 -- a change is near where each of its refusals is one of 01's table
-pub change-near : (c : Change) → ((number place : ℕ) → c ≡ NotDone number place → Refusal number place) → changeTold c .place ≤ 4095
+pub change-near : (c : Change) → ((number place : ℕ) → c ≡ NotDone number place → Refusal number place) → changeTold c .place ≤ mostValue
 change-near (NotDone number place) h = h number place refl .near
 change-near Done h = omega arith
 

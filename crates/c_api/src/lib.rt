@@ -3,6 +3,7 @@
 ghost use mathlib.Core.Path.{_≡_};
 ghost use mathlib.Core.List.{[], _∷_};
 ghost use Prim.Native.Nat.{_≤_};
+ghost use Rattle.rule.specs.Value.{mostValue};
 ghost use Rattle.flowspec.specs.Input.{announcementOf, policyOf};
 ghost use Rattle.flowspec.specs.Told.{changeTold, verdictTold};
 ghost use Rattle.c_api.specs.Word.{word, wordOf, isOn};
@@ -18,7 +19,7 @@ use spelling::Writing;
 
 // The word of a refusal: its number in the low 32 bits, its place in the high 32.
 fn word_of(number: u8, place: usize) -> u64
-    requires { ⌜ place ≤ 4095 ⌝ }
+    requires { ⌜ place ≤ mostValue ⌝ }
     ensures { λ r. ⌜ r ≡ word number place ⌝ }
 {
     number as u64 + place as u64 * 0x1_0000_0000
@@ -26,7 +27,7 @@ fn word_of(number: u8, place: usize) -> u64
 
 // The word of a change: its refusal's, and 0 where it is done.
 fn change_word(change: Change) -> u64
-    requires { ⌜ changeTold change .place ≤ 4095 ⌝ }
+    requires { ⌜ changeTold change .place ≤ mostValue ⌝ }
     ensures { λ r. ⌜ r ≡ wordOf (changeTold change) ⌝ }
 {
     match change {

@@ -74,14 +74,14 @@ module _ (family : Family) where
       ))
 
   -- the bits that a length and an offset ask for are the same in the plain spelling of what stands behind them
-  kept : (n length offset : ℕ) (r : List ℕ) → Octets r → length - offset ≤ 8 * n
-      → bits (length - offset) (numberAt n (plainFrom family (patternAfter length offset) r) 0 / 2 ^ (8 * n - (length - offset)))
-      ≡ bits (length - offset) (numberAt n r 0 / 2 ^ (8 * n - (length - offset)))
+  kept : (n reach offset : ℕ) (r : List ℕ) → Octets r → reach - offset ≤ 8 * n
+      → bits (reach - offset) (numberAt n (plainFrom family (patternAfter reach offset) r) 0 / 2 ^ (8 * n - (reach - offset)))
+      ≡ bits (reach - offset) (numberAt n r 0 / 2 ^ (8 * n - (reach - offset)))
   unfolding bits patternAfter
-  kept n length offset r o h =
-      by-test (leb length offset)
-      (λ t. let few = leb-true length offset t in let z : length - offset ≡ 0 = omega arith in rw z)
-      (λ t. let some = leb-false length offset t in rw t (ap (bits (length - offset)) (address-same n (length - offset) r o (omega arith) h)))
+  kept n reach offset r o h =
+      by-test (leb reach offset)
+      (λ t. let few = leb-true reach offset t in let z : reach - offset ≡ 0 = omega arith in rw z)
+      (λ t. let some = leb-false reach offset t in rw t (ap (bits (reach - offset)) (address-same n (reach - offset) r o (omega arith) h)))
 
 -- the bits of a pattern are the first ones of the number that the octets of the pattern are
 spelled-bits : (n : ℕ) (offsets : Bool) (body : List ℕ) → offsetIn offsets body ≤ getD body 0 0 → getD body 0 0 ≤ 8 * n

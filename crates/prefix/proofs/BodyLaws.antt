@@ -92,16 +92,16 @@ two-words count at rest high low s h e f g =
     let k : count ≡ rest + 8 = omega arith in
     rw (f, g, k) (sym (number-parts rest 8 s at))
 
-module _ (w : ℕ) (offsets : Bool) (body : List ℕ) (a : Address) (length : ℕ) (is : length ≡ getD body 0 0) where
+module _ (w : ℕ) (offsets : Bool) (body : List ℕ) (a : Address) (reach : ℕ) (is : reach ≡ getD body 0 0) where
   pub no-offset : not offsets ≡ true → addressOf a ≡ numberAt (w / 8) body 1
-      → patternOf (record { offset = 0; length = length; address = a }) ≡ patternIn w offsets body
+      → patternOf (record { offset = 0; length = reach; address = a }) ≡ patternIn w offsets body
   unfolding patternIn
   no-offset h e =
       let f : addressOf a ≡ numberAt (w / 8) body 1 / 2 ^ 0 = e ∙ sym (div-one (numberAt (w / 8) body 1)) in
       rw (not-true offsets h) (λ i. record { offset = 0; length = is i; address = f i })
 
   pub with-offset : (offset number : ℕ) → not offsets ≡ false → offset ≡ getD body 1 0 → number ≡ numberAt (w / 8) body 2 → addressOf a ≡ number / 2 ^ offset
-      → patternOf (record { offset = offset; length = length; address = a }) ≡ patternIn w offsets body
+      → patternOf (record { offset = offset; length = reach; address = a }) ≡ patternIn w offsets body
   unfolding patternIn
   with-offset offset number h b n e =
       let f : addressOf a ≡ numberAt (w / 8) body 2 / 2 ^ getD body 1 0 = e ∙ rw (n, b) in

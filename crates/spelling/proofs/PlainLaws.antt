@@ -86,6 +86,6 @@ module _ (family : Family) (e : Expected) (x : ℕ) where
   unfolding after
   after-length r h t k = rw (h, t) k
 
-  pub after-offset : (length : ℕ) (r : Expected) → e ≡ Offset length → r ≡ patternAfter length x → r ≡ after family e x
+  pub after-offset : (bits : ℕ) (r : Expected) → e ≡ Offset bits → r ≡ patternAfter bits x → r ≡ after family e x
   unfolding after
-  after-offset length r h k = rw h k
+  after-offset bits r h k = rw h k

@@ -1,6 +1,7 @@
 -- A refusal is near, so that its word fits; a change that is done has word 0.
 use mathlib.Core.Path.{refl, subst}
 use Prim.Native.Nat.{_≤_}
+use Rattle.rule.specs.Value.{mostValue}
 use Rattle.flowspec.specs.Told.{changeTold}
 use Rattle.c_api.proofs.CallLaws.{word-is}
 use borrow.Author.Needs.{needs}
@@ -11,7 +12,7 @@ enum-known-change : tie.Need-enum-known-change
 enum-known-change c = search needs
 
 word-of-requires : tie.Need-word-of-requires
-word-of-requires c κs = subst (λ z. changeTold z .place ≤ 4095) (c .before .change .given .1) (c .before .before .before .pre)
+word-of-requires c κs = subst (λ z. changeTold z .place ≤ mostValue) (c .before .change .given .1) (c .before .before .before .pre)
 
 enum-told : tie.Need-enum-told
 enum-told c = search needs
