@@ -8,5 +8,3 @@ pub mod Told
 pub mod Look
 pub mod Checks
 pub mod Promise
-pub mod Numbers
-pub mod Examples

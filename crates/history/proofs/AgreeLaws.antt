@@ -29,8 +29,8 @@ use Rattle.flowspec.specs.Announce.{requestOf}
 use Rattle.history.specs.History.{Call, announcement, withdrawal, Made, CanBe, EachCanBe, deed, deedOf, announceOperation, withdrawOperation, operationOf, operationMade, numberOf, lastCounted, Agree, endOf, emptyTable, FromEmpty, EndAlike}
 use Rattle.flowspec.proofs.RequestLaws.{octets-value, asked-from}
 use Rattle.history.proofs.HistoryLaws.{histories-agree}
-use Rattle.flowspec.proofs.PlainLaws.{feasible-alone}
-use Rattle.flowspec.proofs.Unique.{one-lookup, one-first-match}
+use Rattle.theorems.proofs.PlainLaws.{feasible-alone}
+use Rattle.theorems.proofs.Unique.{one-lookup, one-first-match}
 
 -- equal octets judge every packet alike
 end-alike : (family : Family) (table other : List ℕ) → table ≡ other → EndAlike family table other

@@ -19,17 +19,17 @@ use Rattle.rule.specs.Reading.{checkRule}
 use Rattle.rule.proofs.RefusalsLaws.{Numbered, value-numbered, rule-numbered}
 use Rattle.action.specs.declared.Reading.{Reading as ActionsReading}
 use Rattle.packet.specs.Header.{isUnusable}
 use Rattle.flowspec.specs.declared.Comparison.{Comparison}
 use Rattle.flowspec.specs.declared.Feasibility.{Feasibility}
 use Rattle.flowspec.specs.declared.Change.{Change}
 use Rattle.flowspec.specs.declared.Looked.{Looked}
 use Rattle.flowspec.specs.declared.MatchPlace.{MatchPlace}
 use Rattle.flowspec.specs.Input.{Announcement, Policy}
 use Rattle.flowspec.specs.Told.{readingTold, writingTold, comparisonTold, feasibilityTold, actionsTold, changeTold, lookupTold, matchPlaceTold}
 use Rattle.flowspec.specs.Checks.{Check, check, oneToSeven, told, endsThere, readChecks, writeChecks, compareChecks, compareValues, judgeChecks, actionsChecks, announceChecks, withdrawChecks, lookupChecks, lookupValues, firstMatchValues}
-use Rattle.flowspec.specs.Numbers.{Yes, No, Accepts, OneToSeven, ReadNumbers, WriteNumbers, CompareNumbers, JudgeNumbers, ActionsNumbers, AnnounceNumbers, WithdrawNumbers, LookupNumbers}
+use Rattle.theorems.specs.Numbers.{Yes, No, Accepts, OneToSeven, ReadNumbers, WriteNumbers, CompareNumbers, JudgeNumbers, ActionsNumbers, AnnounceNumbers, WithdrawNumbers, LookupNumbers}
 use Rattle.flowspec.specs.Promise.{ReadsOne, WritesOne, ComparesTwo, JudgesOne, ReadsActions, Announces, Withdraws, LooksUp, LocatesFirst}
-use Rattle.flowspec.proofs.ChecksLaws.{number-at, value-at, all-hold}
+use Rattle.theorems.proofs.ChecksLaws.{number-at, value-at, all-hold}
 
 -- a refusal of 1 to 7 has no other check's number, and not 0
 other : (c : Checked) → Numbered c → (n : ℕ) → 7 < n → eqb (oneToSeven c .number) n ≡ false

@@ -22,7 +22,7 @@ use Rattle.packet.specs.Packet.{fieldsOf, packetOf}
 use Rattle.packet.specs.Operator.{numericHolds}
 use Rattle.packet.specs.PairList.{groupsFrom, groups, listHolds}
 use Rattle.packet.specs.Match.{holdsFor, bodyHolds, fieldMatches, fieldsFor, bodyCovers, componentMatches, matches}
-use Rattle.flowspec.specs.Examples.{Example, answerTo, examples}
+use Rattle.theorems.specs.Examples.{Example, answerTo, examples}
 
 pub marked : map (λ (e : Example). answerTo (e .asks)) examples ≡ map (λ (e : Example). e .expects) examples
 unfolding
