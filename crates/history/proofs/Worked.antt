@@ -35,10 +35,10 @@ use Rattle.action.specs.Given.{smallerOf, firstOf, allowed}
 use Rattle.action.specs.Merging.{merged}
 use Rattle.action.specs.Possible.{couldBe}
 use Rattle.packet.specs.Header.{isUnusable, fragmentData}
-use Rattle.packet.specs.Match.{holdsFor, bodyHolds, fieldMatches, componentMatches, matches, fieldsFor, bodyCovers}
-use Rattle.packet.specs.Operator.{numericHolds, bitmaskHolds}
+use Rattle.matching.specs.Match.{holdsFor, bodyHolds, fieldMatches, componentMatches, matches, fieldsFor, bodyCovers}
+use Rattle.matching.specs.Operator.{numericHolds, bitmaskHolds}
 use Rattle.packet.specs.Packet.{fieldsOf, packetOf}
-use Rattle.packet.specs.PairList.{groupsFrom, groups, listHolds}
+use Rattle.matching.specs.PairList.{groupsFrom, groups, listHolds}
 use Rattle.packet.specs.Transport.{transportOctets, transportFields}
 use Rattle.entry.specs.Entry.{plainValue, possible, Entry, entryKey}
 use Rattle.entry.specs.Record.{writtenFields, readFields, headNumbers, recordOf, actionsIn, entryOf, goodRecord}

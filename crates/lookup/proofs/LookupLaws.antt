@@ -20,8 +20,8 @@ use Rattle.action.specs.declared.Actions.{Actions}
 use Rattle.action.specs.Actions.{noActions}
 use Rattle.action.specs.Merging.{merged}
 use Rattle.packet.specs.declared.Packet.{Packet}
-use Rattle.packet.specs.Match.{matches}
-use Rattle.packet.proofs.PlainLaws.{plain-alone}
+use Rattle.matching.specs.Match.{matches}
+use Rattle.matching.proofs.PlainLaws.{plain-alone}
 use Rattle.table.specs.declared.NextRecord.{NextRecord}
 use Rattle.table.specs.declared.NextRecord.the-variants.{Nothing, Record, Unsound}
 use Rattle.lookup.specs.declared.Hit.{Hit}

@@ -12,7 +12,7 @@ use Rattle.action.specs.declared.Actions.{Actions}
 use Rattle.action.specs.Actions.{noActions}
 use Rattle.action.specs.Merging.{merged}
 use Rattle.packet.specs.declared.Packet.{Packet}
-use Rattle.packet.specs.Match.{matches}
+use Rattle.matching.specs.Match.{matches}
 use Rattle.lookup.specs.declared.Verdict.{Verdict}
 use Rattle.lookup.specs.declared.Verdict.the-variants.{Unmatched, Matched}
 use Rattle.lookup.specs.declared.Hit.{Hit}

@@ -48,7 +48,7 @@ fn hits_record(family: Family, head: &[u8], held: &[u8], packet: Packet) -> bool
     if !has_head(family, head, value) {
         return false;
     }
-    packet::matches_rule(family, value, packet)
+    matching::matches_rule(family, value, packet)
 }
 
 // What a record says of a packet, looked up under a head.

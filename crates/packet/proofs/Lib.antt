@@ -1,13 +1,6 @@
 -- The laws of this crate.
 pub mod Examples
-pub mod OperatorTable
 pub mod Theorems
 pub mod HeaderLaws
 pub mod TransportLaws
 pub mod PacketLaws
-pub mod OperatorLaws
-pub mod PairListLaws
-pub mod ListLaws
-pub mod MatchLaws
-pub mod PatternLaws
-pub mod PlainLaws

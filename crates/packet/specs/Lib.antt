@@ -2,7 +2,3 @@
 pub mod Header
 pub mod Transport
 pub mod Packet
-pub mod Operator
-pub mod PairList
-pub mod Match
-pub mod Evaluation

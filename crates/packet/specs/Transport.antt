@@ -41,7 +41,7 @@ abbrev pub shownIf : Bool → ℕ → Field
 shownIf holds number = cond holds (Shown number) Hidden
 
 -- The fields that transport octets show. Flags are in their two-octet form, 01: "octets 12 and 13 with the top four bits as 0"; a value of
--- one octet asks for no bit above those of octet 13 (`flags-octet` in proofs/Theorems.antt).
+-- one octet asks for no bit above those of octet 13 (`flags-octet` in matching/proofs/Theorems.antt).
 unfoldable pub transportFields : Family → ℕ → List ℕ → Transport
 transportFields family protocol t =
     record {

@@ -19,9 +19,9 @@ use Rattle.rate.specs.Rate.{scaled, numberFor, numberOfParts, rateOfParts, rate
 use Rattle.packet.specs.Header.{isUnusable, fragmentData}
 use Rattle.packet.specs.Transport.{transportOctets, transportFields}
 use Rattle.packet.specs.Packet.{fieldsOf, packetOf}
-use Rattle.packet.specs.Operator.{numericHolds}
-use Rattle.packet.specs.PairList.{groupsFrom, groups, listHolds}
-use Rattle.packet.specs.Match.{holdsFor, bodyHolds, fieldMatches, fieldsFor, bodyCovers, componentMatches, matches}
+use Rattle.matching.specs.Operator.{numericHolds}
+use Rattle.matching.specs.PairList.{groupsFrom, groups, listHolds}
+use Rattle.matching.specs.Match.{holdsFor, bodyHolds, fieldMatches, fieldsFor, bodyCovers, componentMatches, matches}
 use Rattle.theorems.specs.Examples.{Example, answerTo, examples}
 
 pub marked : map (λ (e : Example). answerTo (e .asks)) examples ≡ map (λ (e : Example). e .expects) examples

@@ -1,4 +1,4 @@
--- Whether a rule is feasible hangs on its plain spelling alone, as its match does (packet/proofs/PlainLaws.antt): of the destination only
+-- Whether a rule is feasible hangs on its plain spelling alone, as its match does (matching/proofs/PlainLaws.antt): of the destination only
 -- the offset, the length and the bits between are looked at. Assumes nothing but that the value is octets.
 use mathlib.Core.Path.{_≡_, refl, sym, ap, _∙_}
 use mathlib.Core.List.{List, [], _∷_, map}
@@ -19,7 +19,7 @@ use Rattle.rule.proofs.ComponentsLaws.{SoundComponent, each-octets, each-sound}
 use Rattle.route.specs.Route.{routesOf}
 use Rattle.route.specs.Destination.{destinationFor, destinationAmong, destinationOf}
 use Rattle.route.proofs.AlikeLaws.{AlikeTo, destinations-alike}
-use Rattle.packet.proofs.PatternLaws.{pattern-plain}
+use Rattle.matching.proofs.PatternLaws.{pattern-plain}
 use Rattle.flowspec.specs.Input.{Policy}
 use Rattle.flowspec.specs.Feasibility.{isFeasible}
 

@@ -17,7 +17,7 @@ use Rattle.rate.specs.Rate.{rateOf}
 use Rattle.packet.specs.declared.Reading.{Reading as PacketReading}
 use Rattle.packet.specs.declared.Reading.the-variants.{Usable, Unusable}
 use Rattle.packet.specs.Packet.{packetOf}
-use Rattle.packet.specs.Match.{matches}
+use Rattle.matching.specs.Match.{matches}
 use Rattle.flowspec.specs.Compare.{comparisonOf}
 use Rattle.flowspec.specs.Told.{comparisonTold}
 

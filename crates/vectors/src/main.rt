@@ -175,7 +175,7 @@ fn verdict_of(value: &[u8], packet: &[u8]) -> u64 {
     let family = flowspec::family_of(AddressFamily::Ipv4);
     match packet::packet_of(family, packet) {
         packet::Reading::Unusable => 12,
-        packet::Reading::Usable(opening) => packet::matches_rule(family, value, opening) as u64,
+        packet::Reading::Usable(opening) => matching::matches_rule(family, value, opening) as u64,
     }
 }
 
