@@ -8,12 +8,12 @@ ghost use Rattle.flowspec.specs.Input.{announcementOf, policyOf};
 ghost use Rattle.flowspec.specs.Told.{changeTold, verdictTold};
 ghost use Rattle.c_api.specs.Word.{word, wordOf, isOn};
 ghost use Rattle.c_api.specs.Promise.{ReadCall, WriteCall, CompareCall, FeasibleCall, ActionsCall, AnnounceCall, WithdrawCall, LookupCall, FirstMatchCall};
-use flowspec::AddressFamily;
 use flowspec::Change;
 use flowspec::Comparison;
 use flowspec::Feasibility;
 use flowspec::Looked;
 use lookup::Verdict;
+use rule::AddressFamily;
 use rule::Reading;
 use spelling::Writing;
 

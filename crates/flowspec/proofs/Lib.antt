@@ -1,5 +1,4 @@
 -- The laws of this crate.
-pub mod FamiliesLaws
 pub mod ToldLaws
 pub mod CompareLaws
 pub mod WriteLaws

@@ -1,5 +1,4 @@
 -- The definitions of this crate, in the order in which to read them.
-pub mod Families
 pub mod Compare
 pub mod Input
 pub mod Feasibility

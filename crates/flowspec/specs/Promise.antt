@@ -1,8 +1,9 @@
--- What each public call promises, for whatever family of addresses (Families.antt has what it decides, `family` here) and whatever octets
--- it is lent: its answer (`is`), the number, place and values of that answer (`tells`), by the list of 01's checks that the call goes
--- through (Checks.antt), what each buffer lent to be changed holds at exit (`leaves`), and that what is lent to be read alone is as it was
--- (`keeps`; `kept` is what those slices hold at exit). `FirstMatches` has no `tells`: its answer is octets, and `begins` says where they
--- stand. No call has a `requires`. That no second result satisfies a promise is shown in theorems/proofs/Unique.antt.
+-- What each public call promises, for whatever family of addresses (rule/specs/Family.antt has what it decides, `family` here) and
+-- whatever octets it is lent: its answer (`is`), the number, place and values of that answer (`tells`), by the list of 01's checks that
+-- the call goes through (Checks.antt), what each buffer lent to be changed holds at exit (`leaves`), and that what is lent to be read
+-- alone is as it was (`keeps`; `kept` is what those slices hold at exit). `FirstMatches` has no `tells`: its answer is octets, and
+-- `begins` says where they stand. No call has a `requires`. That no second result satisfies a promise is shown in
+-- theorems/proofs/Unique.antt.
 use Prim.Native.Nat.{ℕ, _+_, _≤_}
 use mathlib.Core.Path.{_≡_}
 use mathlib.Core.List.{List, [], _∷_}

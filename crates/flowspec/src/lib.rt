@@ -3,8 +3,7 @@
 // of its addresses; the crates below take what that family decides, a struct of numbers, so that nothing there asks which family it is.
 ghost use mathlib.Core.Path.{_≡_};
 ghost use mathlib.Core.List.{[], _∷_};
-ghost use Rattle.rule.specs.Family.{Fits};
-ghost use Rattle.flowspec.specs.Families.{familyOf};
+ghost use Rattle.rule.specs.Family.{familyOf, Fits};
 ghost use Rattle.flowspec.specs.Compare.{comparisonOf};
 ghost use Rattle.flowspec.specs.Feasibility.{readWithRoutes, isFeasible, feasibilityOf};
 ghost use Rattle.flowspec.specs.Input.{announcementOf, policyOf};
@@ -16,15 +15,11 @@ use entry::Head;
 use lookup::Verdict;
 use octets::Order;
 use packet::Packet;
+use rule::AddressFamily;
 use rule::Family;
 use rule::Reading;
 use spelling::Writing;
 use table::Soundness;
-
-// The families of addresses whose rules are known (RFC 4760's address family).
-pub enum AddressFamily {
-    Ipv4,
-}
 
 // Which of two rules comes first, that they are the same rule, or a refusal.
 pub enum Comparison {
@@ -80,27 +75,18 @@ pub struct MatchPlace {
     pub end: usize,
 }
 
-// What a family of addresses decides.
-pub fn family_of(which: AddressFamily) -> Family
-    ensures { λ r. ⌜ r ≡ familyOf which ⌝ }
-{
-    match which {
-        AddressFamily::Ipv4 => rule::ipv4(),
-    }
-}
-
 // Reads one rule: where its value starts and how long it is.
 pub fn read_rule(family: AddressFamily, rule: &[u8]) -> Reading
     ensures { λ r. ⌜ ReadsOne (familyOf family) (now (rule .entry)) r (now (rule .exit) ∷ []) ⌝ }
 {
-    rule::one_rule(family_of(family), rule)
+    rule::one_rule(rule::family_of(family), rule)
 }
 
 // Writes one rule from its value, in its plain spelling, to the front of a buffer: how many octets were written.
 pub fn write_rule(family: AddressFamily, value: &[u8], buffer: &mut [u8]) -> Writing
     ensures { λ r. ⌜ WritesOne (familyOf family) (now (value .entry)) (now (buffer .entry)) r (now (buffer .exit)) (now (value .exit) ∷ []) ⌝ }
 {
-    spelling::write_rule(family_of(family), value, buffer)
+    spelling::write_rule(rule::family_of(family), value, buffer)
 }
 
 // What an order of two values means for their rules.
@@ -118,7 +104,7 @@ fn comparison_of(which: Order) -> Comparison
 pub fn compare_rules(family: AddressFamily, first: &[u8], second: &[u8]) -> Comparison
     ensures { λ r. ⌜ ComparesTwo (familyOf family) (now (first .entry)) (now (second .entry)) r (now (first .exit) ∷ now (second .exit) ∷ []) ⌝ }
 {
-    let family = family_of(family);
+    let family = rule::family_of(family);
     let left = rule::one_rule(family, first);
     let right = rule::one_rule(family, second);
     match left {
@@ -145,7 +131,7 @@ pub fn compare_rules(family: AddressFamily, first: &[u8], second: &[u8]) -> Comp
 fn read_with_routes(family: AddressFamily, routes: &[u32], rule: &[u8]) -> Reading
     ensures { λ r. ⌜ r ≡ readWithRoutes (familyOf family) (now (routes .entry)) (now (rule .entry)) ⌝ }
 {
-    let family = family_of(family);
+    let family = rule::family_of(family);
     if !route::sound_routes(family, routes) {
         return Reading::Refused {
             number: 9,
@@ -165,7 +151,7 @@ fn is_feasible(
 ) -> bool
     ensures { λ r. ⌜ r ≡ isFeasible (familyOf family) (policyOf (now (routes .entry)) «allows_no_destination») (now (value .entry)) originator ⌝ }
 {
-    let family = family_of(family);
+    let family = rule::family_of(family);
     let destination = route::destination_of(family, value);
     route::is_feasible(
         family,
@@ -281,7 +267,7 @@ pub fn announce(
 ) -> Change
     ensures { λ r. ⌜ Announces (familyOf family) (policyOf (now (routes .entry)) «allows_no_destination») (announcementOf (now (rule .entry)) originator (now (communities .entry))) (now (table .entry)) r (now (table .exit)) (now (routes .exit) ∷ now (rule .exit) ∷ now (communities .exit) ∷ []) ⌝ }
 {
-    let chosen = family_of(family);
+    let chosen = rule::family_of(family);
     match table::sound_table(chosen, table) {
         Soundness::Unsound => Change::Refused {
             number: 10,
@@ -325,7 +311,7 @@ pub fn announce(
 pub fn withdraw(family: AddressFamily, table: &mut [u8], rule: &[u8]) -> Change
     ensures { λ r. ⌜ Withdraws (familyOf family) (now (rule .entry)) (now (table .entry)) r (now (table .exit)) (now (rule .exit) ∷ []) ⌝ }
 {
-    let family = family_of(family);
+    let family = rule::family_of(family);
     match table::sound_table(family, table) {
         Soundness::Unsound => Change::Refused {
             number: 10,
@@ -360,7 +346,7 @@ fn open_lookup(family: Family, table: &[u8], packet: &[u8]) -> Opening
 pub fn lookup(family: AddressFamily, table: &[u8], packet: &[u8]) -> Looked
     ensures { λ r. ⌜ LooksUp (familyOf family) (now (table .entry)) (now (packet .entry)) r (now (table .exit) ∷ now (packet .exit) ∷ []) ⌝ }
 {
-    let family = family_of(family);
+    let family = rule::family_of(family);
     match open_lookup(family, table, packet) {
         Opening::Refused(number) => Looked::Refused { number, place: 0 },
         Opening::With(shown) => Looked::Answered(lookup::look_up(family, b"", table, shown)),
@@ -371,7 +357,7 @@ pub fn lookup(family: AddressFamily, table: &[u8], packet: &[u8]) -> Looked
 pub fn first_match_place(family: AddressFamily, table: &[u8], packet: &[u8]) -> MatchPlace
     ensures { λ r. ⌜ LocatesFirst (familyOf family) (now (table .entry)) (now (packet .entry)) r (now (table .exit) ∷ now (packet .exit) ∷ []) ⌝ }
 {
-    let family = family_of(family);
+    let family = rule::family_of(family);
     match open_lookup(family, table, packet) {
         Opening::Refused(number) => MatchPlace {
             number,

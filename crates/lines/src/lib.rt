@@ -19,8 +19,8 @@ ghost use Rattle.lines.specs.Form.{behind, isOf, FieldSays, NumberSays, 
 ghost use Rattle.lines.specs.Answer.{placeText, answerText, unknownText, changeText, countText, ruleText, rulesText, listText, Answered};
 ghost use Rattle.lines.specs.Serve.{routeFits, adding, Changes, Adds};
 ghost use Rattle.lines.specs.Promise.{Gathers, Serves};
-use flowspec::AddressFamily;
 use flowspec::Change;
+use rule::AddressFamily;
 use table::NextRecord;
 use table::Soundness;
 use text::Numeral;
@@ -375,7 +375,7 @@ fn put_records(table: &[u8], out: &mut [u8], at: usize) -> usize
 fn put_list(out: &mut [u8], table: &[u8]) -> usize
     ensures { λ r. ⌜ Answered (now (out .entry)) (listText (now (table .entry))) (now (out .exit)) r ⌝ }
 {
-    match table::sound_table(flowspec::family_of(AddressFamily::Ipv4), table) {
+    match table::sound_table(rule::family_of(AddressFamily::Ipv4), table) {
         Soundness::Unsound => put_answer(out, 10, 0),
         Soundness::Sound(_) => {
             let count = count_records(table);

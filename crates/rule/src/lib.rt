@@ -5,7 +5,7 @@
 ghost use mathlib.Core.Path.{_≡_};
 ghost use Prim.Native.Nat.{_<_, _≤_};
 ghost use lib.ListN.{length};
-ghost use Rattle.rule.specs.Family.{ipv4};
+ghost use Rattle.rule.specs.Family.{ipv4, familyOf};
 ghost use Rattle.rule.specs.Shape.{shapeOf};
 ghost use Rattle.rule.specs.Operator.{endsList, sizeOf};
 ghost use Rattle.rule.specs.Component.{pairAt, pairsFrom, leadOf, offsetAt, prefixEnd, bodyEnd, componentAt};
@@ -18,6 +18,11 @@ use octets::octet_at;
 pub const MOST_VALUE: usize = 4095;
 
 // ---- Answers ----
+
+// The families of addresses whose rules are known (RFC 4760's address family).
+pub enum AddressFamily {
+    Ipv4,
+}
 
 // What a family of addresses decides: the highest component type; the bits of an address; the octets before the first component;
 // whether a prefix has an offset octet behind its length; the bits of a fragment value that count; ICMP's protocol number; the version
@@ -97,6 +102,15 @@ pub fn ipv4() -> Family
         icmp: 1,
         version: 4,
         words: 4,
+    }
+}
+
+// What a family of addresses decides.
+pub fn family_of(which: AddressFamily) -> Family
+    ensures { λ r. ⌜ r ≡ familyOf which ⌝ }
+{
+    match which {
+        AddressFamily::Ipv4 => ipv4(),
     }
 }
 

@@ -15,7 +15,6 @@ use fields::print_octets;
 use fields::print_refusal;
 use fields::print_valued;
 use fields::put_octets;
-use flowspec::AddressFamily;
 use flowspec::Change;
 use flowspec::Comparison;
 use flowspec::Feasibility;
@@ -23,6 +22,7 @@ use flowspec::Looked;
 use libc::STDIN_FILENO;
 use libc::STDOUT_FILENO;
 use lookup::Verdict;
+use rule::AddressFamily;
 use rule::Checked;
 use rule::Reading;
 use spelling::Writing;
@@ -161,7 +161,7 @@ fn answer_match(line: &[u8], octets: &mut [u8]) {
 fn check_and_match(octets: &[u8], middle: usize, end: usize)
     requires { ⌜ (middle ≤ end) × (end ≤ length (now octets)) ⌝ }
 {
-    match rule::check_value(flowspec::family_of(AddressFamily::Ipv4), &octets[0..middle]) {
+    match rule::check_value(rule::family_of(AddressFamily::Ipv4), &octets[0..middle]) {
         Checked::Refused { number, place } => {
             io::write_all(STDOUT_FILENO, b"value\t");
             print_refusal(number, place);
@@ -172,7 +172,7 @@ fn check_and_match(octets: &[u8], middle: usize, end: usize)
 
 // 1 where an accepted value matches a packet, 0 where it does not, and 12 where the packet is unusable.
 fn verdict_of(value: &[u8], packet: &[u8]) -> u64 {
-    let family = flowspec::family_of(AddressFamily::Ipv4);
+    let family = rule::family_of(AddressFamily::Ipv4);
     match packet::packet_of(family, packet) {
         packet::Reading::Unusable => 12,
         packet::Reading::Usable(opening) => matching::matches_rule(family, value, opening) as u64,

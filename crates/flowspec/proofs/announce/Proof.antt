@@ -2,7 +2,7 @@
 use native.Mathlib.Omega.{arith}
 use Rattle.rule.proofs.ReadingLaws.{ReadRule}
 use Rattle.flowspec.proofs.TableLaws.{announce-unsound, announce-refused, announce-rule, announce-requires, announce-done}
-use Rattle.flowspec.proofs.FamiliesLaws.{chosen-fits}
+use Rattle.rule.proofs.FamilyLaws.{chosen-fits}
 use borrow.Author.Needs.{needs}
 use Rattle.flowspec.proofs.announce.Statement.{statement}
 use Rattle.flowspec.proofs.announce.Tie as tie

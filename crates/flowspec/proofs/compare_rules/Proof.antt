@@ -3,7 +3,7 @@ use mathlib.Core.Path.{sym, _∙_}
 use native.Mathlib.Omega.{arith}
 use Rattle.rule.proofs.ReadingLaws.{ReadRule, one-read}
 use Rattle.flowspec.proofs.CompareLaws.{value-accepted, compare-first-refused, compare-second-refused, compare-both}
-use Rattle.flowspec.proofs.FamiliesLaws.{chosen-fits}
+use Rattle.rule.proofs.FamilyLaws.{chosen-fits}
 use borrow.Author.Needs.{needs}
 use Rattle.flowspec.proofs.compare_rules.Statement.{statement}
 use Rattle.flowspec.proofs.compare_rules.Tie as tie

@@ -1,6 +1,6 @@
 -- One law for each return.
 use borrow.Author.Needs.{needs}
-use Rattle.flowspec.proofs.FamiliesLaws.{chosen-fits}
+use Rattle.rule.proofs.FamilyLaws.{chosen-fits}
 use Rattle.flowspec.proofs.TableLaws.{locate-refused, locate-found}
 use Rattle.flowspec.proofs.first_match_place.Statement.{statement}
 use Rattle.flowspec.proofs.first_match_place.Tie as tie

@@ -1,6 +1,6 @@
 -- The destination is judged by the routes.
 use borrow.Author.Needs.{needs}
-use Rattle.flowspec.proofs.FamiliesLaws.{chosen-fits}
+use Rattle.rule.proofs.FamilyLaws.{chosen-fits}
 use Rattle.flowspec.proofs.FeasibilityLaws.{value-judged}
 use Rattle.flowspec.proofs.is_feasible.Statement.{statement}
 use Rattle.flowspec.proofs.is_feasible.Tie as tie

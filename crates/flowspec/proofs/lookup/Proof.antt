@@ -1,6 +1,6 @@
 -- One law for each return.
 use borrow.Author.Needs.{needs}
-use Rattle.flowspec.proofs.FamiliesLaws.{chosen-fits}
+use Rattle.rule.proofs.FamilyLaws.{chosen-fits}
 use Rattle.flowspec.proofs.TableLaws.{look-refused, look-judged}
 use Rattle.flowspec.proofs.lookup.Statement.{statement}
 use Rattle.flowspec.proofs.lookup.Tie as tie

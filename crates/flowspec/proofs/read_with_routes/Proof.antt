@@ -1,6 +1,6 @@
 -- Unsound routes are refused before the rule is read.
 use borrow.Author.Needs.{needs}
-use Rattle.flowspec.proofs.FamiliesLaws.{chosen-fits}
+use Rattle.rule.proofs.FamilyLaws.{chosen-fits}
 use Rattle.flowspec.proofs.FeasibilityLaws.{with-unsound, with-sound}
 use Rattle.flowspec.proofs.read_with_routes.Statement.{statement}
 use Rattle.flowspec.proofs.read_with_routes.Tie as tie

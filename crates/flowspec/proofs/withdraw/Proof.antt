@@ -2,7 +2,7 @@
 use native.Mathlib.Omega.{arith}
 use Rattle.rule.proofs.ReadingLaws.{ReadRule}
 use Rattle.flowspec.proofs.TableLaws.{withdraw-unsound, withdraw-refused, withdraw-rule, withdraw-requires, withdraw-done}
-use Rattle.flowspec.proofs.FamiliesLaws.{chosen-fits}
+use Rattle.rule.proofs.FamilyLaws.{chosen-fits}
 use borrow.Author.Needs.{needs}
 use Rattle.flowspec.proofs.withdraw.Statement.{statement}
 use Rattle.flowspec.proofs.withdraw.Tie as tie

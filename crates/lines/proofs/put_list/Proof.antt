@@ -1,7 +1,7 @@
 -- An unsound table is answer 10; a sound one is its count with its records behind.
 use native.Mathlib.Omega.{arith}
-use Rattle.flowspec.specs.declared.AddressFamily.the-variants.{Ipv4}
-use Rattle.flowspec.proofs.FamiliesLaws.{chosen-fits}
+use Rattle.rule.specs.declared.AddressFamily.the-variants.{Ipv4}
+use Rattle.rule.proofs.FamilyLaws.{chosen-fits}
 use Rattle.lines.proofs.PrintLaws.{count-short, printed-short}
 use Rattle.lines.proofs.ListLaws.{list-unsound, list-sound, list-short, list-within}
 use borrow.Author.Needs.{needs}

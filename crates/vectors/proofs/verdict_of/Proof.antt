@@ -3,9 +3,9 @@ use mathlib.Core.Path.{_≡_}
 use Prim.Native.Nat.{_≤_}
 use borrow.Author.Needs.{needs}
 use Rattle.rule.specs.declared.Family.{Family}
-use Rattle.flowspec.specs.declared.AddressFamily.{AddressFamily}
-use Rattle.flowspec.specs.Families.{familyOf}
-use Rattle.flowspec.proofs.FamiliesLaws.{chosen-fits}
+use Rattle.rule.specs.declared.AddressFamily.{AddressFamily}
+use Rattle.rule.specs.Family.{familyOf}
+use Rattle.rule.proofs.FamilyLaws.{chosen-fits}
 use Rattle.vectors.proofs.verdict_of.Statement.{statement}
 use Rattle.vectors.proofs.verdict_of.Tie as tie
 

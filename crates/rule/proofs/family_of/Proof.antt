@@ -1,8 +1,8 @@
 -- One law for each family.
 use borrow.Author.Needs.{needs}
-use Rattle.flowspec.proofs.FamiliesLaws.{family-ipv4}
-use Rattle.flowspec.proofs.family_of.Statement.{statement}
-use Rattle.flowspec.proofs.family_of.Tie as tie
+use Rattle.rule.proofs.FamilyLaws.{family-ipv4}
+use Rattle.rule.proofs.family_of.Statement.{statement}
+use Rattle.rule.proofs.family_of.Tie as tie
 
 ipv4-requires : tie.Need-ipv4-requires
 ipv4-requires c κs = search needs
