@@ -11,7 +11,7 @@ use Rattle.rule.proofs.Refusal.{Refusal}
 use Rattle.table.specs.Sound.{mostOctets}
 use Rattle.flowspec.specs.declared.Change.{Change}
 use Rattle.flowspec.specs.declared.Change.the-variants.{Done, Refused}
-use Rattle.flowspec.specs.Input.{Policy}
+use Rattle.request.specs.Input.{Policy}
 use Rattle.flowspec.specs.Announce.{announcing, withdrawing}
 use Rattle.flowspec.specs.Told.{changeTold}
 use Rattle.flowspec.proofs.TableLaws.{announce-kept, withdraw-kept}

@@ -34,17 +34,19 @@ use Rattle.flowspec.specs.declared.Comparison.{Comparison}
 use Rattle.flowspec.specs.declared.Comparison.the-variants.{First, Second, Same, Refused as NotCompared}
 use Rattle.flowspec.specs.declared.Feasibility.{Feasibility}
 use Rattle.flowspec.specs.declared.Feasibility.the-variants.{Feasible, Refused as NotFeasible}
-use Rattle.flowspec.specs.declared.Request.{Request}
-use Rattle.flowspec.specs.declared.Request.the-variants.{Announce, Refused as NoRequest}
+use Rattle.request.specs.declared.Request.{Request}
+use Rattle.request.specs.declared.Request.the-variants.{Announce, Refused as NoRequest}
 use Rattle.flowspec.specs.declared.Change.{Change}
 use Rattle.flowspec.specs.declared.Change.the-variants.{Done, Refused as NotDone}
 use Rattle.flowspec.specs.declared.Looked.{Looked}
 use Rattle.flowspec.specs.declared.Looked.the-variants.{Answered, Refused as NotLookedUp}
 use Rattle.flowspec.specs.Told.{changeTold}
 use Rattle.flowspec.specs.Compare.{comparisonOf, compareRead, compareRules}
-use Rattle.flowspec.specs.Input.{Announcement, Policy}
-use Rattle.flowspec.specs.Feasibility.{readWithRoutes, isFeasible, feasibilityOf, judgeRead, judgement}
-use Rattle.flowspec.specs.Announce.{announcedEntry, changeOf, requestFor, requestOf, announcedBy, announcing, withdrawnBy, withdrawing}
+use Rattle.request.specs.Input.{Announcement, Policy}
+use Rattle.request.specs.Judging.{readWithRoutes, isFeasible}
+use Rattle.flowspec.specs.Feasibility.{feasibilityOf, judgeRead, judgement}
+use Rattle.request.specs.Request.{announcedEntry, requestFor, requestOf}
+use Rattle.flowspec.specs.Announce.{changeOf, announcedBy, announcing, withdrawnBy, withdrawing}
 use Rattle.flowspec.specs.Look.{openingOf, opening, lookedUp, lookingUp}
 
 -- ---- comparing ----

@@ -2,7 +2,7 @@
 use mathlib.Core.Path.{_≡_, sym, _∙_}
 use mathlib.Core.List.{List}
 use Prim.Native.Nat.{ℕ}
-use Rattle.flowspec.specs.Input.{Announcement, Policy}
+use Rattle.request.specs.Input.{Announcement, Policy}
 use Rattle.flowspec.specs.Told.{Told}
 use Rattle.c_api.specs.Promise.{Returns, ReturnsKeeping, ReadCall, WriteCall, CompareCall, FeasibleCall, ActionsCall, AnnounceCall, WithdrawCall, LookupCall, FirstMatchCall}
 

@@ -6,7 +6,7 @@ use mathlib.Core.List.{List, [], _∷_, map}
 use lib.Dec.{eqb}
 use Rattle.flowspec.specs.declared.Change.{Change}
 use Rattle.flowspec.specs.declared.Change.the-variants.{Done, Refused}
-use Rattle.flowspec.specs.Input.{Policy}
+use Rattle.request.specs.Input.{Policy}
 use Rattle.history.specs.History.{Call, announcement, withdrawal, Made}
 use Rattle.c_api.specs.Promise.{AnnounceCall, WithdrawCall}
 

@@ -10,7 +10,7 @@ use Rattle.rule.specs.Reading.{oneRule}
 use Rattle.spelling.specs.Writing.{writing, afterWriting}
 use Rattle.action.specs.Actions.{actionsOf}
 use Rattle.flowspec.specs.Compare.{compareRules}
-use Rattle.flowspec.specs.Input.{Announcement, Policy}
+use Rattle.request.specs.Input.{Announcement, Policy}
 use Rattle.flowspec.specs.Feasibility.{judgement}
 use Rattle.flowspec.specs.Announce.{announcing, withdrawing}
 use Rattle.flowspec.specs.Look.{lookingUp, matchPlace}

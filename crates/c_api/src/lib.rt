@@ -4,7 +4,7 @@ ghost use mathlib.Core.Path.{_≡_};
 ghost use mathlib.Core.List.{[], _∷_};
 ghost use Prim.Native.Nat.{_≤_};
 ghost use Rattle.rule.specs.Value.{mostValue};
-ghost use Rattle.flowspec.specs.Input.{announcementOf, policyOf};
+ghost use Rattle.request.specs.Input.{announcementOf, policyOf};
 ghost use Rattle.flowspec.specs.Told.{changeTold, verdictTold};
 ghost use Rattle.c_api.specs.Word.{word, wordOf, isOn};
 ghost use Rattle.c_api.specs.Promise.{ReadCall, WriteCall, CompareCall, FeasibleCall, ActionsCall, AnnounceCall, WithdrawCall, LookupCall, FirstMatchCall};

@@ -3,5 +3,4 @@ pub mod ToldLaws
 pub mod CompareLaws
 pub mod WriteLaws
 pub mod FeasibilityLaws
-pub mod RequestLaws
 pub mod TableLaws

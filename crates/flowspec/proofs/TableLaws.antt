@@ -5,6 +5,7 @@ use mathlib.Core.List.{List, [], _∷_}
 use Prim.Native.Nat.{ℕ, _+_, _-_, _≤_}
 use native.Mathlib.Omega.{arith}
 use native.Mathlib.Nat.{add-sub-cancel-left}
+use borrow.Author.Tests.{eq-eqb, ne-eqb}
 use lib.ListN.{length, take, drop}
 use Rattle.rule.specs.declared.Family.{Family}
 use Rattle.rule.specs.declared.Checked.the-variants.{Accepted}
@@ -33,22 +34,34 @@ use Rattle.lookup.specs.Lookup.{hit, verdictFor, firstPlace}
 use Rattle.table.specs.declared.Answer.{Answer}
 use Rattle.table.specs.Change.{announced, withdrawn, Ready, Leaves}
 use Rattle.table.proofs.LeaveLaws.{was-sound, was-ready, was-unsound}
-use Rattle.flowspec.specs.declared.Request.{Request}
-use Rattle.flowspec.specs.declared.Request.the-variants.{Announce, Refused as NoRequest}
+use Rattle.request.specs.declared.Request.{Request}
+use Rattle.request.specs.declared.Request.the-variants.{Announce, Refused as NoRequest}
 use Rattle.flowspec.specs.declared.Change.{Change}
-use Rattle.flowspec.specs.declared.Change.the-variants.{Refused as NotDone}
+use Rattle.flowspec.specs.declared.Change.the-variants.{Done, Refused as NotDone}
 use Rattle.flowspec.specs.declared.Looked.{Looked}
 use Rattle.flowspec.specs.declared.Looked.the-variants.{Answered, Refused as NotLookedUp}
 use Rattle.flowspec.specs.declared.MatchPlace.{MatchPlace}
-use Rattle.flowspec.specs.Announce.{announcedEntry, Outcome, changeOf, outcome, refusal, requestOf, announcing, withdrawing}
+use Rattle.request.specs.Request.{announcedEntry, requestOf}
+use Rattle.flowspec.specs.Announce.{Outcome, changeOf, outcome, refusal, announcing, withdrawing}
 use Rattle.flowspec.specs.declared.Opening.{Opening}
 use Rattle.flowspec.specs.declared.Opening.the-variants.{With, Refused as NotOpened}
-use Rattle.flowspec.specs.Input.{Announcement, Policy}
+use Rattle.request.specs.Input.{Announcement, Policy}
 use Rattle.flowspec.specs.Look.{opening, noHead, lookingUp, firstMatch, matchPlace}
 use Rattle.flowspec.specs.Told.{changeTold, verdictTold, lookupTold, matchPlaceTold}
 use Rattle.flowspec.specs.Promise.{Announces, Withdraws, LooksUp, LocatesFirst}
 use Rattle.flowspec.proofs.ToldLaws.{announce-tells, withdraw-tells, lookup-tells, locate-tells}
-use Rattle.flowspec.proofs.RequestLaws.{asked-rule}
+use Rattle.request.proofs.RequestLaws.{asked-rule}
+
+-- ---- changes ----
+
+-- how `change_of` comes to its answers
+pub change-done : (number : ℕ) → number ≡ 0 → Done ≡ changeOf number
+unfolding changeOf
+change-done number h = rw (eq-eqb number 0 h)
+
+pub change-refused : (number : ℕ) → (number ≡ 0 → ⊥) → NotDone number 0 ≡ changeOf number
+unfolding changeOf
+change-refused number h = rw (ne-eqb number 0 h)
 
 -- ---- announcing ----
 

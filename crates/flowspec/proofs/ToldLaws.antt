@@ -36,9 +36,11 @@ use Rattle.lookup.specs.Lookup.{hit, collected, mergedOnto, verdictOf, verdictF
 use Rattle.table.specs.Change.{holds, hasRoom, withdrawn}
 use Rattle.flowspec.specs.declared.Looked.the-variants.{Answered}
 use Rattle.flowspec.specs.Compare.{comparisonOf, compareRead, compareRules}
-use Rattle.flowspec.specs.Input.{Announcement, Policy}
-use Rattle.flowspec.specs.Feasibility.{readWithRoutes, isFeasible, judgeRead, judgement}
-use Rattle.flowspec.specs.Announce.{changeOf, requestFor, requestOf, announcedEntry, announcedBy, announcing, withdrawnBy, withdrawing}
+use Rattle.request.specs.Input.{Announcement, Policy}
+use Rattle.request.specs.Judging.{readWithRoutes, isFeasible}
+use Rattle.flowspec.specs.Feasibility.{judgeRead, judgement}
+use Rattle.request.specs.Request.{requestFor, requestOf, announcedEntry}
+use Rattle.flowspec.specs.Announce.{changeOf, announcedBy, announcing, withdrawnBy, withdrawing}
 use Rattle.flowspec.specs.Look.{opening, noHead, lookingUp, firstMatch, matchPlace}
 use Rattle.flowspec.specs.Told.{Told, done, refused, readingTold, writingTold, comparisonTold, feasibilityTold, actionsTold, changeTold, verdictTold, lookupTold, matchPlaceTold}
 use Rattle.flowspec.specs.Checks.{judgeChecks, announceChecks, Check, check, oneToSeven, told, endsThere, readChecks, readValues, writeChecks, writeValues, compareChecks, compareValues, actionsChecks, actionsValues, withdrawChecks, lookupChecks, lookupValues, firstMatchValues, isSound, actionsRead}

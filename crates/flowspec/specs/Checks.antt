@@ -27,9 +27,9 @@ use Rattle.table.specs.Walk.{entries}
 use Rattle.table.specs.Sound.{soundTable}
 use Rattle.lookup.specs.Lookup.{hit, collected, mergedOnto, firstPlace}
 use Rattle.table.specs.Change.{holds, hasRoom}
-use Rattle.flowspec.specs.Input.{Announcement, Policy}
-use Rattle.flowspec.specs.Feasibility.{isFeasible}
-use Rattle.flowspec.specs.Announce.{announcedEntry}
+use Rattle.request.specs.Input.{Announcement, Policy}
+use Rattle.request.specs.Judging.{isFeasible}
+use Rattle.request.specs.Request.{announcedEntry}
 use Rattle.flowspec.specs.Told.{Told, done, refused, placeValues}
 use Rattle.flowspec.specs.Look.{noHead}
 

@@ -1,6 +1,5 @@
 -- The definitions of this crate, in the order in which to read them.
 pub mod Compare
-pub mod Input
 pub mod Feasibility
 pub mod Announce
 pub mod Told

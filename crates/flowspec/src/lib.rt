@@ -5,16 +5,16 @@ ghost use mathlib.Core.Path.{_≡_};
 ghost use mathlib.Core.List.{[], _∷_};
 ghost use Rattle.rule.specs.Family.{familyOf, Fits};
 ghost use Rattle.flowspec.specs.Compare.{comparisonOf};
-ghost use Rattle.flowspec.specs.Feasibility.{readWithRoutes, isFeasible, feasibilityOf};
-ghost use Rattle.flowspec.specs.Input.{announcementOf, policyOf};
+ghost use Rattle.flowspec.specs.Feasibility.{feasibilityOf};
+ghost use Rattle.request.specs.Input.{announcementOf, policyOf};
 ghost use Rattle.flowspec.specs.Promise.{ReadsOne, WritesOne, ComparesTwo, JudgesOne, ReadsActions, Announces, Withdraws, LooksUp, LocatesFirst, FirstMatches};
-ghost use Rattle.flowspec.specs.Announce.{changeOf, requestOf};
+ghost use Rattle.flowspec.specs.Announce.{changeOf};
 ghost use Rattle.flowspec.specs.Look.{opening};
-use action::Actions;
 use entry::Head;
 use lookup::Verdict;
 use octets::Order;
 use packet::Packet;
+use request::Request;
 use rule::AddressFamily;
 use rule::Family;
 use rule::Reading;
@@ -33,21 +33,6 @@ pub enum Comparison {
 pub enum Feasibility {
     Feasible,
     Refused { number: u8, place: usize },
-}
-
-// What an announcement asks of a table once its input is read and judged: to hold a rule's value with its actions where it is
-// feasible, and to hold that rule no longer where it is not; or nothing, since it is refused.
-pub enum Request {
-    Announce {
-        start: usize,
-        size: usize,
-        actions: Actions,
-        feasible: bool,
-    },
-    Refused {
-        number: u8,
-        place: usize,
-    },
 }
 
 // That a table was changed as asked, or a refusal.
@@ -127,41 +112,6 @@ pub fn compare_rules(family: AddressFamily, first: &[u8], second: &[u8]) -> Comp
     }
 }
 
-// Reads one rule, once the routes that it is to be judged by are found sound.
-fn read_with_routes(family: AddressFamily, routes: &[u32], rule: &[u8]) -> Reading
-    ensures { λ r. ⌜ r ≡ readWithRoutes (familyOf family) (now (routes .entry)) (now (rule .entry)) ⌝ }
-{
-    let family = rule::family_of(family);
-    if !route::sound_routes(family, routes) {
-        return Reading::Refused {
-            number: 9,
-            place: 0,
-        };
-    }
-    rule::one_rule(family, rule)
-}
-
-// Whether an accepted value is feasible for an originator by the lent routes.
-fn is_feasible(
-    family: AddressFamily,
-    allows_no_destination: bool,
-    routes: &[u32],
-    value: &[u8],
-    originator: u32,
-) -> bool
-    ensures { λ r. ⌜ r ≡ isFeasible (familyOf family) (policyOf (now (routes .entry)) «allows_no_destination») (now (value .entry)) originator ⌝ }
-{
-    let family = rule::family_of(family);
-    let destination = route::destination_of(family, value);
-    route::is_feasible(
-        family,
-        allows_no_destination,
-        destination,
-        originator,
-        routes,
-    )
-}
-
 // What is answered of a rule that was judged: infeasible is refusal 8.
 fn feasibility_of(feasible: bool) -> Feasibility
     ensures { λ r. ⌜ r ≡ feasibilityOf feasible ⌝ }
@@ -185,11 +135,11 @@ pub fn judge_rule(
 ) -> Feasibility
     ensures { λ r. ⌜ JudgesOne (familyOf family) (policyOf (now (routes .entry)) «allows_no_destination») (now (rule .entry)) originator r (now (routes .exit) ∷ now (rule .exit) ∷ []) ⌝ }
 {
-    match read_with_routes(family, routes, rule) {
+    match request::read_with_routes(family, routes, rule) {
         Reading::Refused { number, place } => Feasibility::Refused { number, place },
         Reading::Rule { start, size } => {
             let end = start + size;
-            feasibility_of(is_feasible(
+            feasibility_of(request::is_feasible(
                 family,
                 allows_no_destination,
                 routes,
@@ -205,44 +155,6 @@ pub fn read_actions(communities: &[u8]) -> action::Reading
     ensures { λ r. ⌜ ReadsActions (now (communities .entry)) r (now (communities .exit) ∷ []) ⌝ }
 {
     action::actions_of(communities)
-}
-
-// Reads and judges an announcement, in the order in which 01 has the checks.
-fn request_of(
-    family: AddressFamily,
-    allows_no_destination: bool,
-    routes: &[u32],
-    rule: &[u8],
-    originator: u32,
-    communities: &[u8],
-) -> Request
-    ensures { λ r. ⌜ r ≡ requestOf (familyOf family) (policyOf (now (routes .entry)) «allows_no_destination») (announcementOf (now (rule .entry)) originator (now (communities .entry))) ⌝ }
-{
-    match read_with_routes(family, routes, rule) {
-        Reading::Refused { number, place } => Request::Refused { number, place },
-        Reading::Rule { start, size } => match action::actions_of(communities) {
-            action::Reading::Unsound => Request::Refused {
-                number: 13,
-                place: 0,
-            },
-            action::Reading::Read(actions) => {
-                let end = start + size;
-                let feasible = is_feasible(
-                    family,
-                    allows_no_destination,
-                    routes,
-                    &rule[start..end],
-                    originator,
-                );
-                Request::Announce {
-                    start,
-                    size,
-                    actions,
-                    feasible,
-                }
-            }
-        },
-    }
 }
 
 // What a refusal's number means for a change: 0 is done.
@@ -273,7 +185,7 @@ pub fn announce(
             number: 10,
             place: 0,
         },
-        Soundness::Sound(used) => match request_of(
+        Soundness::Sound(used) => match request::request_of(
             family,
             allows_no_destination,
             routes,

@@ -22,12 +22,12 @@ use Rattle.order.proofs.KeyLaws.{key-order, keys-only, keys-plain}
 use Rattle.action.specs.declared.Reading.the-variants.{Read}
 use Rattle.action.specs.Actions.{actionsOf}
 use Rattle.entry.specs.Entry.{entryKey}
-use Rattle.flowspec.specs.declared.Request.{Request}
-use Rattle.flowspec.specs.declared.Request.the-variants.{Announce, Refused as NoRequest}
-use Rattle.flowspec.specs.Input.{Announcement, Policy}
-use Rattle.flowspec.specs.Announce.{requestOf}
+use Rattle.request.specs.declared.Request.{Request}
+use Rattle.request.specs.declared.Request.the-variants.{Announce, Refused as NoRequest}
+use Rattle.request.specs.Input.{Announcement, Policy}
+use Rattle.request.specs.Request.{requestOf}
 use Rattle.history.specs.History.{Call, announcement, withdrawal, Made, CanBe, EachCanBe, deed, deedOf, announceOperation, withdrawOperation, operationOf, operationMade, numberOf, lastCounted, Agree, endOf, emptyTable, FromEmpty, EndAlike}
-use Rattle.flowspec.proofs.RequestLaws.{octets-value, asked-from}
+use Rattle.request.proofs.RequestLaws.{octets-value, asked-from}
 use Rattle.history.proofs.HistoryLaws.{histories-agree}
 use Rattle.theorems.proofs.PlainLaws.{feasible-alone}
 use Rattle.theorems.proofs.Unique.{one-lookup, one-first-match}

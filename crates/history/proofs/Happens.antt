@@ -8,7 +8,7 @@ use Rattle.octets.proofs.Facts.{Octets}
 use Rattle.rule.specs.declared.Family.{Family}
 use Rattle.table.specs.Sound.{mostOctets}
 use Rattle.flowspec.specs.declared.Change.{Change}
-use Rattle.flowspec.specs.Input.{Announcement, Policy}
+use Rattle.request.specs.Input.{Announcement, Policy}
 use Rattle.flowspec.specs.Announce.{announcing, withdrawing}
 use Rattle.flowspec.specs.Promise.{Announces, Withdraws}
 use Rattle.history.specs.History.{Call, announcement, withdrawal, Made, CanBe, EachCanBe, Promised, Happened, outcomeOf, madeOn, historyOf, emptyTable, FromEmpty}

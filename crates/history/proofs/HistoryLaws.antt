@@ -39,13 +39,14 @@ use Rattle.table.proofs.LeaveLaws.{encoding, removed-encodes, removed-long}
 use Rattle.table.proofs.SoundLaws.{encodes-sound, encodes-entries}
 use Rattle.table.proofs.CallLaws.{plain-held}
 use Rattle.flowspec.specs.declared.Change.{Change}
-use Rattle.flowspec.specs.declared.Request.{Request}
-use Rattle.flowspec.specs.declared.Request.the-variants.{Announce, Refused as NoRequest}
-use Rattle.flowspec.specs.Input.{Announcement, Policy}
-use Rattle.flowspec.specs.Announce.{announcedEntry, Outcome, changeOf, outcome, requestOf, announcedBy, announcing, withdrawnBy, withdrawing}
+use Rattle.request.specs.declared.Request.{Request}
+use Rattle.request.specs.declared.Request.the-variants.{Announce, Refused as NoRequest}
+use Rattle.request.specs.Input.{Announcement, Policy}
+use Rattle.request.specs.Request.{announcedEntry, requestOf}
+use Rattle.flowspec.specs.Announce.{Outcome, changeOf, outcome, announcedBy, announcing, withdrawnBy, withdrawing}
 use Rattle.history.specs.History.{Call, announcement, withdrawal, Made, CanBe, EachCanBe, announceOperation, withdrawOperation, operationOf, Promised, Happened, operationMade, numberOf, inForceAfter, endOf, emptyTable, FromEmpty, HoldsExactly}
 use Rattle.flowspec.specs.Told.{changeTold}
-use Rattle.flowspec.proofs.RequestLaws.{octets-value, asked-from}
+use Rattle.request.proofs.RequestLaws.{octets-value, asked-from}
 
 -- an outcome on octets is one on entries: the same answer, and the entries' encoding in a buffer of the same length
 record Same (family : Family) (n : ℕ) (o : Outcome) (a : S.Outcome Entry) : Type 0 where

@@ -29,13 +29,14 @@ use Rattle.table.proofs.AgainLaws.{sound-with, room-again, inserted-again, hold
 use Rattle.flowspec.specs.declared.Change.{Change}
 use Rattle.flowspec.specs.declared.Change.the-variants.{Done, Refused}
 use Rattle.flowspec.specs.declared.Comparison.the-variants.{Same}
-use Rattle.flowspec.specs.declared.Request.{Request}
-use Rattle.flowspec.specs.declared.Request.the-variants.{Announce, Refused as NoRequest}
-use Rattle.flowspec.specs.Input.{Announcement, Policy}
-use Rattle.flowspec.specs.Announce.{announcedEntry, Outcome, changeOf, requestOf, announcedBy, announcing, withdrawing}
+use Rattle.request.specs.declared.Request.{Request}
+use Rattle.request.specs.declared.Request.the-variants.{Announce, Refused as NoRequest}
+use Rattle.request.specs.Input.{Announcement, Policy}
+use Rattle.request.specs.Request.{announcedEntry, requestOf}
+use Rattle.flowspec.specs.Announce.{Outcome, changeOf, announcedBy, announcing, withdrawing}
 use Rattle.flowspec.specs.Compare.{compareRules}
 use Rattle.flowspec.specs.Promise.{Announces, Withdraws}
-use Rattle.flowspec.proofs.RequestLaws.{octets-value, asked-from}
+use Rattle.request.proofs.RequestLaws.{octets-value, asked-from}
 use Rattle.history.proofs.HistoryLaws.{asked-could}
 
 module _ (family : Family) (policy : Policy) (a : Announcement) where

@@ -48,9 +48,11 @@ use Rattle.table.specs.Sound.{recordsOf, tableOf, soundTable, soundness}
 use Rattle.table.specs.Walk.{recordAt, recordsFrom, records, entries}
 use Rattle.flowspec.specs.declared.Change.the-variants.{Done, Refused}
 use Rattle.flowspec.specs.declared.Looked.{Looked}
-use Rattle.flowspec.specs.declared.Request.the-variants.{Announce}
-use Rattle.flowspec.specs.Announce.{changeOf, requestOf, announcing, withdrawing}
-use Rattle.flowspec.specs.Feasibility.{readWithRoutes, isFeasible, judgement}
+use Rattle.request.specs.declared.Request.the-variants.{Announce}
+use Rattle.request.specs.Request.{requestOf}
+use Rattle.flowspec.specs.Announce.{changeOf, announcing, withdrawing}
+use Rattle.request.specs.Judging.{readWithRoutes, isFeasible}
+use Rattle.flowspec.specs.Feasibility.{judgement}
 use Rattle.flowspec.specs.Look.{opening, lookingUp, firstMatch, matchPlace}
 use Rattle.flowspec.specs.Told.{lookupTold, done}
 use Rattle.flowspec.specs.Promise.{LooksUp}

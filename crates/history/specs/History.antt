@@ -23,10 +23,11 @@ use Rattle.table.specs.Walk.{entries}
 use Rattle.table.specs.Sound.{Encodes, mostOctets}
 use Rattle.flowspec.specs.declared.Change.{Change}
 use Rattle.flowspec.specs.declared.Looked.{Looked}
-use Rattle.flowspec.specs.declared.Request.{Request}
-use Rattle.flowspec.specs.declared.Request.the-variants.{Announce, Refused as NoRequest}
-use Rattle.flowspec.specs.Input.{Announcement, Policy}
-use Rattle.flowspec.specs.Announce.{announcedEntry, requestOf, Outcome, announcing, withdrawing}
+use Rattle.request.specs.declared.Request.{Request}
+use Rattle.request.specs.declared.Request.the-variants.{Announce, Refused as NoRequest}
+use Rattle.request.specs.Input.{Announcement, Policy}
+use Rattle.request.specs.Request.{announcedEntry, requestOf}
+use Rattle.flowspec.specs.Announce.{Outcome, announcing, withdrawing}
 use Rattle.flowspec.specs.Told.{changeTold}
 use Rattle.flowspec.specs.Promise.{Announces, Withdraws, LooksUp, FirstMatches}
 

@@ -12,7 +12,7 @@ use Rattle.action.specs.Reading.{withByteRate, withMarking}
 use Rattle.entry.specs.Entry.{Entry}
 use Rattle.flowspec.specs.declared.Change.{Change}
 use Rattle.flowspec.specs.declared.Change.the-variants.{Done, Refused}
-use Rattle.flowspec.specs.Input.{Announcement, Policy, announcementOf, policyOf}
+use Rattle.request.specs.Input.{Announcement, Policy, announcementOf, policyOf}
 use Rattle.history.specs.History.{Call, announcement, withdrawal, Made, emptyTable}
 
 -- 192.0.2.0/24 is routed to originator 7, over neighbour AS 64500.

@@ -9,7 +9,7 @@ use lib.ListN.{take}
 use Rattle.octets.proofs.Cases.{by-test}
 use Rattle.rule.specs.Family.{ipv4}
 use Rattle.flowspec.specs.declared.Change.{Change}
-use Rattle.flowspec.specs.Input.{announcementOf, policyOf}
+use Rattle.request.specs.Input.{announcementOf, policyOf}
 use Rattle.flowspec.specs.Announce.{announcing, withdrawing}
 use Rattle.flowspec.specs.Told.{changeTold}
 use Rattle.flowspec.specs.Promise.{Announces, Withdraws}

@@ -14,7 +14,7 @@ use Rattle.rule.specs.Value.{between}
 use Rattle.octets.specs.Store.{stored}
 use Rattle.rule.specs.Family.{ipv4}
 use Rattle.flowspec.specs.declared.Change.{Change}
-use Rattle.flowspec.specs.Input.{announcementOf, policyOf}
+use Rattle.request.specs.Input.{announcementOf, policyOf}
 use Rattle.flowspec.specs.Announce.{announcing, withdrawing, Outcome}
 use Rattle.flowspec.specs.Told.{changeTold}
 use Rattle.text.specs.Hex.{octetsIn}

@@ -8,7 +8,7 @@ use lib.ListN.{length, take}
 use Rattle.octets.specs.Store.{stored}
 use Rattle.rule.specs.Family.{ipv4}
 use Rattle.route.specs.Route.{mostRoutes}
-use Rattle.flowspec.specs.Input.{announcementOf, policyOf}
+use Rattle.request.specs.Input.{announcementOf, policyOf}
 use Rattle.flowspec.specs.Announce.{announcing, withdrawing, Outcome}
 use Rattle.flowspec.specs.Told.{changeTold}
 use Rattle.text.specs.Print.{laid}

@@ -8,7 +8,7 @@ ghost use lib.ListN.{length};
 ghost use Rattle.rule.specs.Family.{ipv4};
 ghost use Rattle.table.specs.Sound.{mostOctets};
 ghost use Rattle.table.specs.Walk.{records};
-ghost use Rattle.flowspec.specs.Input.{announcementOf, policyOf};
+ghost use Rattle.request.specs.Input.{announcementOf, policyOf};
 ghost use Rattle.flowspec.specs.Announce.{announcing, withdrawing};
 ghost use Rattle.flowspec.specs.Told.{changeTold};
 ghost use Rattle.text.specs.Spelling.{quoted};

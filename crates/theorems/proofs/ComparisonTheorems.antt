@@ -20,7 +20,7 @@ use Rattle.flowspec.specs.declared.Comparison.{Comparison}
 use Rattle.flowspec.specs.declared.Comparison.the-variants.{First, Second, Same, Refused}
 use Rattle.flowspec.specs.Compare.{IsRule, SameRule, comparisonOf, compareRead, compareRules}
 use Rattle.flowspec.specs.Promise.{ComparesTwo}
-use Rattle.flowspec.proofs.RequestLaws.{octets-value}
+use Rattle.request.proofs.RequestLaws.{octets-value}
 
 -- two accepted rules, and which of their values comes first
 record Compared (family : Family) (a b : List ℕ) (o : Ordering) : Type 0 where

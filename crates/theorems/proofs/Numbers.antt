@@ -24,7 +24,7 @@ use Rattle.flowspec.specs.declared.Feasibility.{Feasibility}
 use Rattle.flowspec.specs.declared.Change.{Change}
 use Rattle.flowspec.specs.declared.Looked.{Looked}
 use Rattle.flowspec.specs.declared.MatchPlace.{MatchPlace}
-use Rattle.flowspec.specs.Input.{Announcement, Policy}
+use Rattle.request.specs.Input.{Announcement, Policy}
 use Rattle.flowspec.specs.Told.{readingTold, writingTold, comparisonTold, feasibilityTold, actionsTold, changeTold, lookupTold, matchPlaceTold}
 use Rattle.flowspec.specs.Checks.{Check, check, oneToSeven, told, endsThere, readChecks, writeChecks, compareChecks, compareValues, judgeChecks, actionsChecks, announceChecks, withdrawChecks, lookupChecks, lookupValues, firstMatchValues}
 use Rattle.theorems.specs.Numbers.{Yes, No, Accepts, OneToSeven, ReadNumbers, WriteNumbers, CompareNumbers, JudgeNumbers, ActionsNumbers, AnnounceNumbers, WithdrawNumbers, LookupNumbers}

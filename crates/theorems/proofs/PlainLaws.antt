@@ -19,9 +19,9 @@ use Rattle.rule.proofs.ComponentsLaws.{SoundComponent, each-octets, each-sound}
 use Rattle.route.specs.Route.{routesOf}
 use Rattle.route.specs.Destination.{destinationFor, destinationAmong, destinationOf}
 use Rattle.route.proofs.AlikeLaws.{AlikeTo, destinations-alike}
-use Rattle.matching.proofs.PatternLaws.{pattern-plain}
-use Rattle.flowspec.specs.Input.{Policy}
-use Rattle.flowspec.specs.Feasibility.{isFeasible}
+use Rattle.packet.proofs.PatternLaws.{pattern-plain}
+use Rattle.request.specs.Input.{Policy}
+use Rattle.request.specs.Judging.{isFeasible}
 
 -- the destination in the plain spelling differs past its length at most
 destination-alike : (family : Family) → Fits family → (ps : List Component) → Each (λ p. Octets (p .body)) ps → Each (SoundComponent family) ps

@@ -35,20 +35,21 @@ use Rattle.table.specs.Walk.{entries}
 use Rattle.table.specs.Sound.{tableOf, soundTable, Encodes}
 use Rattle.table.specs.Change.{holds, removed, hasRoom, announced, withdrawn}
 use Rattle.table.proofs.ChangeLaws.{encoded, removed-none, value-octets}
-use Rattle.flowspec.specs.declared.Request.{Request}
-use Rattle.flowspec.specs.declared.Request.the-variants.{Announce, Refused as NoRequest}
+use Rattle.request.specs.declared.Request.{Request}
+use Rattle.request.specs.declared.Request.the-variants.{Announce, Refused as NoRequest}
 use Rattle.flowspec.specs.declared.Change.{Change}
 use Rattle.flowspec.specs.declared.Change.the-variants.{Done, Refused}
-use Rattle.flowspec.specs.Input.{Announcement, Policy}
-use Rattle.flowspec.specs.Feasibility.{readWithRoutes, isFeasible}
-use Rattle.flowspec.specs.Announce.{announcedEntry, Outcome, changeOf, outcome, requestFor, requestOf, announcedBy, announcing, withdrawnBy, withdrawing}
+use Rattle.request.specs.Input.{Announcement, Policy}
+use Rattle.request.specs.Judging.{readWithRoutes, isFeasible}
+use Rattle.request.specs.Request.{announcedEntry, requestFor, requestOf}
+use Rattle.flowspec.specs.Announce.{Outcome, changeOf, outcome, announcedBy, announcing, withdrawnBy, withdrawing}
 use Rattle.flowspec.specs.Told.{Told, done, refused, changeTold}
 use Rattle.flowspec.specs.Checks.{endsThere, isSound}
 use Rattle.theorems.specs.Numbers.{Yes, No, Accepts, SoundBoth, OneRule}
 use Rattle.flowspec.specs.Promise.{Announces, Withdraws}
 use Rattle.flowspec.proofs.ToldLaws.{read-first}
 use Rattle.theorems.proofs.Numbers.{announce-numbers}
-use Rattle.flowspec.proofs.RequestLaws.{octets-value}
+use Rattle.request.proofs.RequestLaws.{octets-value}
 
 -- an outcome leaves the table as it was where it is refused; where it is refused with another number than 8
 abbrev Keeps : List ℕ → Outcome → Type 0

@@ -25,11 +25,12 @@ use Rattle.table.proofs.ChangeLaws.{held-is-done}
 use Rattle.table.proofs.CallLaws.{plain-held}
 use Rattle.flowspec.specs.declared.Change.{Change}
 use Rattle.flowspec.specs.declared.Change.the-variants.{Refused}
-use Rattle.flowspec.specs.Input.{Announcement, Policy}
-use Rattle.flowspec.specs.Announce.{announcedEntry, changeOf, requestFor, requestOf, announcedBy, announcing}
-use Rattle.flowspec.specs.Feasibility.{readWithRoutes, isFeasible}
+use Rattle.request.specs.Input.{Announcement, Policy}
+use Rattle.request.specs.Request.{announcedEntry, requestFor, requestOf}
+use Rattle.flowspec.specs.Announce.{changeOf, announcedBy, announcing}
+use Rattle.request.specs.Judging.{readWithRoutes, isFeasible}
 use Rattle.flowspec.specs.Promise.{Announces}
-use Rattle.flowspec.proofs.RequestLaws.{octets-value}
+use Rattle.request.proofs.RequestLaws.{octets-value}
 
 -- an answer is not 11
 abbrev Not11 : Change → Type 0

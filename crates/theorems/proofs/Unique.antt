@@ -11,7 +11,7 @@ use Rattle.flowspec.specs.declared.Feasibility.{Feasibility}
 use Rattle.flowspec.specs.declared.Change.{Change}
 use Rattle.flowspec.specs.declared.Looked.{Looked}
 use Rattle.flowspec.specs.declared.MatchPlace.{MatchPlace}
-use Rattle.flowspec.specs.Input.{Announcement, Policy}
+use Rattle.request.specs.Input.{Announcement, Policy}
 use Rattle.flowspec.specs.Promise.{ReadsOne, WritesOne, ComparesTwo, JudgesOne, ReadsActions, Announces, Withdraws, LooksUp, LocatesFirst, FirstMatches}
 
 pub one-reading-of-actions : (k l : List (List ℕ)) (communities : List ℕ) (a b : ActionsReading) → ReadsActions communities a k

@@ -22,8 +22,8 @@ use Rattle.action.specs.Actions.{actionsOf}
 use Rattle.packet.specs.Header.{isUnusable}
 use Rattle.table.specs.Sound.{soundTable}
 use Rattle.table.specs.Change.{holds, hasRoom}
-use Rattle.flowspec.specs.Input.{Announcement, Policy}
-use Rattle.flowspec.specs.Feasibility.{isFeasible}
+use Rattle.request.specs.Input.{Announcement, Policy}
+use Rattle.request.specs.Judging.{isFeasible}
 use Rattle.flowspec.specs.Told.{Told}
 use Rattle.flowspec.specs.Checks.{Check, oneToSeven, endsThere, isSound, entryIn, readChecks, writeChecks, compareChecks, judgeChecks, actionsChecks, announceChecks, withdrawChecks, lookupChecks}
 

@@ -1,6 +1,6 @@
 -- 0 is done.
 use borrow.Author.Needs.{needs}
-use Rattle.flowspec.proofs.RequestLaws.{change-done, change-refused}
+use Rattle.flowspec.proofs.TableLaws.{change-done, change-refused}
 use Rattle.flowspec.proofs.change_of.Statement.{statement}
 use Rattle.flowspec.proofs.change_of.Tie as tie
 

@@ -1,7 +1,8 @@
 -- A rule that was read lies in its octets; then one law for each return.
 use borrow.Author.Needs.{needs}
 use native.Mathlib.Omega.{arith}
-use Rattle.flowspec.proofs.FeasibilityLaws.{rule-there, judge-refused, judge-read}
+use Rattle.request.proofs.JudgingLaws.{rule-there}
+use Rattle.flowspec.proofs.FeasibilityLaws.{judge-refused, judge-read}
 use Rattle.flowspec.proofs.judge_rule.Statement.{statement}
 use Rattle.flowspec.proofs.judge_rule.Tie as tie
 

@@ -1,10 +1,10 @@
 -- A rule that was read lies in its octets; then one law for each return.
 use borrow.Author.Needs.{needs}
 use native.Mathlib.Omega.{arith}
-use Rattle.flowspec.proofs.FeasibilityLaws.{rule-there}
-use Rattle.flowspec.proofs.RequestLaws.{ask-refused, ask-actions, ask-announce}
-use Rattle.flowspec.proofs.request_of.Statement.{statement}
-use Rattle.flowspec.proofs.request_of.Tie as tie
+use Rattle.request.proofs.JudgingLaws.{rule-there}
+use Rattle.request.proofs.RequestLaws.{ask-refused, ask-actions, ask-announce}
+use Rattle.request.proofs.request_of.Statement.{statement}
+use Rattle.request.proofs.request_of.Tie as tie
 
 add-end : tie.Need-add-end
 add-end c = omega (arith, rule-there _ _ _ _ _ _ (c .before .before .before .before .before .before .before .read-with-routes .ensures) (c .before .before .before .before .before .start .given .1))

@@ -1,9 +1,9 @@
 -- The destination is judged by the routes.
 use borrow.Author.Needs.{needs}
 use Rattle.rule.proofs.FamilyLaws.{chosen-fits}
-use Rattle.flowspec.proofs.FeasibilityLaws.{value-judged}
-use Rattle.flowspec.proofs.is_feasible.Statement.{statement}
-use Rattle.flowspec.proofs.is_feasible.Tie as tie
+use Rattle.request.proofs.JudgingLaws.{value-judged}
+use Rattle.request.proofs.is_feasible.Statement.{statement}
+use Rattle.request.proofs.is_feasible.Tie as tie
 
 destination-of-requires : tie.Need-destination-of-requires
 destination-of-requires c κs = search (chosen-fits, needs)

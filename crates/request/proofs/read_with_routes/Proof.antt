@@ -1,9 +1,9 @@
 -- Unsound routes are refused before the rule is read.
 use borrow.Author.Needs.{needs}
 use Rattle.rule.proofs.FamilyLaws.{chosen-fits}
-use Rattle.flowspec.proofs.FeasibilityLaws.{with-unsound, with-sound}
-use Rattle.flowspec.proofs.read_with_routes.Statement.{statement}
-use Rattle.flowspec.proofs.read_with_routes.Tie as tie
+use Rattle.request.proofs.JudgingLaws.{with-unsound, with-sound}
+use Rattle.request.proofs.read_with_routes.Statement.{statement}
+use Rattle.request.proofs.read_with_routes.Tie as tie
 
 sound-routes-requires : tie.Need-sound-routes-requires
 sound-routes-requires c κs = search (chosen-fits, needs)

@@ -4,7 +4,6 @@ use mathlib.Core.Bool.{Bool}
 use mathlib.Core.List.{List}
 use Prim.Native.Nat.{ℕ, _+_, _-_}
 use native.Mathlib.Nat.{add-sub-cancel-left}
-use borrow.Author.Tests.{eq-eqb, ne-eqb}
 use Rattle.octets.proofs.Cases.{apart}
 use Rattle.octets.proofs.Facts.{Octets}
 use Rattle.rule.specs.declared.Family.{Family}
@@ -17,25 +16,15 @@ use Rattle.action.specs.declared.Reading.{Reading as ActionsReading}
 use Rattle.action.specs.declared.Reading.the-variants.{Read, Unsound}
 use Rattle.action.specs.Actions.{actionsOf}
 use Rattle.table.proofs.EntryLaws.{octets-between}
-use Rattle.flowspec.specs.declared.Request.the-variants.{Announce, Refused}
-use Rattle.flowspec.specs.declared.Change.the-variants.{Done, Refused as NotDone}
-use Rattle.flowspec.specs.Input.{Announcement, Policy}
-use Rattle.flowspec.specs.Feasibility.{readWithRoutes, isFeasible}
-use Rattle.flowspec.specs.Announce.{changeOf, requestFor, requestOf}
-use Rattle.flowspec.proofs.FeasibilityLaws.{with-routes}
+use Rattle.request.specs.declared.Request.the-variants.{Announce, Refused}
+use Rattle.request.specs.Input.{Announcement, Policy}
+use Rattle.request.specs.Judging.{readWithRoutes, isFeasible}
+use Rattle.request.specs.Request.{requestFor, requestOf}
+use Rattle.request.proofs.JudgingLaws.{with-routes}
 
 -- a rule's value is octets
 pub octets-value : (rule : List ℕ) (start size : ℕ) → Octets rule → Octets (valueOf rule start size)
 octets-value rule start size o = rw (add-sub-cancel-left start size) at (octets-between rule start (start + size) o)
-
--- how `change_of` comes to its answers
-pub change-done : (number : ℕ) → number ≡ 0 → Done ≡ changeOf number
-unfolding changeOf
-change-done number h = rw (eq-eqb number 0 h)
-
-pub change-refused : (number : ℕ) → (number ≡ 0 → ⊥) → NotDone number 0 ≡ changeOf number
-unfolding changeOf
-change-refused number h = rw (ne-eqb number 0 h)
 
 module _ (family : Family) (policy : Policy) (a : Announcement) (reading : Reading) (read-is : reading ≡ readWithRoutes family (policy .routes) (a .rule)) where
   pub ask-refused : (number place : ℕ) → reading ≡ NotRead number place → Refused number place ≡ requestOf family policy a
