@@ -47,7 +47,8 @@ use Rattle.request.specs.Judging.{readWithRoutes, isFeasible}
 use Rattle.flowspec.specs.Feasibility.{feasibilityOf, judgeRead, judgement}
 use Rattle.request.specs.Request.{announcedEntry, requestFor, requestOf}
 use Rattle.flowspec.specs.Announce.{changeOf, announcedBy, announcing, withdrawnBy, withdrawing}
-use Rattle.flowspec.specs.Look.{openingOf, opening, lookedUp, lookingUp}
+use Rattle.lookup.specs.Opening.{openingOf, opening}
+use Rattle.flowspec.specs.Look.{lookedUp, lookingUp}
 
 -- ---- comparing ----
 

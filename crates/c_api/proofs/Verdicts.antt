@@ -21,7 +21,8 @@ use Rattle.table.specs.Sound.{soundTable}
 use Rattle.lookup.specs.Lookup.{hit, collected, mergedOnto, verdictOf, verdictFor}
 use Rattle.flowspec.specs.declared.Looked.{Looked}
 use Rattle.flowspec.specs.declared.Looked.the-variants.{Answered, Refused}
-use Rattle.flowspec.specs.Look.{openingOf, opening, noHead, lookedUp, lookingUp}
+use Rattle.lookup.specs.Opening.{openingOf, opening}
+use Rattle.flowspec.specs.Look.{noHead, lookedUp, lookingUp}
 
 onto-no-T : (a : Actions) (es : List Entry) → a .onward ≡ false → mergedOnto a es .onward ≡ false
 unfolding mergedOnto

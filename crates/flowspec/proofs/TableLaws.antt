@@ -19,9 +19,6 @@ use Rattle.rule.proofs.ReadingLaws.{ReadRule, one-read}
 use Rattle.order.specs.Key.{keysOf}
 use Rattle.action.specs.declared.Actions.{Actions}
 use Rattle.packet.specs.declared.Packet.{Packet}
-use Rattle.packet.specs.declared.Reading.{Reading as PacketReading}
-use Rattle.packet.specs.declared.Reading.the-variants.{Usable, Unusable}
-use Rattle.packet.specs.Packet.{packetOf}
 use Rattle.entry.specs.Entry.{entryFor}
 use Rattle.table.specs.declared.Soundness.{Soundness}
 use Rattle.table.specs.declared.Soundness.the-variants.{Sound, Unsound}
@@ -43,10 +40,11 @@ use Rattle.flowspec.specs.declared.Looked.the-variants.{Answered, Refuse
 use Rattle.flowspec.specs.declared.MatchPlace.{MatchPlace}
 use Rattle.request.specs.Request.{announcedEntry, requestOf}
 use Rattle.flowspec.specs.Announce.{Outcome, changeOf, outcome, refusal, announcing, withdrawing}
-use Rattle.flowspec.specs.declared.Opening.{Opening}
-use Rattle.flowspec.specs.declared.Opening.the-variants.{With, Refused as NotOpened}
+use Rattle.lookup.specs.declared.Opening.{Opening}
+use Rattle.lookup.specs.declared.Opening.the-variants.{With, Refused as NotOpened}
 use Rattle.request.specs.Input.{Announcement, Policy}
-use Rattle.flowspec.specs.Look.{opening, noHead, lookingUp, firstMatch, matchPlace}
+use Rattle.lookup.specs.Opening.{opening}
+use Rattle.flowspec.specs.Look.{noHead, lookingUp, firstMatch, matchPlace}
 use Rattle.flowspec.specs.Told.{changeTold, verdictTold, lookupTold, matchPlaceTold}
 use Rattle.flowspec.specs.Promise.{Announces, Withdraws, LooksUp, LocatesFirst}
 use Rattle.flowspec.proofs.ToldLaws.{announce-tells, withdraw-tells, lookup-tells, locate-tells}
@@ -149,21 +147,6 @@ module _ (family : Family) (t octets : List ℕ) where
 
   located : (answer : MatchPlace) → answer ≡ matchPlace family t octets → answer .start ≤ answer .end → answer .end ≤ length t → LocatesFirst family t octets answer (t ∷ octets ∷ [])
   located answer e ordered inside = record { is = e; tells = ap matchPlaceTold e ∙ locate-tells family t octets; ordered = ordered; inside = inside; keeps = refl }
-
-  -- what is seen
-  module _ (s : Soundness) (is : s ≡ soundness family t) where
-    pub see-unsound : s ≡ Unsound → NotOpened 10 ≡ opening family t octets
-    unfolding opening
-    see-unsound e = rw (was-unsound family t s is e)
-
-    module _ (used : ℕ) (e : s ≡ Sound used) (sight : PacketReading) (shows : sight ≡ packetOf family octets) where
-      pub see-unusable : sight ≡ Unusable → NotOpened 12 ≡ opening family t octets
-      unfolding opening
-      see-unusable f = rw (was-sound family t s is used e .0, ← shows, f)
-
-      pub see-usable : (packet : Packet) → sight ≡ Usable packet → With packet ≡ opening family t octets
-      unfolding opening
-      see-usable packet f = rw (was-sound family t s is used e .0, ← shows, f)
 
 -- a lookup that judges a packet is not refused
 judged-done : (verdict : Verdict) → 0 ≡ verdictTold verdict .number

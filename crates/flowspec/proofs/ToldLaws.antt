@@ -41,7 +41,8 @@ use Rattle.request.specs.Judging.{readWithRoutes, isFeasible}
 use Rattle.flowspec.specs.Feasibility.{judgeRead, judgement}
 use Rattle.request.specs.Request.{requestFor, requestOf, announcedEntry}
 use Rattle.flowspec.specs.Announce.{changeOf, announcedBy, announcing, withdrawnBy, withdrawing}
-use Rattle.flowspec.specs.Look.{opening, noHead, lookingUp, firstMatch, matchPlace}
+use Rattle.lookup.specs.Opening.{opening}
+use Rattle.flowspec.specs.Look.{noHead, lookingUp, firstMatch, matchPlace}
 use Rattle.flowspec.specs.Told.{Told, done, refused, readingTold, writingTold, comparisonTold, feasibilityTold, actionsTold, changeTold, verdictTold, lookupTold, matchPlaceTold}
 use Rattle.flowspec.specs.Checks.{judgeChecks, announceChecks, Check, check, oneToSeven, told, endsThere, readChecks, readValues, writeChecks, writeValues, compareChecks, compareValues, actionsChecks, actionsValues, withdrawChecks, lookupChecks, lookupValues, firstMatchValues, isSound, actionsRead}
 

@@ -3,20 +3,18 @@
 // of its addresses; the crates below take what that family decides, a struct of numbers, so that nothing there asks which family it is.
 ghost use mathlib.Core.Path.{_≡_};
 ghost use mathlib.Core.List.{[], _∷_};
-ghost use Rattle.rule.specs.Family.{familyOf, Fits};
+ghost use Rattle.rule.specs.Family.{familyOf};
 ghost use Rattle.flowspec.specs.Compare.{comparisonOf};
 ghost use Rattle.flowspec.specs.Feasibility.{feasibilityOf};
 ghost use Rattle.request.specs.Input.{announcementOf, policyOf};
 ghost use Rattle.flowspec.specs.Promise.{ReadsOne, WritesOne, ComparesTwo, JudgesOne, ReadsActions, Announces, Withdraws, LooksUp, LocatesFirst, FirstMatches};
 ghost use Rattle.flowspec.specs.Announce.{changeOf};
-ghost use Rattle.flowspec.specs.Look.{opening};
 use entry::Head;
+use lookup::Opening;
 use lookup::Verdict;
 use octets::Order;
-use packet::Packet;
 use request::Request;
 use rule::AddressFamily;
-use rule::Family;
 use rule::Reading;
 use spelling::Writing;
 use table::Soundness;
@@ -39,12 +37,6 @@ pub enum Feasibility {
 pub enum Change {
     Done,
     Refused { number: u8, place: usize },
-}
-
-// What a lookup begins with: what the packet shows, or the number of a refusal.
-pub enum Opening {
-    With(Packet),
-    Refused(u8),
 }
 
 // What a lookup answers: a verdict, or a refusal.
@@ -240,26 +232,12 @@ pub fn withdraw(family: AddressFamily, table: &mut [u8], rule: &[u8]) -> Change
     }
 }
 
-// Checks a table, and reads a packet's octets.
-fn open_lookup(family: Family, table: &[u8], packet: &[u8]) -> Opening
-    requires { ⌜ Fits family ⌝ }
-    ensures { λ r. ⌜ r ≡ opening family (now (table .entry)) (now (packet .entry)) ⌝ }
-{
-    match table::sound_table(family, table) {
-        Soundness::Unsound => Opening::Refused(10),
-        Soundness::Sound(_) => match packet::packet_of(family, packet) {
-            packet::Reading::Unusable => Opening::Refused(12),
-            packet::Reading::Usable(shown) => Opening::With(shown),
-        },
-    }
-}
-
 // Looks a packet up in a table.
 pub fn lookup(family: AddressFamily, table: &[u8], packet: &[u8]) -> Looked
     ensures { λ r. ⌜ LooksUp (familyOf family) (now (table .entry)) (now (packet .entry)) r (now (table .exit) ∷ now (packet .exit) ∷ []) ⌝ }
 {
     let family = rule::family_of(family);
-    match open_lookup(family, table, packet) {
+    match lookup::open_lookup(family, table, packet) {
         Opening::Refused(number) => Looked::Refused { number, place: 0 },
         Opening::With(shown) => Looked::Answered(lookup::look_up(family, b"", table, shown)),
     }
@@ -270,7 +248,7 @@ pub fn first_match_place(family: AddressFamily, table: &[u8], packet: &[u8]) -> 
     ensures { λ r. ⌜ LocatesFirst (familyOf family) (now (table .entry)) (now (packet .entry)) r (now (table .exit) ∷ now (packet .exit) ∷ []) ⌝ }
 {
     let family = rule::family_of(family);
-    match open_lookup(family, table, packet) {
+    match lookup::open_lookup(family, table, packet) {
         Opening::Refused(number) => MatchPlace {
             number,
             start: 0,

@@ -53,7 +53,8 @@ use Rattle.request.specs.Request.{requestOf}
 use Rattle.flowspec.specs.Announce.{changeOf, announcing, withdrawing}
 use Rattle.request.specs.Judging.{readWithRoutes, isFeasible}
 use Rattle.flowspec.specs.Feasibility.{judgement}
-use Rattle.flowspec.specs.Look.{opening, lookingUp, firstMatch, matchPlace}
+use Rattle.lookup.specs.Opening.{opening}
+use Rattle.flowspec.specs.Look.{lookingUp, firstMatch, matchPlace}
 use Rattle.flowspec.specs.Told.{lookupTold, done}
 use Rattle.flowspec.specs.Promise.{LooksUp}
 use Rattle.flowspec.proofs.TableLaws.{announce-kept, withdraw-kept}

@@ -1,4 +1,5 @@
-// Looking a packet up in a table: the verdict on it, and where the first match's record stands (01, "Matching and lookup").
+// Looking a packet up in a table: what a lookup begins with, the verdict on the packet, and where the first match's record stands (01,
+// "Matching and lookup").
 ghost use mathlib.Core.Path.{_≡_};
 ghost use Prim.Native.Nat.{_≤_};
 ghost use lib.ListN.{length};
@@ -7,13 +8,21 @@ ghost use Rattle.rule.specs.Family.{Fits};
 ghost use Rattle.rule.specs.Value.{headOf};
 ghost use Rattle.entry.specs.Record.{headCost, entryOf};
 ghost use Rattle.table.specs.Walk.{entries};
+ghost use Rattle.lookup.specs.Opening.{opening};
 ghost use Rattle.lookup.specs.Lookup.{hit, hitOf, verdictOf, verdictFor, firstPlace};
 use action::Actions;
 use packet::Packet;
 use rule::Family;
 use table::NextRecord;
 use table::Place;
+use table::Soundness;
 use table::record_at;
+
+// What a lookup begins with: what the packet shows, or the number of a refusal.
+pub enum Opening {
+    With(Packet),
+    Refused(u8),
+}
 
 // What a lookup says of a packet: no rule matches, or the merged actions of the rules collected and their count.
 pub enum Verdict {
@@ -26,6 +35,20 @@ pub enum Hit {
     Missed,
     GoesOn(Actions),
     Stops(Actions),
+}
+
+// Checks a table, and reads a packet's octets.
+pub fn open_lookup(family: Family, table: &[u8], packet: &[u8]) -> Opening
+    requires { ⌜ Fits family ⌝ }
+    ensures { λ r. ⌜ r ≡ opening family (now (table .entry)) (now (packet .entry)) ⌝ }
+{
+    match table::sound_table(family, table) {
+        Soundness::Unsound => Opening::Refused(10),
+        Soundness::Sound(_) => match packet::packet_of(family, packet) {
+            packet::Reading::Unusable => Opening::Refused(12),
+            packet::Reading::Usable(shown) => Opening::With(shown),
+        },
+    }
 }
 
 // Whether a value's head is the given one.

@@ -1,8 +1,8 @@
 -- One law for each return.
 use borrow.Author.Needs.{needs}
-use Rattle.flowspec.proofs.TableLaws.{see-unsound, see-unusable, see-usable}
-use Rattle.flowspec.proofs.open_lookup.Statement.{statement}
-use Rattle.flowspec.proofs.open_lookup.Tie as tie
+use Rattle.lookup.proofs.OpeningLaws.{see-unsound, see-unusable, see-usable}
+use Rattle.lookup.proofs.open_lookup.Statement.{statement}
+use Rattle.lookup.proofs.open_lookup.Tie as tie
 
 sound-table-requires : tie.Need-sound-table-requires
 sound-table-requires c κs = search needs
