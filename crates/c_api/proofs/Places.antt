@@ -30,8 +30,8 @@ use Rattle.entry.specs.Entry.{Entry}
 use Rattle.table.specs.Sound.{soundTable}
 use Rattle.table.specs.Change.{holds, hasRoom, announced, withdrawn}
 use Rattle.rule.specs.Value.{mostValue}
-use Rattle.flowspec.specs.declared.Comparison.{Comparison}
-use Rattle.flowspec.specs.declared.Comparison.the-variants.{First, Second, Same, Refused as NotCompared}
+use Rattle.order.specs.declared.Comparison.{Comparison}
+use Rattle.order.specs.declared.Comparison.the-variants.{First, Second, Same, Refused as NotCompared}
 use Rattle.flowspec.specs.declared.Feasibility.{Feasibility}
 use Rattle.flowspec.specs.declared.Feasibility.the-variants.{Feasible, Refused as NotFeasible}
 use Rattle.request.specs.declared.Request.{Request}
@@ -41,7 +41,7 @@ use Rattle.flowspec.specs.declared.Change.the-variants.{Done, Refused as NotDon
 use Rattle.flowspec.specs.declared.Looked.{Looked}
 use Rattle.flowspec.specs.declared.Looked.the-variants.{Answered, Refused as NotLookedUp}
 use Rattle.flowspec.specs.Told.{changeTold}
-use Rattle.flowspec.specs.Compare.{comparisonOf, compareRead, compareRules}
+use Rattle.order.specs.Compare.{comparisonOf, compareRead, compareRules}
 use Rattle.request.specs.Input.{Announcement, Policy}
 use Rattle.request.specs.Judging.{readWithRoutes, isFeasible}
 use Rattle.flowspec.specs.Feasibility.{feasibilityOf, judgeRead, judgement}

@@ -9,7 +9,7 @@ use Rattle.rule.specs.Family.{ipv4}
 use Rattle.rule.specs.Reading.{oneRule}
 use Rattle.spelling.specs.Writing.{writing, afterWriting}
 use Rattle.action.specs.Actions.{actionsOf}
-use Rattle.flowspec.specs.Compare.{compareRules}
+use Rattle.order.specs.Compare.{compareRules}
 use Rattle.request.specs.Input.{Announcement, Policy}
 use Rattle.flowspec.specs.Feasibility.{judgement}
 use Rattle.flowspec.specs.Announce.{announcing, withdrawing}

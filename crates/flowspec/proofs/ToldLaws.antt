@@ -35,7 +35,7 @@ use Rattle.table.specs.Sound.{soundTable}
 use Rattle.lookup.specs.Lookup.{hit, collected, mergedOnto, verdictOf, verdictFor}
 use Rattle.table.specs.Change.{holds, hasRoom, withdrawn}
 use Rattle.flowspec.specs.declared.Looked.the-variants.{Answered}
-use Rattle.flowspec.specs.Compare.{comparisonOf, compareRead, compareRules}
+use Rattle.order.specs.Compare.{comparisonOf, compareRead, compareRules}
 use Rattle.request.specs.Input.{Announcement, Policy}
 use Rattle.request.specs.Judging.{readWithRoutes, isFeasible}
 use Rattle.flowspec.specs.Feasibility.{judgeRead, judgement}

@@ -1,5 +1,4 @@
 -- The definitions of this crate, in the order in which to read them.
-pub mod Compare
 pub mod Feasibility
 pub mod Announce
 pub mod Told

@@ -13,7 +13,7 @@ use Rattle.rule.specs.declared.Reading.{Reading}
 use Rattle.spelling.specs.declared.Writing.{Writing}
 use Rattle.rule.specs.Reading.{oneRule}
 use Rattle.spelling.specs.Writing.{writing, afterWriting}
-use Rattle.flowspec.specs.declared.Comparison.{Comparison}
+use Rattle.order.specs.declared.Comparison.{Comparison}
 use Rattle.action.specs.declared.Reading.{Reading as ActionsReading}
 use Rattle.action.specs.Actions.{actionsOf}
 use Rattle.flowspec.specs.declared.Feasibility.{Feasibility}
@@ -24,7 +24,7 @@ use Rattle.request.specs.Input.{Announcement, Policy}
 use Rattle.flowspec.specs.Announce.{announcing, withdrawing}
 use Rattle.flowspec.specs.Look.{lookingUp, firstMatch, matchPlace}
 use Rattle.rule.specs.Value.{between}
-use Rattle.flowspec.specs.Compare.{compareRules}
+use Rattle.order.specs.Compare.{compareRules}
 use Rattle.flowspec.specs.Feasibility.{judgement}
 use Rattle.flowspec.specs.Told.{readingTold, writingTold, comparisonTold, feasibilityTold, actionsTold, changeTold, lookupTold, matchPlaceTold}
 use Rattle.flowspec.specs.Checks.{told, readChecks, readValues, writeChecks, writeValues, compareChecks, compareValues, judgeChecks, actionsChecks, actionsValues, announceChecks, withdrawChecks, lookupChecks, lookupValues, firstMatchValues}

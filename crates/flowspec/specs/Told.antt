@@ -12,8 +12,8 @@ use Rattle.action.specs.declared.Reading.the-variants.{Read, Unsound}
 use Rattle.action.specs.Actions.{valuesOf}
 use Rattle.lookup.specs.declared.Verdict.{Verdict}
 use Rattle.lookup.specs.declared.Verdict.the-variants.{Unmatched, Matched}
-use Rattle.flowspec.specs.declared.Comparison.{Comparison}
-use Rattle.flowspec.specs.declared.Comparison.the-variants.{First, Second, Same, Refused as NotCompared}
+use Rattle.order.specs.declared.Comparison.{Comparison}
+use Rattle.order.specs.declared.Comparison.the-variants.{First, Second, Same, Refused as NotCompared}
 use Rattle.flowspec.specs.declared.Feasibility.{Feasibility}
 use Rattle.flowspec.specs.declared.Feasibility.the-variants.{Feasible, Refused as NotFeasible}
 use Rattle.flowspec.specs.declared.Change.{Change}

@@ -4,7 +4,6 @@
 ghost use mathlib.Core.Path.{_≡_};
 ghost use mathlib.Core.List.{[], _∷_};
 ghost use Rattle.rule.specs.Family.{familyOf};
-ghost use Rattle.flowspec.specs.Compare.{comparisonOf};
 ghost use Rattle.flowspec.specs.Feasibility.{feasibilityOf};
 ghost use Rattle.request.specs.Input.{announcementOf, policyOf};
 ghost use Rattle.flowspec.specs.Promise.{ReadsOne, WritesOne, ComparesTwo, JudgesOne, ReadsActions, Announces, Withdraws, LooksUp, LocatesFirst, FirstMatches};
@@ -12,20 +11,12 @@ ghost use Rattle.flowspec.specs.Announce.{changeOf};
 use entry::Head;
 use lookup::Opening;
 use lookup::Verdict;
-use octets::Order;
+use order::Comparison;
 use request::Request;
 use rule::AddressFamily;
 use rule::Reading;
 use spelling::Writing;
 use table::Soundness;
-
-// Which of two rules comes first, that they are the same rule, or a refusal.
-pub enum Comparison {
-    First,
-    Second,
-    Same,
-    Refused { number: u8, place: usize },
-}
 
 // That a rule is feasible, or a refusal.
 pub enum Feasibility {
@@ -66,42 +57,11 @@ pub fn write_rule(family: AddressFamily, value: &[u8], buffer: &mut [u8]) -> Wri
     spelling::write_rule(rule::family_of(family), value, buffer)
 }
 
-// What an order of two values means for their rules.
-fn comparison_of(which: Order) -> Comparison
-    ensures { λ r. ⌜ r ≡ comparisonOf which ⌝ }
-{
-    match which {
-        Order::First => Comparison::First,
-        Order::Second => Comparison::Second,
-        Order::Same => Comparison::Same,
-    }
-}
-
 // Compares two rules by their precedence.
 pub fn compare_rules(family: AddressFamily, first: &[u8], second: &[u8]) -> Comparison
     ensures { λ r. ⌜ ComparesTwo (familyOf family) (now (first .entry)) (now (second .entry)) r (now (first .exit) ∷ now (second .exit) ∷ []) ⌝ }
 {
-    let family = rule::family_of(family);
-    let left = rule::one_rule(family, first);
-    let right = rule::one_rule(family, second);
-    match left {
-        Reading::Refused { number, place } => Comparison::Refused { number, place },
-        Reading::Rule { start, size } => match right {
-            Reading::Refused { number, place } => Comparison::Refused { number, place },
-            Reading::Rule {
-                start: begin,
-                size: span,
-            } => {
-                let end = start + size;
-                let stop = begin + span;
-                comparison_of(order::compare_values(
-                    family,
-                    &first[start..end],
-                    &second[begin..stop],
-                ))
-            }
-        },
-    }
+    order::compare_rules(rule::family_of(family), first, second)
 }
 
 // What is answered of a rule that was judged: infeasible is refusal 8.

@@ -28,13 +28,13 @@ use Rattle.table.proofs.SoundLaws.{sound-encodes}
 use Rattle.table.proofs.AgainLaws.{sound-with, room-again, inserted-again, holds-with, removed-again, inserted-either}
 use Rattle.flowspec.specs.declared.Change.{Change}
 use Rattle.flowspec.specs.declared.Change.the-variants.{Done, Refused}
-use Rattle.flowspec.specs.declared.Comparison.the-variants.{Same}
+use Rattle.order.specs.declared.Comparison.the-variants.{Same}
 use Rattle.request.specs.declared.Request.{Request}
 use Rattle.request.specs.declared.Request.the-variants.{Announce, Refused as NoRequest}
 use Rattle.request.specs.Input.{Announcement, Policy}
 use Rattle.request.specs.Request.{announcedEntry, requestOf}
 use Rattle.flowspec.specs.Announce.{Outcome, changeOf, announcedBy, announcing, withdrawing}
-use Rattle.flowspec.specs.Compare.{compareRules}
+use Rattle.order.specs.Compare.{compareRules}
 use Rattle.flowspec.specs.Promise.{Announces, Withdraws}
 use Rattle.request.proofs.RequestLaws.{octets-value, asked-from}
 use Rattle.history.proofs.HistoryLaws.{asked-could}

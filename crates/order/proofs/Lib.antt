@@ -2,3 +2,4 @@
 pub mod TurnLaws
 pub mod BodyLaws
 pub mod KeyLaws
+pub mod CompareLaws

@@ -4,11 +4,13 @@ ghost use Rattle.octets.specs.Order.{ordered};
 ghost use Rattle.rule.specs.Family.{Fits};
 ghost use Rattle.rule.specs.Value.{components, component, checkValue};
 ghost use Rattle.order.specs.Precedence.{bodyOrder, componentOrder, componentsOrder, headsOrder, plainOrder, precedence};
+ghost use Rattle.order.specs.Compare.{comparisonOf, compareRules};
 ghost use Rattle.order.specs.Turn.{runsOut, turnFor, Turned};
 use octets::Order;
 use rule::Checked;
 use rule::Family;
 use rule::Next;
+use rule::Reading;
 
 // Two bodies of one type: prefixes as prefixes, others octet by octet.
 pub fn compare_bodies(family: Family, kind: u8, first: &[u8], second: &[u8]) -> Order
@@ -164,4 +166,46 @@ pub fn compare_values(family: Family, first: &[u8], second: &[u8]) -> Order
     spelling::fill_plain(family, first, &mut work);
     spelling::fill_plain(family, second, &mut space);
     compare_plain(family, &work[..size], &space[..other])
+}
+
+// Which of two rules comes first, that they are the same rule, or a refusal.
+pub enum Comparison {
+    First,
+    Second,
+    Same,
+    Refused { number: u8, place: usize },
+}
+
+// What an order of two values means for their rules.
+fn comparison_of(which: Order) -> Comparison
+    ensures { λ r. ⌜ r ≡ comparisonOf which ⌝ }
+{
+    match which {
+        Order::First => Comparison::First,
+        Order::Second => Comparison::Second,
+        Order::Same => Comparison::Same,
+    }
+}
+
+// Reads two rules, the first before the second, and compares their values.
+pub fn compare_rules(family: Family, first: &[u8], second: &[u8]) -> Comparison
+    requires { ⌜ Fits family ⌝ }
+    ensures { λ r. ⌜ r ≡ compareRules family (now (first .entry)) (now (second .entry)) ⌝ }
+{
+    let left = rule::one_rule(family, first);
+    let right = rule::one_rule(family, second);
+    match left {
+        Reading::Refused { number, place } => Comparison::Refused { number, place },
+        Reading::Rule { start, size } => match right {
+            Reading::Refused { number, place } => Comparison::Refused { number, place },
+            Reading::Rule {
+                start: begin,
+                size: span,
+            } => {
+                let end = start + size;
+                let stop = begin + span;
+                comparison_of(compare_values(family, &first[start..end], &second[begin..stop]))
+            }
+        },
+    }
 }

@@ -16,9 +16,9 @@ use Rattle.rule.specs.Reading.{valueOf, oneRule}
 use Rattle.rule.proofs.ReadingLaws.{one-read}
 use Rattle.order.specs.Precedence.{precedence}
 use Rattle.order.proofs.KeyLaws.{equal-ties, tie-equal, precedence-flip, precedence-trans}
-use Rattle.flowspec.specs.declared.Comparison.{Comparison}
-use Rattle.flowspec.specs.declared.Comparison.the-variants.{First, Second, Same, Refused}
-use Rattle.flowspec.specs.Compare.{IsRule, SameRule, comparisonOf, compareRead, compareRules}
+use Rattle.order.specs.declared.Comparison.{Comparison}
+use Rattle.order.specs.declared.Comparison.the-variants.{First, Second, Same, Refused}
+use Rattle.order.specs.Compare.{IsRule, SameRule, comparisonOf, compareRead, compareRules}
 use Rattle.flowspec.specs.Promise.{ComparesTwo}
 use Rattle.request.proofs.RequestLaws.{octets-value}
 

@@ -19,7 +19,7 @@ use Rattle.rule.specs.Reading.{checkRule}
 use Rattle.rule.proofs.RefusalsLaws.{Numbered, value-numbered, rule-numbered}
 use Rattle.action.specs.declared.Reading.{Reading as ActionsReading}
 use Rattle.packet.specs.Header.{isUnusable}
-use Rattle.flowspec.specs.declared.Comparison.{Comparison}
+use Rattle.order.specs.declared.Comparison.{Comparison}
 use Rattle.flowspec.specs.declared.Feasibility.{Feasibility}
 use Rattle.flowspec.specs.declared.Change.{Change}
 use Rattle.flowspec.specs.declared.Looked.{Looked}

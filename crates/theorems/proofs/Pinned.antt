@@ -9,7 +9,7 @@ use Rattle.action.specs.declared.Actions.{Actions}
 use Rattle.action.specs.declared.Reading.the-variants.{Read, Unsound}
 use Rattle.action.specs.Actions.{flagsOf}
 use Rattle.lookup.specs.declared.Verdict.the-variants.{Unmatched, Matched}
-use Rattle.flowspec.specs.declared.Comparison.the-variants.{First, Second, Same, Refused as NotCompared}
+use Rattle.order.specs.declared.Comparison.the-variants.{First, Second, Same, Refused as NotCompared}
 use Rattle.flowspec.specs.declared.Feasibility.the-variants.{Feasible, Refused as NotFeasible}
 use Rattle.flowspec.specs.declared.Change.the-variants.{Done, Refused as NotDone}
 use Rattle.flowspec.specs.declared.Looked.the-variants.{Answered, Refused as NotLookedUp}

@@ -19,7 +19,7 @@ use Rattle.rule.proofs.ComponentsLaws.{SoundComponent, each-octets, each-sound}
 use Rattle.route.specs.Route.{routesOf}
 use Rattle.route.specs.Destination.{destinationFor, destinationAmong, destinationOf}
 use Rattle.route.proofs.AlikeLaws.{AlikeTo, destinations-alike}
-use Rattle.packet.proofs.PatternLaws.{pattern-plain}
+use Rattle.matching.proofs.PatternLaws.{pattern-plain}
 use Rattle.request.specs.Input.{Policy}
 use Rattle.request.specs.Judging.{isFeasible}
 

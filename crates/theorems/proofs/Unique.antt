@@ -6,7 +6,7 @@ use Rattle.rule.specs.declared.Family.{Family}
 use Rattle.rule.specs.declared.Reading.{Reading}
 use Rattle.spelling.specs.declared.Writing.{Writing}
 use Rattle.action.specs.declared.Reading.{Reading as ActionsReading}
-use Rattle.flowspec.specs.declared.Comparison.{Comparison}
+use Rattle.order.specs.declared.Comparison.{Comparison}
 use Rattle.flowspec.specs.declared.Feasibility.{Feasibility}
 use Rattle.flowspec.specs.declared.Change.{Change}
 use Rattle.flowspec.specs.declared.Looked.{Looked}

@@ -18,7 +18,7 @@ use Rattle.packet.specs.declared.Reading.{Reading as PacketReading}
 use Rattle.packet.specs.declared.Reading.the-variants.{Usable, Unusable}
 use Rattle.packet.specs.Packet.{packetOf}
 use Rattle.matching.specs.Match.{matches}
-use Rattle.flowspec.specs.Compare.{comparisonOf}
+use Rattle.order.specs.Compare.{comparisonOf}
 use Rattle.flowspec.specs.Told.{comparisonTold}
 
 -- What an example asks: how a length is written; the size of a length field and the length it gives; what is said of a value; which of

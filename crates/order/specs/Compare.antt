@@ -10,9 +10,9 @@ use Rattle.rule.specs.declared.Reading.{Reading}
 use Rattle.rule.specs.declared.Reading.the-variants.{Rule, Refused as NotRead}
 use Rattle.spelling.specs.Plain.{plain}
 use Rattle.rule.specs.Reading.{valueOf, oneRule}
 use Rattle.order.specs.Precedence.{precedence}
-use Rattle.flowspec.specs.declared.Comparison.{Comparison}
-use Rattle.flowspec.specs.declared.Comparison.the-variants.{First, Second, Same, Refused}
+use Rattle.order.specs.declared.Comparison.{Comparison}
+use Rattle.order.specs.declared.Comparison.the-variants.{First, Second, Same, Refused}
 
 -- Of two rules the first comes first, the second does, or they are the same rule.
 abbrev pub comparisonOf : Order → Comparison
