@@ -11,11 +11,11 @@ use Rattle.rule.specs.declared.Reading.{Reading}
 use Rattle.rule.specs.declared.Reading.the-variants.{Rule, Refused as NotRead}
 use Rattle.rule.specs.Reading.{valueOf, oneRule}
 use Rattle.rule.proofs.ReadingLaws.{ReadRule, one-read}
+use Rattle.rule.proofs.ComponentsLaws.{octets-between}
 use Rattle.action.specs.declared.Actions.{Actions}
 use Rattle.action.specs.declared.Reading.{Reading as ActionsReading}
 use Rattle.action.specs.declared.Reading.the-variants.{Read, Unsound}
 use Rattle.action.specs.Actions.{actionsOf}
-use Rattle.table.proofs.EntryLaws.{octets-between}
 use Rattle.request.specs.declared.Request.the-variants.{Announce, Refused}
 use Rattle.request.specs.Input.{Announcement, Policy}
 use Rattle.request.specs.Judging.{readWithRoutes, isFeasible}

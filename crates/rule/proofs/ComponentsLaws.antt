@@ -8,7 +8,7 @@ use native.Mathlib.Omega.{arith}
 use native.Mathlib.Decide.{decLt}
 use native.Mathlib.Numerals.{add-one}
 use native.Mathlib.Nat.{add-zero}
-use lib.ListN.{length, getD, drop, take-append-drop, drop-of-length-le, length-drop, List·getD-eq-default}
+use lib.ListN.{length, getD, drop, take-append-drop, drop-of-length-le, length-take, length-drop, List·getD-eq-default}
 use lib.Seq.{drop-cons, drop-drop, getD-take, getD-drop, length-take-le}
 use Rattle.octets.specs.Test.{Each}
 use Rattle.octets.proofs.Cases.{by-test}
@@ -29,6 +29,14 @@ between-octet v from to i h = getD-take (to - from) (drop from v) i 0 h ∙ getD
 
 pub between-length : (v : List ℕ) (from to : ℕ) → from ≤ to → to ≤ length v → length (between v from to) ≡ to - from
 between-length v from to h inside = let l = length-drop from v in length-take-le (to - from) (drop from v) (omega arith)
+
+-- a part of octets is octets
+pub octets-between : (t : List ℕ) (from to : ℕ) → Octets t → Octets (between t from to)
+octets-between t from to o i =
+    elim (decLt i (to - from)) [
+      | yes h ↦ rw (between-octet t from to i h) (o (from + i))
+      | no h ↦ rw (List·getD-eq-default (between t from to) 0 {n = i} (simp length-take (omega arith))) (omega arith)
+    ]
 
 -- the octets up to a place, and those from it on
 between-then : (v : List ℕ) (from to : ℕ) → from ≤ to → between v from to ++ drop to v ≡ drop from v
@@ -137,13 +145,4 @@ module _ (family : Family) (v : List ℕ) where
 
   -- each body of a value of octets is one of octets
   pub each-octets : Octets v → Each (λ p. Octets (p .body)) (components family v)
-  each-octets o =
-      each-found family v (λ p. Octets (p .body))
-      (λ at previous kind next f i.
-      elim (decLt i (next - (at + 1))) [
-        | yes h ↦ rw (between-octet v (at + 1) next i h) (o (at + 1 + i))
-        | no h ↦
-            let within = f .within in
-            let l = between-length v (at + 1) next (omega arith) (within .1) in
-            rw (List·getD-eq-default (between v (at + 1) next) 0 {n = i} (omega arith)) (omega arith)
-      ])
+  each-octets o = each-found family v (λ p. Octets (p .body)) (λ at previous kind next f. octets-between v (at + 1) next o)

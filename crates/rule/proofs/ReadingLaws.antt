@@ -3,10 +3,12 @@ use mathlib.Core.Path.{_≡_, refl, sym, subst, _∙_}
 use mathlib.Core.List.{List}
 use Prim.Native.Nat.{ℕ, _+_, _-_, _*_, _<_, _≤_}
 use native.Mathlib.Omega.{arith}
+use native.Mathlib.Decide.{decLt}
 use native.Mathlib.Nat.{add-sub-cancel-left}
 use lib.Bits.{bitAnd, and-le-r}
 use lib.Dec.{ltb, eqb}
 use lib.ListN.{length, getD, take, drop}
+use lib.Seq.{getD-take}
 use borrow.Author.Tests.{lt-ltb, le-ltb, ltb-false, eq-eqb, ne-eqb}
 use Rattle.octets.proofs.Cases.{by-test}
 use Rattle.rule.specs.declared.Family.{Family}
@@ -36,6 +38,36 @@ module _ (s : List ℕ) (first : ℕ) (is : first ≡ getD s 0 0) where
   pub long-length : (second : ℕ) → 0xf0 ≤ first → second ≡ getD s 1 0 → bitAnd first 0x0f * 256 + second ≡ fieldLength s
   unfolding fieldLength
   long-length second h e = rw (← is, le-ltb _ _ h, e)
+
+-- a length field has an octet, and is that of every front that has all of it
+module _ (s : List ℕ) where
+  pub some-field : 1 ≤ fieldSize s
+  some-field =
+      elim (decLt (getD s 0 0) 0xf0) [
+        | yes h ↦ let e = short-size s (getD s 0 0) refl h in omega arith
+        | no h ↦ let e = long-size s (getD s 0 0) refl (omega arith) in omega arith
+      ]
+
+  module _ (n : ℕ) (inside : fieldSize s ≤ n) where
+    first-octet : getD s 0 0 ≡ getD (take n s) 0 0
+    first-octet = sym (getD-take n s 0 0 (omega (arith, some-field)))
+
+    pub front-size : fieldSize (take n s) ≡ fieldSize s
+    front-size =
+        elim (decLt (getD s 0 0) 0xf0) [
+          | yes h ↦ sym (short-size (take n s) (getD s 0 0) first-octet h) ∙ short-size s (getD s 0 0) refl h
+          | no h ↦ sym (long-size (take n s) (getD s 0 0) first-octet (omega arith)) ∙ long-size s (getD s 0 0) refl (omega arith)
+        ]
+
+    pub front-length : fieldLength (take n s) ≡ fieldLength s
+    front-length =
+        elim (decLt (getD s 0 0) 0xf0) [
+          | yes h ↦ sym (short-length (take n s) (getD s 0 0) first-octet h) ∙ short-length s (getD s 0 0) refl h
+          | no h ↦
+              let two = long-size s (getD s 0 0) refl (omega arith) in
+              sym (long-length (take n s) (getD s 0 0) first-octet (getD s 1 0) (omega arith) (sym (getD-take n s 1 0 (omega arith))))
+              ∙ long-length s (getD s 0 0) refl (getD s 1 0) (omega arith) refl
+        ]
 
 pub high-small : (x : ℕ) → bitAnd x 0x0f ≤ 15
 high-small x = and-le-r x 15

@@ -22,6 +22,7 @@ use Rattle.sorted.proofs.MemberLaws.{every-in, found-in}
 use Rattle.sorted.proofs.TableLaws.{remove-absent}
 use Rattle.rule.specs.declared.Family.{Family}
 use Rattle.rule.specs.Family.{Fits}
+use Rattle.rule.proofs.ComponentsLaws.{octets-between}
 use Rattle.order.specs.Key.{RuleKey, keyOrder}
 use Rattle.order.proofs.KeyLaws.{key-order, keys-only}
 use Rattle.entry.specs.Entry.{Entry, entryKey, plainValue, possible}
@@ -34,7 +35,6 @@ use Rattle.table.specs.Sound.{cost, tableOf, Encodes, soundTable}
 use Rattle.table.specs.Place.{placeIn}
 use Rattle.table.specs.Change.{holds, entriesWithout, removed, hasRoom, inserted, Changed, announced, withdrawn, Leaves}
 use Rattle.table.proofs.SpliceLaws.{cut-front, gap-front, table-rest, table-record, table-cut, table-over, table-put}
-use Rattle.table.proofs.EntryLaws.{octets-between}
 use Rattle.table.proofs.FindLaws.{place-start, place-held, place-absent}
 use Rattle.table.proofs.SoundLaws.{sound-encodes}
 

@@ -5,11 +5,10 @@ use mathlib.Core.Bool.{true}
 use mathlib.Core.List.{List, [], _∷_, map}
 use Prim.Native.Nat.{ℕ, zero, suc, _+_, _-_, _^_, _≤_}
 use native.Mathlib.Omega.{arith}
-use native.Mathlib.Decide.{decLt}
 use native.Mathlib.Nat.{sub-zero}
 use lib.Dec.{ltb}
-use lib.ListN.{length, take, drop, length-take, length-drop, List·getD-eq-default}
-use lib.Seq.{drop-drop, getD-drop, getD-take, take-nil}
+use lib.ListN.{length, take, drop, length-take, length-drop}
+use lib.Seq.{drop-drop, take-nil}
 use Rattle.octets.proofs.Cases.{both}
 use Rattle.octets.proofs.Facts.{Octets}
 use Rattle.octets.proofs.NumberLaws.{number-part}
@@ -38,14 +37,6 @@ drop-take zero n l = rw (sub-zero n)
 drop-take (suc m) zero l = let z : 0 - suc m ≡ 0 = omega arith in rw z
 drop-take (suc m) (suc n) [] = sym (take-nil (suc n - suc m))
 drop-take (suc m) (suc n) (x ∷ l) = let e : suc n - suc m ≡ n - m = omega arith in rw e (drop-take m n l)
-
--- a part of octets is octets
-pub octets-between : (t : List ℕ) (from to : ℕ) → Octets t → Octets (between t from to)
-octets-between t from to o i =
-    elim (decLt i (to - from)) [
-      | yes h ↦ rw (getD-take (to - from) (drop from t) i 0 h, getD-drop from t i 0) (o (from + i))
-      | no h ↦ rw (List·getD-eq-default (take (to - from) (drop from t)) 0 {n = i} (simp length-take (omega arith))) (omega arith)
-    ]
 
 module _ (t : List ℕ) (at next : ℕ) (found : recordAt t at ≡ Record next) where
   bounds : (at + headCost ≤ next) × (next ≤ length t) × (at ≤ length t)

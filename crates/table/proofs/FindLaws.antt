@@ -24,6 +24,7 @@ use Rattle.sorted.proofs.SplitLaws.{front}
 use Rattle.rule.specs.declared.Family.{Family}
 use Rattle.rule.specs.Family.{Fits}
 use Rattle.rule.specs.Value.{between}
+use Rattle.rule.proofs.ComponentsLaws.{octets-between}
 use Rattle.order.specs.Precedence.{plainOrder}
 use Rattle.order.specs.Key.{RuleKey, keysOf, keyOrder}
 use Rattle.table.specs.declared.NextRecord.{NextRecord}
@@ -34,7 +35,7 @@ use Rattle.table.specs.Walk.{recordAt, recordsFrom, records, entries}
 use Rattle.table.specs.Sound.{mostOctets, cost, soundTable}
 use Rattle.table.specs.Place.{placeIn}
 use Rattle.table.proofs.WalkLaws.{was-found, records-more, records-end, records-unsound}
-use Rattle.table.proofs.EntryLaws.{entriesFrom, octets-between, value-there, cost-there, plain-order, good-value}
+use Rattle.table.proofs.EntryLaws.{entriesFrom, value-there, cost-there, plain-order, good-value}
 
 items : Walk (List ℕ) Bool → List (List ℕ)
 items w = w .items

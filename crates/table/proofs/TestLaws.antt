@@ -20,6 +20,7 @@ use Rattle.sorted.proofs.Cases.{by-order}
 use Rattle.rule.specs.declared.Family.{Family}
 use Rattle.rule.specs.Family.{Fits}
 use Rattle.rule.specs.Value.{between}
+use Rattle.rule.proofs.ComponentsLaws.{octets-between}
 use Rattle.order.specs.Precedence.{plainOrder}
 use Rattle.order.specs.Key.{keyOrder}
 use Rattle.table.specs.declared.NextRecord.{NextRecord}
@@ -32,7 +33,7 @@ use Rattle.table.specs.Walk.{recordAt, recordsFrom, records, entries}
 use Rattle.table.specs.Sound.{mostOctets, cost, soundTable, soundness}
 use Rattle.table.specs.Follow.{Adjacent, followsAt}
 use Rattle.table.proofs.WalkLaws.{was-found, records-more, records-end, records-unsound}
-use Rattle.table.proofs.EntryLaws.{entriesFrom, octets-between, value-there, cost-there, plain-order, good-value}
+use Rattle.table.proofs.EntryLaws.{entriesFrom, value-there, cost-there, plain-order, good-value}
 
 module _ (family : Family) where
   -- how `follows` comes to its answers

@@ -32,16 +32,16 @@ use Rattle.flowspec.specs.Promise.{ReadsOne, WritesOne, ComparesTwo, JudgesOne,
 use Rattle.theorems.proofs.ChecksLaws.{number-at, value-at, all-hold}
 
 -- a refusal of 1 to 7 has no other check's number, and not 0
-other : (c : Checked) → Numbered c → (n : ℕ) → 7 < n → eqb (oneToSeven c .number) n ≡ false
+pub other : (c : Checked) → Numbered c → (n : ℕ) → 7 < n → eqb (oneToSeven c .number) n ≡ false
 other Accepted h n k = ne-eqb 0 n (λ e. omega arith)
 other (Refused number place) h n k = ne-eqb number n (λ e. omega arith)
 
-given : (c : Checked) → Numbered c → oneToSeven c .holds ≡ false → 1 ≤ oneToSeven c .number
+pub given : (c : Checked) → Numbered c → oneToSeven c .holds ≡ false → 1 ≤ oneToSeven c .number
 given Accepted h e = apart (cc)
 given (Refused number place) h e = h .0
 
 -- a number from 1 to 7 is none of the others
-far : (m n : ℕ) → n ≤ 7 → 7 < m → eqb m n ≡ false
+pub far : (m n : ℕ) → n ≤ 7 → 7 < m → eqb m n ≡ false
 far m n h k = ne-eqb m n (λ e. omega arith)
 
 module _ (family : Family) (rule : List ℕ) where
