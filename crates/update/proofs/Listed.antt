@@ -1,0 +1,104 @@
+-- **Which numbers the answer words list**: where a reach is done, 0, 8 or 11 for each of its rules, and where an unreach is, 0 or 14; every other
+-- refusal of a single call would have refused the whole attribute. Assumes nothing.
+use mathlib.Core.Path.{_≡_, refl, sym, ap, _∙_}
+use mathlib.Core.Bool.{Bool, true, false}
+use mathlib.Core.List.{List, []}
+use mathlib.Core.Logic.{inl, inr}
+use Prim.Native.Nat.{ℕ, _^_, _<_}
+use lib.ListN.{length, take, drop}
+use lib.Seq.{take-at}
+use Rattle.octets.specs.Test.{Each}
+use Rattle.octets.proofs.Cases.{by-test, apart}
+use Rattle.octets.proofs.Facts.{Octets}
+use Rattle.rule.specs.declared.Family.{Family}
+use Rattle.rule.specs.Reading.{valueIn}
+use Rattle.spelling.specs.Plain.{plain}
+use Rattle.order.specs.Key.{keysOf}
+use Rattle.action.specs.Actions.{actionsOf}
+use Rattle.entry.specs.declared.Head.{Head}
+use Rattle.entry.specs.Entry.{Entry, entryFor}
+use Rattle.table.specs.Change.{holds, hasRoom, announced, withdrawn}
+use Rattle.request.specs.Input.{Policy, policyOf}
+use Rattle.request.specs.Judging.{isFeasible}
+use Rattle.flowspec.specs.Announce.{changeOf}
+use Rattle.flowspec.specs.Told.{changeTold}
+use Rattle.flowspec.specs.Checks.{Check, actionsRead}
+use Rattle.theorems.specs.Numbers.{AllHold}
+use Rattle.attribute.specs.Head.{reachHead, unreachHead}
+use Rattle.attribute.specs.Rules.{rulesFrom}
+use Rattle.update.specs.declared.Applied.{Applied}
+use Rattle.update.specs.declared.Applied.the-variants.{Done, Refused}
+use Rattle.update.specs.declared.Task.the-variants.{Announce, Withdraw}
+use Rattle.update.specs.Singles.{Reach, Singles, announcingEach, withdrawingEach}
+use Rattle.update.specs.Checks.{reachChecks, unreachChecks}
+use Rattle.update.specs.Apply.{decided, Left, appliedAll, refusedWhole, reaching, unreaching}
+use Rattle.update.specs.Promise.{Reaches, Unreaches}
+use Rattle.update.specs.Numbers.{AnnouncedNumber, WithdrawnNumber}
+use Rattle.update.specs.Steps.{ruleChange, ruleCall}
+use Rattle.update.proofs.SinglesLaws.{each-listed, reachTask, announces-are, withdraws-are}
+use Rattle.update.proofs.ApplyLaws.{was-granted, were-read}
+
+announced-number : (family : Family) (routes : List ℕ) (head : Head) (allows : Bool) (rule t : List ℕ)
+    → AnnouncedNumber (changeTold (ruleCall family routes (Announce head allows) rule t .answer) .number)
+unfolding ruleChange changeOf
+announced-number family routes head allows rule t =
+    go (entryFor head (plain family (valueIn rule))) (isFeasible family (policyOf routes allows) (valueIn rule) (head .originator))
+  where
+    go : (e : Entry) (feasible : Bool) → AnnouncedNumber (changeTold (changeOf (announced family t e feasible .number)) .number)
+    go e true = by-test (hasRoom family t e) (λ h. rw h (inl refl)) (λ h. rw h (inr (inr refl)))
+    go e false = inr (inl refl)
+
+withdrawn-number : (family : Family) (routes rule t : List ℕ) → WithdrawnNumber (changeTold (ruleCall family routes Withdraw rule t .answer) .number)
+unfolding ruleChange changeOf withdrawn
+withdrawn-number family routes rule t =
+    by-test (holds family t (keysOf family (plain family (valueIn rule)))) (λ h. rw h (inl refl)) (λ h. rw h (inr refl))
+
+-- an answer that is no refusal: all checks hold, and the words begin with what the single calls list
+record Granted (cs : List Check) (singles : Singles) (count : ℕ) (words : List ℕ) : Type 0 where
+  pub hold : AllHold cs
+  pub front : take count words ≡ singles .numbers
+
+granted : (cs : List Check) (singles : Singles) (t answers : List ℕ) (left : Left) (count : ℕ)
+    → left ≡ decided cs (appliedAll singles answers) (refusedWhole t answers) → left .answer ≡ Done count → Granted cs singles count (left .words)
+granted cs singles t answers left count is e =
+    let came = was-granted cs (appliedAll singles answers) (refusedWhole t answers) left is
+    (λ number place g. let z : Done count ≡ Refused number place = sym e ∙ ap (λ (l : Left). l .answer) g in apart (cc)) in
+    let z = sym e ∙ ap (λ (l : Left). l .answer) (came .1) in
+    let counts : length (singles .numbers) ≡ count = cc in
+    let rest = drop (length (singles .numbers)) answers in
+    record { hold = came .0; front = ap (λ (l : Left). take count (l .words)) (came .1) ∙ take-at (singles .numbers) rest count counts }
+
+module _ (family : Family) (t : List ℕ) (octets : Octets t) where
+  -- **the numbers of a reach**
+  pub announces-listed : (policy : Policy) (reach : Reach) (answers : List ℕ) → Octets (reach .attribute) → reach .originator < 2 ^ 32
+      → AllHold (reachChecks family policy reach t answers) → Each AnnouncedNumber (announcingEach family policy reach t .numbers)
+  announces-listed policy reach answers o small hold =
+      rw (announces-are family t octets (hold .0) policy reach (actionsRead (actionsOf (reach .communities))) (hold .1 .0)
+      (were-read (actionsOf (reach .communities)) (hold .1 .1 .1 .1 .0)) small o)
+      (each-listed AnnouncedNumber (ruleCall family (policy .routes) (reachTask policy reach (actionsRead (actionsOf (reach .communities)))))
+      (announced-number family (policy .routes) _ (policy .allowsNoDestination)) (rulesFrom family (reach .attribute) reachHead .items) t)
+
+  -- **the numbers of an unreach**
+  pub withdraws-listed : (attribute answers : List ℕ) → Octets attribute → AllHold (unreachChecks family attribute t answers)
+      → Each WithdrawnNumber (withdrawingEach family attribute t .numbers)
+  withdraws-listed attribute answers o hold =
+      rw (withdraws-are family t octets (hold .0) [] attribute o)
+      (each-listed WithdrawnNumber (ruleCall family [] Withdraw) (withdrawn-number family []) (rulesFrom family attribute unreachHead .items) t)
+
+  module _ (answers : List ℕ) (answer : Applied) (exit words : List ℕ) (kept : List (List ℕ)) (count : ℕ) (done : answer ≡ Done count) where
+    -- the same of the words at the front of the buffer, by the promises
+    pub reach-listed : (policy : Policy) (reach : Reach) → Octets (reach .attribute) → reach .originator < 2 ^ 32
+        → Reaches family policy reach t answers answer exit words kept → Each AnnouncedNumber (take count words)
+    unfolding reaching
+    reach-listed policy reach o small p =
+        let g = granted (reachChecks family policy reach t answers) (announcingEach family policy reach t) t answers
+        (reaching family policy reach t answers) count refl (sym (p .is) ∙ done) in
+        rw (p .lists, g .front) (announces-listed policy reach answers o small (g .hold))
+
+    pub unreach-listed : (attribute : List ℕ) → Octets attribute → Unreaches family attribute t answers answer exit words kept
+        → Each WithdrawnNumber (take count words)
+    unfolding unreaching
+    unreach-listed attribute o p =
+        let g = granted (unreachChecks family attribute t answers) (withdrawingEach family attribute t) t answers
+        (unreaching family attribute t answers) count refl (sym (p .is) ∙ done) in
+        rw (p .lists, g .front) (withdraws-listed attribute answers o (g .hold))

@@ -1,0 +1,44 @@
+-- The single calls that an attribute stands for: one announcement, or one withdrawal, of each of its rules, in order, each lent the octets
+-- of that rule as they stand in the attribute.
+use Prim.Native.Nat.{ℕ}
+use mathlib.Core.List.{List, [], _∷_}
+use Rattle.rule.specs.declared.Family.{Family}
+use Rattle.request.specs.Input.{Announcement, Policy, announcementOf}
+use Rattle.flowspec.specs.Announce.{Outcome, announcing, withdrawing}
+use Rattle.flowspec.specs.Told.{changeTold}
+use Rattle.attribute.specs.Rules.{reachRules, unreachRules}
+
+-- A reach, with whatever octets it came: the attribute, who announces its rules, and the extended communities of their actions.
+pub record Reach : Type 0 where
+  pub attribute : List ℕ
+  pub originator : ℕ
+  pub communities : List ℕ
+
+-- A reach from the values that a call is lent one by one.
+abbrev pub reachOf : List ℕ → ℕ → List ℕ → Reach
+reachOf attribute originator communities = record { attribute = attribute; originator = originator; communities = communities }
+
+-- What single calls leave: the number that each is answered with, and the table's octets after the last.
+pub record Singles : Type 0 where
+  pub numbers : List ℕ
+  pub table : List ℕ
+
+-- One call for each rule, in order, each on the table that the call before it left.
+abbrev pub eachRule : (List ℕ → List ℕ → Outcome) → List (List ℕ) → List ℕ → Singles
+eachRule call [] table = record { numbers = []; table = table }
+eachRule call (rule ∷ rules) table =
+    let rest = eachRule call rules (call rule table .table) in
+    record { numbers = changeTold (call rule table .answer) .number ∷ rest .numbers; table = rest .table }
+
+-- The announcement of one rule of a reach.
+abbrev pub announcementIn : Reach → List ℕ → Announcement
+announcementIn reach rule = announcementOf rule (reach .originator) (reach .communities)
+
+-- What the announcements of a reach leave.
+abbrev pub announcingEach : Family → Policy → Reach → List ℕ → Singles
+announcingEach family policy reach table =
+    eachRule (λ rule. announcing family policy (announcementIn reach rule)) (reachRules family (reach .attribute) .items) table
+
+-- What the withdrawals of an unreach leave.
+abbrev pub withdrawingEach : Family → List ℕ → List ℕ → Singles
+withdrawingEach family attribute table = eachRule (withdrawing family) (unreachRules family attribute .items) table
