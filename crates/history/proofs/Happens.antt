@@ -32,7 +32,7 @@ module _ (family : Family) (policy : Policy) where
   withdraws-promised rule table answer left kept p = subst (λ k. Withdraws family rule table answer left k) (p .keeps) p
 
   -- a call that was made keeps its promise
-  made-promised : (call : Call) (table : List ℕ) → Promised family policy call table (outcomeOf family policy call table .answer) (outcomeOf family policy call table .table)
+  pub made-promised : (call : Call) (table : List ℕ) → Promised family policy call table (outcomeOf family policy call table .answer) (outcomeOf family policy call table .table)
   made-promised (announcement a) table = announce-kept family policy a table (announcing family policy a table) _ _ refl refl refl
   made-promised (withdrawal rule) table = withdraw-kept family rule table (withdrawing family rule table) _ _ refl refl refl
 
@@ -45,7 +45,7 @@ module _ (family : Family) (policy : Policy) where
   of-these-calls [] table = refl
   of-these-calls (call ∷ calls) table = ap (λ (l : List Call). call ∷ l) (of-these-calls calls (outcomeOf family policy call table .table))
 
-  each-given : (calls : List Call) (table : List ℕ) → Each CanBe calls → EachCanBe (historyOf family policy table calls)
+  pub each-given : (calls : List Call) (table : List ℕ) → Each CanBe calls → EachCanBe (historyOf family policy table calls)
   each-given [] table can = tt
   each-given (call ∷ calls) table can = (can .0, each-given calls (outcomeOf family policy call table .table) (can .1))
 
@@ -60,10 +60,14 @@ module _ (family : Family) (policy : Policy) where
   promised-only (announcement a) table answer left p = (p .is, p .leaves)
   promised-only (withdrawal rule) table answer left p = (p .is, p .leaves)
 
+  pub made-only : (m : Made) (table : List ℕ) → Promised family policy (m .call) table (m .answer) (m .left) → m ≡ madeOn family policy (m .call) table
+  made-only m table p =
+      let one = promised-only (m .call) table (m .answer) (m .left) p in
+      ap₂ (λ (a : Change) (l : List ℕ). record { call = m .call; answer = a; left = l }) (one .0) (one .1)
+
   pub happens-only : (h : List Made) (table : List ℕ) → Happened family policy table h → h ≡ historyOf family policy table (map (λ (m : Made). m .call) h)
   happens-only [] table made = refl
   happens-only (m ∷ h) table made =
-      let one = promised-only (m .call) table (m .answer) (m .left) (made .0) in
-      let first : m ≡ madeOn family policy (m .call) table = ap₂ (λ (a : Change) (l : List ℕ). record { call = m .call; answer = a; left = l }) (one .0) (one .1) in
+      let first = made-only m table (made .0) in
       ap₂ (λ (x : Made) (l : List Made). x ∷ l) first
-      (happens-only h (m .left) (made .1) ∙ ap (λ (t : List ℕ). historyOf family policy t (map (λ (m : Made). m .call) h)) (one .1))
+      (happens-only h (m .left) (made .1) ∙ ap (λ (x : Made). historyOf family policy (x .left) (map (λ (m : Made). m .call) h)) first)

@@ -2,5 +2,7 @@
 pub mod HistoryLaws
 pub mod AgreeLaws
 pub mod Happens
+pub mod AttributeLaws
+pub mod AttributesHappen
 pub mod OperatorTheorems
 pub mod Worked

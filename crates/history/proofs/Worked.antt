@@ -1,9 +1,9 @@
 -- **Demand 3 is about something**: the worked histories of specs/Worked.antt happen, by computation; what the theorems on histories say of
--- them is that the first ends in a table which holds mail and not ping, and that the second, which agrees with it, ends alike; and the
--- table at their end judges a packet as matched. Assumes nothing.
+-- them is that the first ends in a table which holds mail and not ping, and that the second, and the third of whole attributes, which
+-- agree with it, end alike; and the table at their end judges a packet as matched. Assumes nothing.
 use mathlib.Core.Path.{_≡_, refl, sym, ap, _∙_}
 use mathlib.Core.Bool.{Bool, true, false, cond}
-use mathlib.Core.List.{List, [], _∷_, List·Memᴰ}
+use mathlib.Core.List.{List, [], _∷_, map, List·Memᴰ}
 use mathlib.Core.Option.{none, some}
 use Prim.Native.Nat.{ℕ, zero, suc}
 use native.Mathlib.Omega.{arith}
@@ -61,10 +61,17 @@ use Rattle.flowspec.proofs.TableLaws.{announce-kept, withdraw-kept}
 use Rattle.rule.specs.Shape.{shapeOf}
 use Rattle.rate.specs.Rate.{scaled, numberFor, numberOfParts, rateOfParts, rateOf, fitsSignificand, rateGiven}
 use Rattle.order.specs.Precedence.{bodyOrder, componentOrder, componentsOrder, plainOrder, precedence}
+use Rattle.attribute.specs.Head.{afiOf, isOfFamily, isReach, isUnreach}
+use Rattle.attribute.specs.Rules.{ruleAt, rulesFrom}
+use Rattle.update.specs.declared.Applied.the-variants.{Done as DoneAll}
+use Rattle.update.specs.Apply.{reaching, unreaching}
 use Rattle.history.specs.History.{announced, withdrew, deedOf, emptyTable, endOf, lastCounted, inForceAfter, Agree, FromEmpty, HoldsExactly, EndAlike}
-use Rattle.history.specs.Worked.{policy, mail, mailValue, mailSpelled, ping, pingValue, dropping, droppingSpelled, drops, marks, mailEntry, mailTable, pingTable, bothTable, owned, foreign, respelled, pinged, worked, other, mailTo}
+use Rattle.history.specs.Attributes.{reach, unreach, single, endOfEvents, singlesOf, EventsFromEmpty}
+use Rattle.history.specs.Worked.{policy, mail, mailValue, mailSpelled, ping, pingValue, dropping, droppingSpelled, drops, marks, mailEntry, mailTable, pingTable, bothTable, owned, foreign, respelled, pinged, worked, other, droppedTable, bothReached, pingUnreached, attributes, pingDropped, standing, mailTo}
 use Rattle.history.proofs.HistoryLaws.{history-holds}
 use Rattle.history.proofs.AgreeLaws.{tie, histories-alike}
+use Rattle.history.proofs.AttributeLaws.{singles-from-empty, events-alike}
+use Rattle.history.proofs.AttributesHappen.{left-promised}
 
 -- octets, by a test
 octets-each : (s : List ℕ) → every (λ x. ltb x 256) s ≡ true → Octets s
@@ -86,10 +93,15 @@ record Computed : Type 0 where
   pub withdraws : withdrawing ipv4 ping bothTable ≡ record { answer = Done; table = mailTable }
   pub withdrawsNone : withdrawing ipv4 ping (emptyTable 96) ≡ record { answer = Refused 14 0; table = emptyTable 96 }
   pub announcesSpelled : announcing ipv4 policy respelled (emptyTable 96) ≡ record { answer = Done; table = mailTable }
+  pub reaches : reaching ipv4 policy bothReached (emptyTable 96) (99 ∷ 99 ∷ 99 ∷ [])
+      ≡ record { answer = DoneAll 2; table = droppedTable; words = 0 ∷ 0 ∷ 99 ∷ [] }
+  pub unreaches : unreaching ipv4 pingUnreached droppedTable (99 ∷ []) ≡ record { answer = DoneAll 1; table = mailTable; words = 0 ∷ [] }
+  pub stands : singlesOf ipv4 policy (emptyTable 96) attributes ≡ standing
   pub askedOwned : requestOf ipv4 policy owned ≡ Announce 1 12 drops true
   pub askedForeign : requestOf ipv4 policy foreign ≡ Announce 1 12 drops false
   pub askedSpelled : requestOf ipv4 policy respelled ≡ Announce 2 12 drops true
   pub askedPinged : requestOf ipv4 policy pinged ≡ Announce 1 8 marks true
+  pub askedDropped : requestOf ipv4 policy pingDropped ≡ Announce 1 8 drops true
   pub readPing : oneRule ipv4 ping ≡ Rule 1 8
   pub plainMail : plain ipv4 mailValue ≡ mailValue
   pub plainSpelled : plain ipv4 (valueOf mailSpelled 2 12) ≡ mailValue
@@ -100,6 +112,7 @@ record Computed : Type 0 where
   pub octetsMail : every (λ x. ltb x 256) mail ≡ true
   pub octetsSpelled : every (λ x. ltb x 256) mailSpelled ≡ true
   pub octetsPing : every (λ x. ltb x 256) ping ≡ true
+  pub octetsReached : every (λ x. ltb x 256) (bothReached .attribute) ≡ true
   pub inForce : inForceAfter ipv4 policy worked (entryKey ipv4 mailEntry) ≡ some mailEntry
   pub gone : inForceAfter ipv4 policy worked (keysOf ipv4 pingValue) ≡ none
   pub judgesMatched : lookupTold (lookingUp ipv4 mailTable (mailTo 5)) ≡ done (1 ∷ 1 ∷ 0 ∷ 0 ∷ 0 ∷ 0 ∷ [])
@@ -118,7 +131,7 @@ unfolding
     removed inserted hasRoom withdrawn collected mergedOnto verdictOf verdictFor firstPlace recordsOf tableOf soundTable soundness recordAt
     recordsFrom records entries changeOf requestOf announcing withdrawing readWithRoutes isFeasible judgement opening lookingUp firstMatch
     matchPlace shapeOf scaled numberFor numberOfParts rateOfParts rateOf fitsSignificand rateGiven bodyOrder componentOrder componentsOrder
-    plainOrder precedence
+    plainOrder precedence afiOf isOfFamily isReach isUnreach ruleAt rulesFrom reaching unreaching
 computed =
     record {
       announces = refl;
@@ -128,10 +141,14 @@ computed =
       withdraws = refl;
       withdrawsNone = refl;
       announcesSpelled = refl;
+      reaches = refl;
+      unreaches = refl;
+      stands = refl;
       askedOwned = refl;
       askedForeign = refl;
       askedSpelled = refl;
       askedPinged = refl;
+      askedDropped = refl;
       readPing = refl;
       plainMail = refl;
       plainSpelled = refl;
@@ -142,13 +159,14 @@ computed =
       octetsMail = refl;
       octetsSpelled = refl;
       octetsPing = refl;
+      octetsReached = refl;
       inForce = refl;
       gone = refl;
       judgesMatched = refl;
       judgesUnmatched = refl;
     }
 
--- **both histories happen**
+-- **the histories happen**
 pub worked-happened : FromEmpty ipv4 policy 96 worked
 worked-happened =
     let rule = octets-each mail (computed .octetsMail) in
@@ -178,6 +196,17 @@ other-happened =
       happened = (
         withdraw-kept ipv4 ping (emptyTable 96) _ (Refused 14 0) (emptyTable 96) (computed .withdrawsNone) refl refl,
         (announce-kept ipv4 policy respelled (emptyTable 96) _ Done mailTable (computed .announcesSpelled) refl refl, tt),
+      );
+    }
+
+pub attributes-happened : EventsFromEmpty ipv4 policy 96 attributes
+attributes-happened =
+    record {
+      fits = omega arith;
+      given = ((octets-each (bothReached .attribute) (computed .octetsReached), omega arith), (tt, tt));
+      happened = (
+        left-promised ipv4 policy (reach bothReached) (emptyTable 96) (99 ∷ 99 ∷ 99 ∷ []) _ (computed .reaches),
+        (left-promised ipv4 policy (unreach pingUnreached) droppedTable (99 ∷ []) _ (computed .unreaches), tt),
       );
     }
 
@@ -216,6 +245,12 @@ module _ (k : RuleKey) where
       rw (computed .askedOwned, computed .askedForeign, computed .askedPinged, computed .readPing, computed .plainMail, computed .plainPing)
       (by-test aboutPing (λ e. rw e) (λ e. by-test aboutMail (λ f. rw (e, f, computed .read)) (λ f. rw (e, f))))
 
+  last-standing : deedOf (lastCounted ipv4 policy k standing)
+      ≡ cond aboutPing (some withdrew) (cond aboutMail (some (announced 7 (Read drops))) none)
+  last-standing =
+      rw (computed .askedOwned, computed .askedDropped, computed .readPing, computed .plainMail, computed .plainPing)
+      (by-test aboutPing (λ e. rw e) (λ e. by-test aboutMail (λ f. rw (e, f, computed .read)) (λ f. rw (e, f))))
+
   last-other : deedOf (lastCounted ipv4 policy k other)
       ≡ cond aboutMail (some (announced 7 (Read drops))) (cond aboutPing (some withdrew) none)
   last-other =
@@ -231,9 +266,18 @@ module _ (k : RuleKey) where
       ∙ by-test aboutMail (λ e. rw (e, not-both e)) (λ e. rw e)
       ∙ sym last-other
 
--- **the two agree, and end alike**
+-- **the first two agree, and end alike**
 pub worked-agree : Agree ipv4 policy worked other
 worked-agree k = same-deed k
 
 pub worked-alike : EndAlike ipv4 (endOf (emptyTable 96) worked) (endOf (emptyTable 96) other)
 worked-alike = histories-alike ipv4 policy ipv4-fits 96 worked other worked-happened other-happened worked-agree
+
+-- **the attributes stand for single calls that agree with the first, and end alike**
+pub attributes-agree : Agree ipv4 policy (singlesOf ipv4 policy (emptyTable 96) attributes) worked
+attributes-agree k = ap (λ h. deedOf (lastCounted ipv4 policy k h)) (computed .stands) ∙ last-standing k ∙ sym (last-worked k)
+
+pub attributes-alike : EndAlike ipv4 (endOfEvents (emptyTable 96) attributes) (endOf (emptyTable 96) worked)
+attributes-alike =
+    events-alike ipv4 policy 96 ipv4-fits attributes (map single worked) attributes-happened
+    (singles-from-empty ipv4 policy 96 worked worked-happened) attributes-agree

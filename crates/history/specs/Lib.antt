@@ -1,3 +1,4 @@
 -- The definitions of this crate.
 pub mod History
+pub mod Attributes
 pub mod Worked

@@ -1,6 +1,6 @@
--- Two worked histories, in buffers of 96 octets, with one route. In the first a rule is announced, another is, the first is announced
+-- Three worked histories, in buffers of 96 octets, with one route. In the first a rule is announced, another is, the first is announced
 -- again by somebody else and so gone, announced once more, and the other is withdrawn. The second comes to the same in another order, in
--- another spelling and with other answers.
+-- another spelling and with other answers; the third by two whole attributes.
 use Prim.Native.Nat.{ℕ}
 use mathlib.Core.Bool.{false}
 use mathlib.Core.List.{List, [], _∷_, _++_}
@@ -13,7 +13,10 @@ use Rattle.entry.specs.Entry.{Entry}
 use Rattle.flowspec.specs.declared.Change.{Change}
 use Rattle.flowspec.specs.declared.Change.the-variants.{Done, Refused}
 use Rattle.request.specs.Input.{Announcement, Policy, announcementOf, policyOf}
+use Rattle.update.specs.declared.Applied.the-variants.{Done as DoneAll}
+use Rattle.update.specs.Singles.{Reach, reachOf}
 use Rattle.history.specs.History.{Call, announcement, withdrawal, Made, emptyTable}
+use Rattle.history.specs.Attributes.{reach, unreach, Event, whole}
 
 -- 192.0.2.0/24 is routed to originator 7, over neighbour AS 64500.
 abbrev pub policy : Policy
@@ -67,9 +70,9 @@ mailEntry = record { originator = 7; actions = drops; value = mailValue }
 abbrev pub mailRecord : List ℕ
 mailRecord = 0 ∷ 12 ∷ 0 ∷ 0 ∷ 0 ∷ 7 ∷ 1 ∷ 0 ∷ replicate 24 0 ++ mailValue
 
--- The record of ping.
-abbrev pub pingRecord : List ℕ
-pingRecord = 0 ∷ 8 ∷ 0 ∷ 0 ∷ 0 ∷ 7 ∷ 16 ∷ 10 ∷ replicate 24 0 ++ pingValue
+-- The record of ping, with the flags and the DSCP of its actions.
+abbrev pub pingRecord : ℕ → ℕ → List ℕ
+pingRecord flags dscp = 0 ∷ 8 ∷ 0 ∷ 0 ∷ 0 ∷ 7 ∷ flags ∷ dscp ∷ replicate 24 0 ++ pingValue
 
 -- The table with mail.
 abbrev pub mailTable : List ℕ
@@ -77,11 +80,15 @@ mailTable = mailRecord ++ replicate 52 0
 
 -- The table with ping.
 abbrev pub pingTable : List ℕ
-pingTable = pingRecord ++ replicate 56 0
+pingTable = pingRecord 16 10 ++ replicate 56 0
 
 -- The table with both.
 abbrev pub bothTable : List ℕ
-bothTable = mailRecord ++ pingRecord ++ replicate 12 0
+bothTable = mailRecord ++ pingRecord 16 10 ++ replicate 12 0
+
+-- The table with both, ping to be dropped too.
+abbrev pub droppedTable : List ℕ
+droppedTable = mailRecord ++ pingRecord 1 0 ++ replicate 12 0
 
 -- Mail announced by its originator.
 abbrev pub owned : Announcement
@@ -118,6 +125,33 @@ abbrev pub other : List Made
 other =
     made (withdrawal ping) (Refused 14 0) (emptyTable 96)
     ∷ made (announcement respelled) Done mailTable
+    ∷ []
+
+-- Mail and ping in one reach, both to be dropped: AFI 1, SAFI 133, no next hop, the reserved octet, and the rules.
+abbrev pub bothReached : Reach
+bothReached = reachOf (0 ∷ 1 ∷ 133 ∷ 0 ∷ 0 ∷ mail ++ ping) 7 dropping
+
+-- Ping in an unreach.
+abbrev pub pingUnreached : List ℕ
+pingUnreached = 0 ∷ 1 ∷ 133 ∷ ping
+
+-- The third: both are announced by the reach, lent three answer words, and ping is withdrawn by the unreach.
+abbrev pub attributes : List Event
+attributes =
+    whole (record { attribute = reach bothReached; lent = 99 ∷ 99 ∷ 99 ∷ []; answer = DoneAll 2; words = 0 ∷ 0 ∷ 99 ∷ []; left = droppedTable })
+    ∷ whole (record { attribute = unreach pingUnreached; lent = 99 ∷ []; answer = DoneAll 1; words = 0 ∷ []; left = mailTable })
+    ∷ []
+
+-- Ping announced as it stands in the reach.
+abbrev pub pingDropped : Announcement
+pingDropped = announcementOf ping 7 dropping
+
+-- The single calls that the attributes stand for.
+abbrev pub standing : List Made
+standing =
+    made (announcement owned) Done mailTable
+    ∷ made (announcement pingDropped) Done droppedTable
+    ∷ made (withdrawal ping) Done mailTable
     ∷ []
 
 -- A TCP packet from 198.51.100.1, port 1024, to port 25 of a host in 192.0.2.0/24: 24 octets of 40.

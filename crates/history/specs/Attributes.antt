@@ -1,0 +1,140 @@
+-- Histories that hold whole attributes beside single calls. 2026-01: "Demand 3's history then means the single calls an attribute stands
+-- for." An attribute that is refused stands for none. Demand 3 itself (History.antt) is read on those single calls.
+use Prim.Native.Nat.{ℕ, _^_, _<_, _≤_}
+use mathlib.Core.Path.{_≡_}
+use mathlib.Core.List.{List, [], _∷_, _++_, map}
+use lib.ListN.{length, drop}
+use Rattle.octets.specs.Number.{Octets}
+use Rattle.octets.specs.Test.{Each}
+use Rattle.rule.specs.declared.Family.{Family}
+use Rattle.table.specs.Sound.{mostOctets}
+use Rattle.request.specs.Input.{Policy}
+use Rattle.attribute.specs.Rules.{reachRules, unreachRules}
+use Rattle.update.specs.declared.Applied.{Applied}
+use Rattle.update.specs.declared.Applied.the-variants.{Done, Refused}
+use Rattle.update.specs.Singles.{Reach, announcementIn}
+use Rattle.update.specs.Apply.{Left, reaching, unreaching, appliedTold}
+use Rattle.update.specs.Promise.{Reaches, Unreaches}
+use Rattle.history.specs.History.{Call, announcement, withdrawal, Made, CanBe, Promised, numberOf, endOf, madeOn, historyOf, emptyTable}
+
+-- A whole attribute, with whatever octets it came: a reach, or an unreach.
+pub data Attribute : Type 0 where
+  reach : Reach → Attribute
+  unreach : List ℕ → Attribute
+
+-- A call with a whole attribute as it was made: what it was given, the answer words that it was lent, its answer, and the answer words and
+-- the table's octets after it.
+pub record Whole : Type 0 where
+  pub attribute : Attribute
+  pub lent : List ℕ
+  pub answer : Applied
+  pub words : List ℕ
+  pub left : List ℕ
+
+-- What was done to a table: a single call, or a call with a whole attribute.
+pub data Event : Type 0 where
+  single : Made → Event
+  whole : Whole → Event
+
+-- What is asked of a table: a single call, or a call with a whole attribute that is lent answer words.
+pub data Asked : Type 0 where
+  askSingle : Call → Asked
+  askWhole : Attribute → List ℕ → Asked
+
+-- What an event asked.
+abbrev pub askedBy : Event → Asked
+askedBy (single m) = askSingle (m .call)
+askedBy (whole w) = askWhole (w .attribute) (w .lent)
+
+-- The table's octets after it.
+abbrev pub leftBy : Event → List ℕ
+leftBy (single m) = m .left
+leftBy (whole w) = w .left
+
+-- The table at the end of events.
+abbrev pub endOfEvents : List ℕ → List Event → List ℕ
+endOfEvents table [] = table
+endOfEvents table (e ∷ es) = endOfEvents (leftBy e) es
+
+-- One single call for each rule of an attribute, in order, lent the octets of that rule as they stand there.
+abbrev pub callsIn : Family → Attribute → List Call
+callsIn family (reach r) = map (λ rule. announcement (announcementIn r rule)) (reachRules family (r .attribute) .items)
+callsIn family (unreach attribute) = map withdrawal (unreachRules family attribute .items)
+
+-- The single calls that an attribute stands for, by its answer: none where it is refused.
+abbrev pub standsFor : Family → Attribute → Applied → List Call
+standsFor family attribute (Done count) = callsIn family attribute
+standsFor family attribute (Refused number place) = []
+
+-- What is asked of what a call is given, and holds by the types of what it is lent: a reach is octets, and its originator has 32 bits.
+abbrev pub AttributeCanBe : Attribute → Type 0
+AttributeCanBe (reach r) = Octets (r .attribute) × (r .originator < 2 ^ 32)
+AttributeCanBe (unreach attribute) = Unit {0}
+
+-- The same of a single call or a whole attribute.
+abbrev pub AskedCanBe : Asked → Type 0
+AskedCanBe (askSingle call) = CanBe call
+AskedCanBe (askWhole attribute lent) = AttributeCanBe attribute
+
+-- The same of an event.
+abbrev pub EventCanBe : Event → Type 0
+EventCanBe e = AskedCanBe (askedBy e)
+
+-- **Nobody can tell the difference**: a call with a whole attribute does what single calls do, one after the other, on its table. It leaves
+-- the table that the last of them leaves (`leaves`); its answer words list the numbers that they are answered with, in order, and keep
+-- the rest of what was lent (`lists`); and its answer counts them (`counts`). Of an attribute that is refused, whose own number and place
+-- its promise has, there are none, so that nothing is changed.
+pub record ActsAs (table lent : List ℕ) (answer : Applied) (left words : List ℕ) (singles : List Made) : Type 0 where
+  pub leaves : left ≡ endOf table singles
+  pub lists : words ≡ map numberOf singles ++ drop (length singles) lent
+  pub counts : appliedTold answer .values ≡ length singles ∷ []
+
+module _ (family : Family) (policy : Policy) where
+  -- The promise of a call with a whole attribute, with a table at entry.
+  abbrev pub WholePromised : Attribute → List ℕ → List ℕ → Applied → List ℕ → List ℕ → Type 0
+  WholePromised (reach r) table lent answer left words =
+      Reaches family policy r table lent answer left words (policy .routes ∷ r .attribute ∷ r .communities ∷ [])
+  WholePromised (unreach attribute) table lent answer left words = Unreaches family attribute table lent answer left words (attribute ∷ [])
+
+  -- The promise of what was done to a table.
+  abbrev pub EventPromised : List ℕ → Event → Type 0
+  EventPromised table (single m) = Promised family policy (m .call) table (m .answer) (m .left)
+  EventPromised table (whole w) = WholePromised (w .attribute) table (w .lent) (w .answer) (w .left) (w .words)
+
+  -- A history of events from a table on, the oldest first: each keeps its promise on the table that the one before it left.
+  abbrev pub EventsHappened : List ℕ → List Event → Type 0
+  EventsHappened table [] = Unit {0}
+  EventsHappened table (e ∷ es) = EventPromised table e × EventsHappened (leftBy e) es
+
+  -- What a call with a whole attribute leaves.
+  abbrev pub leftOn : Attribute → List ℕ → List ℕ → Left
+  leftOn (reach r) table lent = reaching family policy r table lent
+  leftOn (unreach attribute) table lent = unreaching family attribute table lent
+
+  -- What is asked, as it is done to a table.
+  abbrev pub eventOn : Asked → List ℕ → Event
+  eventOn (askSingle call) table = single (madeOn family policy call table)
+  eventOn (askWhole attribute lent) table =
+      let left = leftOn attribute table lent in
+      whole (record { attribute = attribute; lent = lent; answer = left .answer; words = left .words; left = left .table })
+
+  -- The history of what is asked one after the other, from a table on.
+  abbrev pub eventsOf : List ℕ → List Asked → List Event
+  eventsOf table [] = []
+  eventsOf table (ask ∷ asks) = eventOn ask table ∷ eventsOf (leftBy (eventOn ask table)) asks
+
+  -- The single calls that an event stands for, made on its table.
+  abbrev pub singlesIn : List ℕ → Event → List Made
+  singlesIn table (single m) = m ∷ []
+  singlesIn table (whole w) = historyOf family policy table (standsFor family (w .attribute) (w .answer))
+
+  -- The history of single calls that events stand for.
+  abbrev pub singlesOf : List ℕ → List Event → List Made
+  singlesOf table [] = []
+  singlesOf table (e ∷ es) = singlesIn table e ++ singlesOf (leftBy e) es
+
+  -- Events that began at an empty table, in a buffer of n octets that only their calls wrote.
+  pub record EventsFromEmpty (n : ℕ) (es : List Event) : Type 0 where
+    pub fits : n ≤ mostOctets
+    pub given : Each EventCanBe es
+    pub happened : EventsHappened (emptyTable n) es
