@@ -1,10 +1,12 @@
--- **Demand 3 for a caller in C**: what calls from C did to a table is a history at the door, with the answers that their words say; so the
--- table holds exactly what is in force by those words, and two such histories that agree end alike. Assumes nothing.
-use mathlib.Core.Path.{_≡_, refl}
+-- **Demand 3 for a caller in C**: what calls from C did to a table, single ones and whole attributes, is a history at the door, with the
+-- answers that their words say; so the table holds exactly what is in force by those words, and two such histories that agree on the single
+-- calls that they stand for end alike. Assumes nothing.
+use mathlib.Core.Path.{_≡_, refl, ap, _∙_}
 use mathlib.Core.List.{List, [], _∷_}
 use Prim.Native.Nat.{ℕ, _≤_}
 use native.Mathlib.Omega.{arith}
 use borrow.Author.Tests.{ne-eqb}
+use Rattle.octets.specs.Test.{Each}
 use Rattle.rule.specs.Family.{ipv4}
 use Rattle.rule.proofs.FamilyLaws.{ipv4-fits}
 use Rattle.rule.proofs.Refusal.{Refusal}
@@ -15,13 +17,19 @@ use Rattle.request.specs.Input.{Policy}
 use Rattle.flowspec.specs.Announce.{announcing, withdrawing}
 use Rattle.flowspec.specs.Told.{changeTold}
 use Rattle.flowspec.proofs.TableLaws.{announce-kept, withdraw-kept}
-use Rattle.history.specs.History.{Call, announcement, withdrawal, EachCanBe, Promised, Happened, emptyTable, endOf, Agree, FromEmpty, HoldsExactly, EndAlike}
-use Rattle.history.proofs.HistoryLaws.{history-holds}
-use Rattle.history.proofs.AgreeLaws.{histories-alike}
+use Rattle.update.specs.declared.Applied.{Applied}
+use Rattle.update.specs.declared.Applied.the-variants.{Done as AllDone, Refused as NotApplied}
+use Rattle.update.specs.Apply.{reaching, unreaching, appliedTold}
+use Rattle.update.proofs.ApplyLaws.{reach-tells, unreach-tells}
+use Rattle.history.specs.History.{Call, announcement, withdrawal, Promised, emptyTable, Agree, HoldsExactly, EndAlike}
+use Rattle.history.specs.Attributes.{Attribute, reach, unreach, endOfEvents, EventCanBe, WholePromised, EventPromised, EventsHappened, singlesOf, EventsFromEmpty}
+use Rattle.history.proofs.AttributeLaws.{events-hold, events-alike}
 use Rattle.c_api.specs.Word.{wordOf}
-use Rattle.c_api.specs.History.{Called, answerIn, answered, Returned, AllReturned}
+use Rattle.c_api.specs.Promise.{Returns}
+use Rattle.c_api.specs.History.{WholeCalled, CalledEvent, one, all, answerIn, appliedIn, answeredEvent, answered, Returned, WholeReturned, EventReturned, AllReturned}
 use Rattle.c_api.proofs.Halves.{low-half, high-half}
 use Rattle.c_api.proofs.Places.{not-announced, not-withdrawn}
+use Rattle.c_api.proofs.AttributePlaces.{not-reached, not-unreached}
 
 -- a word says the answer that it is the word of
 word-says : (c : Change) → ((number place : ℕ) → c ≡ Refused number place → Refusal number place) → answerIn (wordOf (changeTold c)) ≡ c
@@ -30,6 +38,15 @@ word-says (Refused number place) h =
     let listed = h number place refl in
     let some : number ≡ 0 → ⊥ = λ z. omega (arith, listed) in
     rw (low-half number place listed, high-half number place listed, ne-eqb number 0 some)
+
+-- the same of a word and `out` of a whole attribute
+applied-says : (a : Applied) → ((number place : ℕ) → a ≡ NotApplied number place → Refusal number place) → (entry : List ℕ) (result : ℕ) (exit : List ℕ)
+    → Returns (appliedTold a) entry result exit → appliedIn result exit ≡ a
+applied-says (AllDone count) h entry result exit p = rw (p .is, p .out)
+applied-says (NotApplied number place) h entry result exit p =
+    let listed = h number place refl in
+    let some : number ≡ 0 → ⊥ = λ z. omega (arith, listed) in
+    rw (p .is, low-half number place listed, high-half number place listed, ne-eqb number 0 some)
 
 module _ (policy : Policy) where
   -- what a call from C promises is the door's promise, with the answer that its word says
@@ -44,23 +61,41 @@ module _ (policy : Policy) where
       (rw (p .is) (word-says (withdrawing ipv4 rule table .answer) (not-withdrawn ipv4 rule table)))
       (p .leaves)
 
+  -- the same of a whole attribute
+  pub whole-promised : (attribute : Attribute) (table : List ℕ) (w : WholeCalled) → WholeReturned policy attribute table w
+      → WholePromised ipv4 policy attribute table (w .lent) (appliedIn (w .result) (w .exit)) (w .left) (w .words)
+  whole-promised (reach r) table w p =
+      let is : appliedIn (w .result) (w .exit) ≡ reaching ipv4 policy r table (w .lent) .answer
+      = applied-says _ (not-reached ipv4 policy r table (w .lent)) (w .entry) (w .result) (w .exit) (p .returns) in
+      record { is = is; tells = ap appliedTold is ∙ reach-tells ipv4 policy r table (w .lent); leaves = p .leaves; lists = p .lists; keeps = p .keeps }
+  whole-promised (unreach attribute) table w p =
+      let is : appliedIn (w .result) (w .exit) ≡ unreaching ipv4 attribute table (w .lent) .answer
+      = applied-says _ (not-unreached ipv4 attribute table (w .lent)) (w .entry) (w .result) (w .exit) (p .returns) in
+      record { is = is; tells = ap appliedTold is ∙ unreach-tells ipv4 attribute table (w .lent); leaves = p .leaves; lists = p .lists; keeps = p .keeps }
+
+  event-promised : (e : CalledEvent) (table : List ℕ) → EventReturned policy table e → EventPromised ipv4 policy table (answeredEvent e)
+  event-promised (one m) table p = returned-promised (m .call) table (m .result) (m .left) p
+  event-promised (all w) table p = whole-promised (w .attribute) table w p
+
   -- **calls from C are a history at the door**
-  pub returned-happened : (h : List Called) (table : List ℕ) → AllReturned policy table h → Happened ipv4 policy table (answered h)
+  pub returned-happened : (h : List CalledEvent) (table : List ℕ) → AllReturned policy table h → EventsHappened ipv4 policy table (answered h)
   returned-happened [] table p = tt
-  returned-happened (m ∷ h) table p = (returned-promised (m .call) table (m .result) (m .left) (p .0), returned-happened h (m .left) (p .1))
+  returned-happened (one m ∷ h) table p = (event-promised (one m) table (p .0), returned-happened h (m .left) (p .1))
+  returned-happened (all w ∷ h) table p = (event-promised (all w) table (p .0), returned-happened h (w .left) (p .1))
 
   module _ (n : ℕ) (fits : n ≤ mostOctets) where
-    from-empty : (h : List Called) → EachCanBe (answered h) → AllReturned policy (emptyTable n) h → FromEmpty ipv4 policy n (answered h)
+    from-empty : (h : List CalledEvent) → Each EventCanBe (answered h) → AllReturned policy (emptyTable n) h → EventsFromEmpty ipv4 policy n (answered h)
     from-empty h given p = record { fits = fits; given = given; happened = returned-happened h (emptyTable n) p }
 
     -- **the table holds exactly what is in force**
-    pub returned-holds : (h : List Called) → EachCanBe (answered h) → AllReturned policy (emptyTable n) h
-        → HoldsExactly ipv4 policy n (answered h) (endOf (emptyTable n) (answered h))
-    returned-holds h given p = history-holds ipv4 policy n (answered h) (from-empty h given p)
+    pub returned-holds : (h : List CalledEvent) → Each EventCanBe (answered h) → AllReturned policy (emptyTable n) h
+        → HoldsExactly ipv4 policy n (singlesOf ipv4 policy (emptyTable n) (answered h)) (endOfEvents (emptyTable n) (answered h))
+    returned-holds h given p = events-hold ipv4 policy n (answered h) (from-empty h given p)
 
     -- **two histories that agree end alike**
-    pub returned-alike : (h g : List Called) → EachCanBe (answered h) → EachCanBe (answered g) → AllReturned policy (emptyTable n) h
-        → AllReturned policy (emptyTable n) g → Agree ipv4 policy (answered h) (answered g)
-        → EndAlike ipv4 (endOf (emptyTable n) (answered h)) (endOf (emptyTable n) (answered g))
+    pub returned-alike : (h g : List CalledEvent) → Each EventCanBe (answered h) → Each EventCanBe (answered g) → AllReturned policy (emptyTable n) h
+        → AllReturned policy (emptyTable n) g
+        → Agree ipv4 policy (singlesOf ipv4 policy (emptyTable n) (answered h)) (singlesOf ipv4 policy (emptyTable n) (answered g))
+        → EndAlike ipv4 (endOfEvents (emptyTable n) (answered h)) (endOfEvents (emptyTable n) (answered g))
     returned-alike h g given also p q agree =
-        histories-alike ipv4 policy ipv4-fits n (answered h) (answered g) (from-empty h given p) (from-empty g also q) agree
+        events-alike ipv4 policy n ipv4-fits (answered h) (answered g) (from-empty h given p) (from-empty g also q) agree

@@ -1,7 +1,9 @@
 -- The laws of this crate.
 pub mod Places
+pub mod AttributePlaces
 pub mod Halves
 pub mod CallLaws
 pub mod Verdicts
 pub mod Unique
 pub mod HistoryLaws
+pub mod Happens

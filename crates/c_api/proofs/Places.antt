@@ -15,7 +15,7 @@ use Rattle.rule.specs.declared.Reading.{Reading}
 use Rattle.rule.specs.declared.Reading.the-variants.{Rule, Refused as NotRead}
 use Rattle.spelling.specs.Plain.{plain}
 use Rattle.rule.specs.Reading.{valueOf, oneRule}
-use Rattle.rule.proofs.Refusal.{Refusal, placeless}
+use Rattle.rule.proofs.Refusal.{highestNumber, Refusal, placeless}
 use Rattle.rule.proofs.ReadingLaws.{SaysRule, one-says}
 use Rattle.order.specs.Key.{keysOf}
 use Rattle.order.specs.Precedence.{precedence}
@@ -116,7 +116,7 @@ pub change-near : (c : Change) → ((number place : ℕ) → c ≡ NotDone numbe
 change-near (NotDone number place) h = h number place refl .near
 change-near Done h = omega arith
 
-changes : (number : ℕ) → number ≤ 16 → Changes (changeOf number)
+changes : (number : ℕ) → number ≤ highestNumber → Changes (changeOf number)
 unfolding changeOf
 changes number h =
     by-test (eqb number 0) (λ t. rw t tt) (λ t. let n = eqb-false number 0 t in rw t (placeless number (omega arith) h))
@@ -143,7 +143,7 @@ module _ (family : Family) (policy : Policy) (a : Announcement) where
       (by-test (soundTable family t) (λ s. rw s (go (requestOf family policy a) asks))
       (λ s. rw s (placeless 10 (omega arith) (omega arith))))
     where
-      told : (n : Entry) (feasible : Bool) → announced family t n feasible .number ≤ 16
+      told : (n : Entry) (feasible : Bool) → announced family t n feasible .number ≤ highestNumber
       told n true = by-test (hasRoom family t n) (λ h. rw h (omega arith)) (λ h. rw h (omega arith))
       told n false = omega arith
 
@@ -159,7 +159,7 @@ not-withdrawn family rule t number place e =
     subst Changes e
     (by-test (soundTable family t) (λ s. rw s (go (oneRule family rule) (one-says family rule))) (λ s. rw s (placeless 10 (omega arith) (omega arith))))
   where
-    told : (k : List (List ℕ)) → withdrawn family t k .number ≤ 16
+    told : (k : List (List ℕ)) → withdrawn family t k .number ≤ highestNumber
     told k = by-test (holds family t k) (λ h. rw h (omega arith)) (λ h. rw h (omega arith))
 
     go : (r : Reading) → SaysRule family rule r → Changes (withdrawnBy family t rule r .answer)

@@ -4,7 +4,8 @@ use mathlib.Core.List.{List}
 use Prim.Native.Nat.{ℕ}
 use Rattle.request.specs.Input.{Announcement, Policy}
 use Rattle.flowspec.specs.Told.{Told}
-use Rattle.c_api.specs.Promise.{Returns, ReturnsKeeping, ReadCall, WriteCall, CompareCall, FeasibleCall, ActionsCall, AnnounceCall, WithdrawCall, LookupCall, FirstMatchCall}
+use Rattle.update.specs.Singles.{Reach}
+use Rattle.c_api.specs.Promise.{Returns, ReturnsKeeping, ReadCall, WriteCall, CompareCall, FeasibleCall, ActionsCall, AnnounceCall, WithdrawCall, ReachCall, UnreachCall, LookupCall, FirstMatchCall}
 
 module _ (k l : List (List ℕ)) where
   -- one word and one `out` for each answer, and what was lent to be read
@@ -45,6 +46,20 @@ module _ (k l : List (List ℕ)) where
   pub one-withdraw : (table rule : List ℕ) (a b : ℕ) (s t : List ℕ) → WithdrawCall table rule a s k → WithdrawCall table rule b t l
       → (a ≡ b) × ((s ≡ t) × (k ≡ l))
   one-withdraw table rule a b s t p q = (p .is ∙ sym (q .is), (p .leaves ∙ sym (q .leaves), p .keeps ∙ sym (q .keeps)))
+
+  pub one-reach : (table : List ℕ) (policy : Policy) (reach : Reach) (answers entry : List ℕ) (a b : ℕ) (s t u v x y : List ℕ)
+      → ReachCall table policy reach answers entry a s u x k → ReachCall table policy reach answers entry b t v y l
+      → (a ≡ b) × ((s ≡ t) × ((u ≡ v) × ((x ≡ y) × (k ≡ l))))
+  one-reach table policy reach answers entry a b s t u v x y p q =
+      let r = one-return (p .returns) (q .returns) in
+      (r .0, (p .leaves ∙ sym (q .leaves), (p .lists ∙ sym (q .lists), (r .1, p .keeps ∙ sym (q .keeps)))))
+
+  pub one-unreach : (table attribute answers entry : List ℕ) (a b : ℕ) (s t u v x y : List ℕ)
+      → UnreachCall table attribute answers entry a s u x k → UnreachCall table attribute answers entry b t v y l
+      → (a ≡ b) × ((s ≡ t) × ((u ≡ v) × ((x ≡ y) × (k ≡ l))))
+  one-unreach table attribute answers entry a b s t u v x y p q =
+      let r = one-return (p .returns) (q .returns) in
+      (r .0, (p .leaves ∙ sym (q .leaves), (p .lists ∙ sym (q .lists), (r .1, p .keeps ∙ sym (q .keeps)))))
 
   pub one-lookup : (table packet entry : List ℕ) (a b : ℕ) (x y : List ℕ) → LookupCall table packet entry a x k → LookupCall table packet entry b y l
       → (a ≡ b) × ((x ≡ y) × (k ≡ l))

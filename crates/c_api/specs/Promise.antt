@@ -15,6 +15,8 @@ use Rattle.flowspec.specs.Feasibility.{judgement}
 use Rattle.flowspec.specs.Announce.{announcing, withdrawing}
 use Rattle.flowspec.specs.Look.{lookingUp, matchPlace}
 use Rattle.flowspec.specs.Told.{Told, readingTold, writingTold, comparisonTold, feasibilityTold, actionsTold, changeTold, lookupTold, matchPlaceTold}
+use Rattle.update.specs.Singles.{Reach}
+use Rattle.update.specs.Apply.{reaching, unreaching, appliedTold}
 use Rattle.c_api.specs.Word.{wordOf, outAfter}
 
 -- What a call returns, and what `out` holds when the call begins and when it ends.
@@ -66,6 +68,22 @@ pub record WithdrawCall (table rule : List ℕ) (result : ℕ) (left : List ℕ)
   pub is : result ≡ wordOf (changeTold (withdrawing ipv4 rule table .answer))
   pub leaves : left ≡ withdrawing ipv4 rule table .table
   pub keeps : kept ≡ rule ∷ []
+
+-- flowspec4_reach: refusals 10, 9, 19, 1 to 7 rule by rule, 13, 16, none of which changes an octet or a word.
+pub record ReachCall (table : List ℕ) (policy : Policy) (reach : Reach) (answers entry : List ℕ)
+    (result : ℕ) (left words exit : List ℕ) (kept : List (List ℕ)) : Type 0 where
+  pub returns : Returns (appliedTold (reaching ipv4 policy reach table answers .answer)) entry result exit
+  pub leaves : left ≡ reaching ipv4 policy reach table answers .table
+  pub lists : words ≡ reaching ipv4 policy reach table answers .words
+  pub keeps : kept ≡ policy .routes ∷ reach .attribute ∷ reach .communities ∷ []
+
+-- flowspec4_unreach: refusals 10, 19, 1 to 7 rule by rule, 16, none of which changes an octet or a word.
+pub record UnreachCall (table attribute answers entry : List ℕ)
+    (result : ℕ) (left words exit : List ℕ) (kept : List (List ℕ)) : Type 0 where
+  pub returns : Returns (appliedTold (unreaching ipv4 attribute table answers .answer)) entry result exit
+  pub leaves : left ≡ unreaching ipv4 attribute table answers .table
+  pub lists : words ≡ unreaching ipv4 attribute table answers .words
+  pub keeps : kept ≡ attribute ∷ []
 
 -- flowspec4_lookup: refusals 10, 12.
 abbrev pub LookupCall : List ℕ → List ℕ → List ℕ → ℕ → List ℕ → List (List ℕ) → Type 0

@@ -5,7 +5,7 @@ use mathlib.Core.List.{List}
 use lib.Dec.{eqb}
 use Rattle.flowspec.specs.Told.{Told}
 
--- The number stands in the low 32 bits and the place in the high 32: a number is at most 16 and a place at most 4,095
+-- The number stands in the low 32 bits and the place in the high 32: a number is at most 19 and a place at most 4,095
 -- (proofs/Places.antt), so the halves are told apart (proofs/Halves.antt).
 abbrev pub word : ℕ → ℕ → ℕ
 word number place = number + place * 2 ^ 32

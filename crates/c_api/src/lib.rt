@@ -6,8 +6,9 @@ ghost use Prim.Native.Nat.{_≤_};
 ghost use Rattle.rule.specs.Value.{mostValue};
 ghost use Rattle.request.specs.Input.{announcementOf, policyOf};
 ghost use Rattle.flowspec.specs.Told.{changeTold, verdictTold};
+ghost use Rattle.update.specs.Singles.{reachOf};
 ghost use Rattle.c_api.specs.Word.{word, wordOf, isOn};
-ghost use Rattle.c_api.specs.Promise.{ReadCall, WriteCall, CompareCall, FeasibleCall, ActionsCall, AnnounceCall, WithdrawCall, LookupCall, FirstMatchCall};
+ghost use Rattle.c_api.specs.Promise.{ReadCall, WriteCall, CompareCall, FeasibleCall, ActionsCall, AnnounceCall, WithdrawCall, ReachCall, UnreachCall, LookupCall, FirstMatchCall};
 use flowspec::Change;
 use flowspec::Feasibility;
 use flowspec::Looked;
@@ -16,6 +17,7 @@ use order::Comparison;
 use rule::AddressFamily;
 use rule::Reading;
 use spelling::Writing;
+use update::Applied;
 
 // The word of a refusal: its number in the low 32 bits, its place in the high 32.
 fn word_of(number: u8, place: usize) -> u64
@@ -176,6 +178,59 @@ pub extern "C" fn flowspec4_withdraw(table: &mut [u8], rule: &[u8]) -> u64
 {
     let change = flowspec::withdraw(AddressFamily::Ipv4, table, rule);
     change_word(change)
+}
+
+// Announces the rules of an MP_REACH_NLRI attribute to a table; `allow_no_destination` is on where it is not 0. answers: a number for each
+// rule. out: how many rules there are.
+#[no_mangle]
+pub extern "C" fn flowspec4_reach(
+    table: &mut [u8],
+    routes: &[u32],
+    allow_no_destination: u32,
+    attribute: &[u8],
+    originator: u32,
+    communities: &[u8],
+    answers: &mut [u32],
+    out: &mut [u64; 1],
+) -> u64
+    ensures { λ r. ⌜ ReachCall (now (table .entry)) (policyOf (now (routes .entry)) (isOn «allow_no_destination»)) (reachOf (now (attribute .entry)) originator (now (communities .entry))) (now (answers .entry)) (now (out .entry)) r (now (table .exit)) (now (answers .exit)) (now (out .exit)) (now (routes .exit) ∷ now (attribute .exit) ∷ now (communities .exit) ∷ []) ⌝ }
+{
+    let on = is_on(allow_no_destination);
+    match update::reach(
+        AddressFamily::Ipv4,
+        table,
+        on,
+        routes,
+        attribute,
+        originator,
+        communities,
+        answers,
+    ) {
+        Applied::Refused { number, place } => word_of(number, place),
+        Applied::Done(count) => {
+            *out = [count as u64];
+            0
+        }
+    }
+}
+
+// Withdraws the rules of an MP_UNREACH_NLRI attribute from a table. answers: a number for each rule. out: how many rules there are.
+#[no_mangle]
+pub extern "C" fn flowspec4_unreach(
+    table: &mut [u8],
+    attribute: &[u8],
+    answers: &mut [u32],
+    out: &mut [u64; 1],
+) -> u64
+    ensures { λ r. ⌜ UnreachCall (now (table .entry)) (now (attribute .entry)) (now (answers .entry)) (now (out .entry)) r (now (table .exit)) (now (answers .exit)) (now (out .exit)) (now (attribute .exit) ∷ []) ⌝ }
+{
+    match update::unreach(AddressFamily::Ipv4, table, attribute, answers) {
+        Applied::Refused { number, place } => word_of(number, place),
+        Applied::Done(count) => {
+            *out = [count as u64];
+            0
+        }
+    }
 }
 
 // Looks a packet up in a table. out: the count, 0 where unmatched, and the merged actions' values, 0 where unmatched.
