@@ -2,12 +2,15 @@
 //!
 //! The modules follow the order of the RFC: reading and writing a rule, ordering two, testing
 //! feasibility against unicast routes, reading filtering actions, matching packets; then the
-//! table that holds rules and actions, and the line program over it.
+//! table that holds rules and actions, whole attributes of rules for it, and the line program
+//! over it.
 //!
 //! In the comments, 01 is the paper "What is required and the exact rules: IPv4 flow rules",
-//! named with its section; RFC sections are named as such.
+//! named with its section, and 2026-01 the later request "Whole attributes, not single rules";
+//! RFC sections are named as such.
 
 mod action;
+mod attribute;
 mod lines;
 mod order;
 mod packet;
@@ -16,6 +19,7 @@ mod rule;
 mod table;
 
 pub use action::{actions, Actions};
+pub use attribute::{reach, unreach};
 pub use lines::run_lines;
 pub use order::{compare, Precedence};
 pub use route::feasible;
@@ -26,7 +30,7 @@ pub use table::{announce, first_match, lookup, withdraw, Verdict};
 /// Only the numbers 3 to 7 carry a place; the others carry 0.
 #[derive(Debug, Clone, Copy, PartialEq, Eq)]
 pub struct Refusal {
-    /// The refusal's number, 1 to 16 (01, "Refusals").
+    /// The refusal's number, 1 to 16 (01, "Refusals") or 19 (2026-01).
     pub number: u32,
     /// The place in the value, counted from its first octet (01, "Refusals").
     pub place: u32,

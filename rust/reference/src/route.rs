@@ -7,7 +7,7 @@ use crate::Refusal;
 pub(crate) const MOST_ROUTES: usize = 4_096;
 
 /// One route as lent: address, length, originator, neighbour AS.
-type Route = [u32; 4];
+pub(crate) type Route = [u32; 4];
 
 /// A route's prefix.
 fn prefix([address, length, _, _]: Route) -> Prefix {

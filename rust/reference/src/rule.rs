@@ -329,15 +329,33 @@ pub(crate) fn value(rule: &[u8]) -> Result<&[u8], Refusal> {
     Ok(&rule[start..start + length])
 }
 
+/// The values of the rules that stand one behind the other and fill the octets, all of them read
+/// as they are met: refusals 1 to 7.
+pub(crate) fn values(mut octets: &[u8]) -> Result<Vec<&[u8]>, Refusal> {
+    let mut values = Vec::new();
+    while !octets.is_empty() {
+        let (start, length) = extent(octets)?;
+        let (value, rest) = octets[start..].split_at(length);
+        check_value(value)?;
+        values.push(value);
+        octets = rest;
+    }
+    Ok(values)
+}
+
+/// The plain spelling of an accepted value, in the working array.
+pub(crate) fn plain_spelling<'a>(value: &[u8], array: &'a mut WorkingArray) -> &'a [u8] {
+    let plain = &mut array[..value.len()];
+    spell_plainly(value, plain);
+    plain
+}
+
 /// The plain spelling, in the working array, of the one rule that fills the octets.
 pub(crate) fn read_plain<'a>(
     rule: &[u8],
     array: &'a mut WorkingArray,
 ) -> Result<&'a [u8], Refusal> {
-    let value = value(rule)?;
-    let plain = &mut array[..value.len()];
-    spell_plainly(value, plain);
-    Ok(plain)
+    Ok(plain_spelling(value(rule)?, array))
 }
 
 /// Fills the target, which is as long as the accepted value, with its plain spelling.

@@ -4,7 +4,7 @@
 use crate::action::{self, Actions};
 use crate::order::order;
 use crate::packet::Packet;
-use crate::route;
+use crate::route::{self, Route};
 use crate::rule::{self, Reader, LONGEST_VALUE, WORKING_ARRAY};
 use crate::Refusal;
 use std::cmp::Ordering;
@@ -208,12 +208,6 @@ fn find(table: &[u8], value: &[u8]) -> (usize, bool) {
     (place, false)
 }
 
-/// Takes out the record of the given cost at a place.
-fn remove(table: &mut [u8], used: usize, place: usize, cost: usize) {
-    table.copy_within(place + cost..used, place);
-    table[used - cost..used].fill(0);
-}
-
 /// The fields of a record before its value.
 fn header(value: &[u8], originator: u32, actions: &Actions) -> Header {
     let mut header = [0; HEADER];
@@ -227,6 +221,78 @@ fn header(value: &[u8], originator: u32, actions: &Actions) -> Header {
     header
 }
 
+/// What an announcement gives beside its rule, after the checks on it.
+pub(crate) struct Announcement<'a> {
+    pub(crate) routes: &'a [Route],
+    pub(crate) allow_no_destination: bool,
+    pub(crate) originator: u32,
+    pub(crate) actions: Actions,
+}
+
+/// A sound table that is lent to be changed, and the number of octets that its records fill.
+pub(crate) struct SoundTable<'a> {
+    octets: &'a mut [u8],
+    used: usize,
+}
+
+impl<'a> SoundTable<'a> {
+    /// The table in lent octets: refusal 10.
+    pub(crate) fn new(octets: &'a mut [u8]) -> Result<SoundTable<'a>, Refusal> {
+        let used = check(octets)?;
+        Ok(SoundTable { octets, used })
+    }
+
+    /// Announces the rule of a plain value: refusals 8 and 11.
+    pub(crate) fn announce(
+        &mut self,
+        value: &[u8],
+        announcement: &Announcement,
+    ) -> Result<(), Refusal> {
+        let &Announcement {
+            routes,
+            allow_no_destination,
+            originator,
+            ref actions,
+        } = announcement;
+        let (place, held) = find(&self.octets[..self.used], value);
+        let cost = HEADER + value.len();
+        let feasible = route::check_feasible(routes, allow_no_destination, value, originator);
+        if let Err(infeasible) = feasible {
+            if held {
+                self.remove(place, cost);
+            }
+            return Err(infeasible);
+        }
+        if !held {
+            if self.used + cost > self.octets.len() {
+                return Err(Refusal::new(11));
+            }
+            self.octets.copy_within(place..self.used, place + cost);
+            self.octets[place + HEADER..place + cost].copy_from_slice(value);
+            self.used += cost;
+        }
+        self.octets[place..place + HEADER].copy_from_slice(&header(value, originator, actions));
+        Ok(())
+    }
+
+    /// Withdraws the rule of a plain value: refusal 14.
+    pub(crate) fn withdraw(&mut self, value: &[u8]) -> Result<(), Refusal> {
+        let (place, held) = find(&self.octets[..self.used], value);
+        if !held {
+            return Err(Refusal::new(14));
+        }
+        self.remove(place, HEADER + value.len());
+        Ok(())
+    }
+
+    /// Takes out the record of the given cost at a place.
+    fn remove(&mut self, place: usize, cost: usize) {
+        self.octets.copy_within(place + cost..self.used, place);
+        self.octets[self.used - cost..self.used].fill(0);
+        self.used -= cost;
+    }
+}
+
 /// Announces a rule with its actions: a feasible one is held from then on in the place of an
 /// equal one, an infeasible one is not held any longer (01, "The table" and "Refusals").
 pub fn announce(
@@ -237,42 +303,25 @@ pub fn announce(
     originator: u32,
     communities: &[u8],
 ) -> Result<(), Refusal> {
-    let used = check(table)?;
+    let mut table = SoundTable::new(table)?;
     let routes = route::check(routes)?;
     let mut array = WORKING_ARRAY;
     let value = rule::read_plain(rule, &mut array)?;
-    let actions = action::actions(communities)?;
-    let (place, held) = find(&table[..used], value);
-    let cost = HEADER + value.len();
-    let feasible = route::check_feasible(routes, allow_no_destination, value, originator);
-    if let Err(infeasible) = feasible {
-        if held {
-            remove(table, used, place, cost);
-        }
-        return Err(infeasible);
-    }
-    if !held {
-        if used + cost > table.len() {
-            return Err(Refusal::new(11));
-        }
-        table.copy_within(place..used, place + cost);
-        table[place + HEADER..place + cost].copy_from_slice(value);
-    }
-    table[place..place + HEADER].copy_from_slice(&header(value, originator, &actions));
-    Ok(())
+    let announcement = Announcement {
+        routes,
+        allow_no_destination,
+        originator,
+        actions: action::actions(communities)?,
+    };
+    table.announce(value, &announcement)
 }
 
 /// Withdraws a rule that the table holds (01, "The table" and "Refusals").
 pub fn withdraw(table: &mut [u8], rule: &[u8]) -> Result<(), Refusal> {
-    let used = check(table)?;
+    let mut table = SoundTable::new(table)?;
     let mut array = WORKING_ARRAY;
     let value = rule::read_plain(rule, &mut array)?;
-    let (place, held) = find(&table[..used], value);
-    if !held {
-        return Err(Refusal::new(14));
-    }
-    remove(table, used, place, HEADER + value.len());
-    Ok(())
+    table.withdraw(value)
 }
 
 /// Looks a packet up: goes down the table, collects the matching rules and stops after one
