@@ -16,18 +16,34 @@ pub enum Call {
         first: Vec<u8>,
         second: Vec<u8>,
     },
-    Feasible(Judged),
+    Feasible {
+        basis: Basis,
+        rule: Vec<u8>,
+    },
     Actions {
         communities: Vec<u8>,
     },
     Announce {
         table: Vec<u8>,
-        judged: Judged,
+        basis: Basis,
+        rule: Vec<u8>,
         communities: Vec<u8>,
     },
     Withdraw {
         table: Vec<u8>,
         rule: Vec<u8>,
+    },
+    Reach {
+        table: Vec<u8>,
+        basis: Basis,
+        attribute: Vec<u8>,
+        communities: Vec<u8>,
+        answers: Vec<u32>,
+    },
+    Unreach {
+        table: Vec<u8>,
+        attribute: Vec<u8>,
+        answers: Vec<u32>,
     },
     Lookup {
         table: Vec<u8>,
@@ -39,29 +55,74 @@ pub enum Call {
     },
 }
 
-/// A rule and what its feasibility is judged by; for the setting 0 is off and any other number on.
+/// What feasibility is judged by; for the setting 0 is off and any other number on.
 #[derive(Clone, PartialEq, Eq)]
-pub struct Judged {
+pub struct Basis {
     pub routes: Vec<u32>,
     pub allow_no_destination: u32,
-    pub rule: Vec<u8>,
     pub originator: u32,
 }
 
-/// What a call answered, and the octets of the buffer that it may write.
+impl Basis {
+    /// What a side answers on the feasibility of a rule.
+    fn feasible<S: Side>(&self, rule: &[u8]) -> Words<0> {
+        S::feasible(
+            &self.routes,
+            self.allow_no_destination,
+            rule,
+            self.originator,
+        )
+    }
+
+    /// What a side answers to the announcement of a rule.
+    fn announce<S: Side>(&self, table: &mut [u8], rule: &[u8], communities: &[u8]) -> Words<0> {
+        S::announce(
+            table,
+            &self.routes,
+            self.allow_no_destination,
+            rule,
+            self.originator,
+            communities,
+        )
+    }
+
+    /// What a side answers to an attribute whose rules are to be announced.
+    fn reach<S: Side>(
+        &self,
+        table: &mut [u8],
+        attribute: &[u8],
+        communities: &[u8],
+        answers: &mut [u32],
+    ) -> Words<1> {
+        S::reach(
+            table,
+            &self.routes,
+            self.allow_no_destination,
+            attribute,
+            self.originator,
+            communities,
+            answers,
+        )
+    }
+}
+
+/// What a call answered, the octets of the buffer that it may write, and the words in which an
+/// attribute's call lists numbers.
 #[derive(Debug, PartialEq, Eq)]
 pub struct Answer {
     pub number: u32,
     pub place: u32,
     pub out: Vec<u64>,
     pub octets: Vec<u8>,
+    pub answers: Vec<u32>,
 }
 
-/// How many octets stand on either side of a lent buffer, to see that none is touched.
+/// How many octets or words stand on either side of a lent buffer, to see that none is touched.
 const MARGIN: usize = 16;
 
-/// What each octet beside a lent buffer is.
-const BESIDE: u8 = 0x5a;
+/// What each octet and each word beside a lent buffer is.
+const OCTET_BESIDE: u8 = 0x5a;
+const WORD_BESIDE: u32 = 0x5a5a_5a5a;
 
 impl Call {
     /// The call's name.
@@ -70,10 +131,12 @@ impl Call {
             Call::Read { .. } => "read",
             Call::Write { .. } => "write",
             Call::Compare { .. } => "compare",
-            Call::Feasible(_) => "feasible",
+            Call::Feasible { .. } => "feasible",
             Call::Actions { .. } => "actions",
             Call::Announce { .. } => "announce",
             Call::Withdraw { .. } => "withdraw",
+            Call::Reach { .. } => "reach",
+            Call::Unreach { .. } => "unreach",
             Call::Lookup { .. } => "lookup",
             Call::FirstMatch { .. } => "first_match",
         }
@@ -83,30 +146,33 @@ impl Call {
     pub fn answer_of<S: Side>(&self) -> Answer {
         match self {
             Call::Read { rule } => answer(S::read(rule)),
-            Call::Write { value, buffer } => lend(buffer, |buffer| S::write(value, buffer)),
+            Call::Write { value, buffer } => changed(buffer, |buffer| S::write(value, buffer)),
             Call::Compare { first, second } => answer(S::compare(first, second)),
-            Call::Feasible(judged) => answer(S::feasible(
-                &judged.routes,
-                judged.allow_no_destination,
-                &judged.rule,
-                judged.originator,
-            )),
+            Call::Feasible { basis, rule } => answer(basis.feasible::<S>(rule)),
             Call::Actions { communities } => answer(S::actions(communities)),
             Call::Announce {
                 table,
-                judged,
+                basis,
+                rule,
                 communities,
-            } => lend(table, |table| {
-                S::announce(
-                    table,
-                    &judged.routes,
-                    judged.allow_no_destination,
-                    &judged.rule,
-                    judged.originator,
-                    communities,
-                )
+            } => changed(table, |table| basis.announce::<S>(table, rule, communities)),
+            Call::Withdraw { table, rule } => changed(table, |table| S::withdraw(table, rule)),
+            Call::Reach {
+                table,
+                basis,
+                attribute,
+                communities,
+                answers,
+            } => listed(table, answers, |table, answers| {
+                basis.reach::<S>(table, attribute, communities, answers)
             }),
-            Call::Withdraw { table, rule } => lend(table, |table| S::withdraw(table, rule)),
+            Call::Unreach {
+                table,
+                attribute,
+                answers,
+            } => listed(table, answers, |table, answers| {
+                S::unreach(table, attribute, answers)
+            }),
             Call::Lookup { table, packet } => answer(S::lookup(table, packet)),
             Call::FirstMatch { table, packet } => answer(S::first_match(table, packet)),
         }
@@ -124,25 +190,52 @@ fn answer<const N: usize>(words: Words<N>) -> Answer {
         place,
         out,
         octets: Vec::new(),
+        answers: Vec::new(),
     }
 }
 
-/// Lends a copy of the octets, with a margin on both sides that no call may write, and gives it
-/// back with the answer.
-fn lend<const N: usize>(octets: &[u8], call: impl FnOnce(&mut [u8]) -> Words<N>) -> Answer {
-    let mut wide = vec![BESIDE; octets.len() + 2 * MARGIN];
-    let end = MARGIN + octets.len();
-    wide[MARGIN..end].copy_from_slice(octets);
-    let words = call(&mut wide[MARGIN..end]);
-    let mut beside = wide[..MARGIN].iter().chain(&wide[end..]);
+/// The answer of a call that may write octets.
+fn changed<const N: usize>(octets: &[u8], call: impl FnOnce(&mut [u8]) -> Words<N>) -> Answer {
+    let (words, octets) = lend(octets, OCTET_BESIDE, call);
+    Answer {
+        octets,
+        ..answer(words)
+    }
+}
+
+/// The answer of an attribute's call, which may write a table and lists numbers.
+fn listed(
+    table: &[u8],
+    answers: &[u32],
+    call: impl FnOnce(&mut [u8], &mut [u32]) -> Words<1>,
+) -> Answer {
+    let ((words, answers), octets) = lend(table, OCTET_BESIDE, |table| {
+        lend(answers, WORD_BESIDE, |answers| call(table, answers))
+    });
+    Answer {
+        octets,
+        answers,
+        ..answer(words)
+    }
+}
+
+/// Lends a copy of a buffer, with a margin on both sides that no call may write, and gives it back
+/// with what the call gives.
+fn lend<T: Copy + PartialEq, R>(
+    buffer: &[T],
+    beside: T,
+    call: impl FnOnce(&mut [T]) -> R,
+) -> (R, Vec<T>) {
+    let mut wide = vec![beside; buffer.len() + 2 * MARGIN];
+    let end = MARGIN + buffer.len();
+    wide[MARGIN..end].copy_from_slice(buffer);
+    let given = call(&mut wide[MARGIN..end]);
+    let mut margins = wide[..MARGIN].iter().chain(&wide[end..]);
     assert!(
-        beside.all(|octet| *octet == BESIDE),
-        "an octet beside the lent buffer was written"
+        margins.all(|item| *item == beside),
+        "something beside the lent buffer was written"
     );
     wide.truncate(end);
     wide.drain(..MARGIN);
-    Answer {
-        octets: wide,
-        ..answer(words)
-    }
+    (given, wide)
 }

@@ -1,6 +1,7 @@
 //! The calls of a run: each is settled by the run's seed and its own number.
 
-use crate::calls::{Call, Judged};
+use crate::attributes::{self, Kind};
+use crate::calls::{Basis, Call};
 use crate::random::Random;
 use crate::rules::{self, Component};
 use crate::tables::{self, Held};
@@ -36,7 +37,7 @@ impl Cases {
     /// The call of this number.
     pub fn call(&self, number: u64) -> Call {
         let random = &mut Random::new(self.seed, number);
-        match random.below(32) {
+        match random.below(34) {
             0..=4 => Call::Read {
                 rule: rules::rule(random),
             },
@@ -52,20 +53,26 @@ impl Cases {
                 let (table, packet) = self.looked_up(random);
                 Call::Lookup { table, packet }
             }
-            _ => {
+            30..=31 => {
                 let (table, packet) = self.looked_up(random);
                 Call::FirstMatch { table, packet }
             }
+            _ => self.attribute(random),
         }
     }
 
-    /// A table: mostly small, rarely one of the stock or one with a long value, sometimes damaged.
-    fn table(&self, random: &mut Random) -> Held {
-        let mut held = match random.below(1_000) {
+    /// A table: mostly small, rarely one of the stock or one with a long value.
+    fn undamaged_table(&self, random: &mut Random) -> Held {
+        match random.below(1_000) {
             0 | 1 => self.stock[random.below(self.stock.len())].clone(),
             2 => tables::long(random),
             _ => tables::small(random),
-        };
+        }
+    }
+
+    /// A table, sometimes damaged.
+    fn table(&self, random: &mut Random) -> Held {
+        let mut held = self.undamaged_table(random);
         if random.one_in(8) {
             tables::damage(random, &mut held);
         }
@@ -86,12 +93,12 @@ impl Cases {
         };
         Call::Announce {
             table: held.octets,
-            judged: Judged {
+            basis: Basis {
                 routes,
-                allow_no_destination: setting(random),
-                rule,
+                allow_no_destination: world::setting(random),
                 originator,
             },
+            rule,
             communities: communities::any(random),
         }
     }
@@ -103,6 +110,16 @@ impl Cases {
             rule: rule_near(random, &held),
             table: held.octets,
         }
+    }
+
+    /// An attribute: in half the cases whole, in the others with one fault or two.
+    fn attribute(&self, random: &mut Random) -> Call {
+        let kind = Kind::any(random);
+        let held = self.undamaged_table(random);
+        let mut lent = attributes::lent(random, kind, held);
+        let faults = random.pick(&[0, 0, 0, 0, 1, 1, 2, 2]);
+        lent.damage(random, faults);
+        lent.call()
     }
 
     /// A table and a packet, mostly aimed at one of its rules.
@@ -121,11 +138,6 @@ pub fn aimed_packet(random: &mut Random, rules: &[Vec<Component>]) -> Vec<u8> {
         let at = random.below(rules.len());
         packets::packet(random, &rules[at])
     }
-}
-
-/// The setting for rules with no destination: 0 is off, any other number on.
-fn setting(random: &mut Random) -> u32 {
-    random.pick(&[0, 0, 1, 2, 0x100, 0x8000_0000, u32::MAX])
 }
 
 /// A rule that the table holds, in some spelling, or any rule.
@@ -174,10 +186,12 @@ fn compare(random: &mut Random) -> Call {
 
 /// Routes and a rule, of any originator.
 fn feasible(random: &mut Random) -> Call {
-    Call::Feasible(Judged {
-        routes: routes::routes(random),
-        allow_no_destination: setting(random),
+    Call::Feasible {
+        basis: Basis {
+            routes: routes::routes(random),
+            allow_no_destination: world::setting(random),
+            originator: world::originator(random),
+        },
         rule: rules::rule(random),
-        originator: world::originator(random),
-    })
+    }
 }

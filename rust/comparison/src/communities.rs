@@ -76,20 +76,26 @@ pub fn communities(random: &mut Random) -> Vec<u8> {
     (0..count).flat_map(|_| community(random)).collect()
 }
 
-/// Communities, or octets whose total is no list of at most 64 of them.
-pub fn any(random: &mut Random) -> Vec<u8> {
-    let mut octets = communities(random);
-    match random.below(24) {
-        0 => random.cut(&mut octets),
+/// Makes of communities octets whose total is mostly no list of at most 64 of them.
+pub fn damage(random: &mut Random, octets: &mut Vec<u8>) {
+    match random.below(3) {
+        0 => random.cut(octets),
         1 => {
             let more = 1 + random.below(7);
             octets.extend(random.octets(more));
         }
-        2 => {
+        _ => {
             let over = random.pick(&[65, 66, 128]);
-            octets = (0..over).flat_map(|_| community(random)).collect();
+            *octets = (0..over).flat_map(|_| community(random)).collect();
         }
-        _ => {}
+    }
+}
+
+/// Communities, sometimes damaged.
+pub fn any(random: &mut Random) -> Vec<u8> {
+    let mut octets = communities(random);
+    if random.one_in(8) {
+        damage(random, &mut octets);
     }
     octets
 }

@@ -1,15 +1,13 @@
 //! Whole histories: hundreds of calls on one table, compared after each, and what must hold of any.
 
 use crate::agreed;
-use crate::calls::{Answer, Call, Judged};
+use crate::calls::{Answer, Call};
 use crate::cases::aimed_packet;
-use crate::communities;
 use crate::random::Random;
 use crate::report::Distribution;
-use crate::routes;
 use crate::rules::{self, Component};
 use crate::sides::action_words;
-use crate::world;
+use crate::steps::{self, Setting, Step, UNLISTED};
 use flowspec::Table;
 use std::collections::BTreeMap;
 
@@ -19,107 +17,57 @@ const CALLS: usize = 300;
 /// How many packets are looked up in the table at a history's end.
 const PACKETS: usize = 60;
 
-/// A call on the table of a history.
-#[derive(Clone, PartialEq, Eq)]
-enum Step {
-    Announce {
-        rule: Vec<u8>,
-        originator: u32,
-        communities: Vec<u8>,
-    },
-    Withdraw {
-        rule: Vec<u8>,
-    },
-}
-
-/// What stays the same through a history.
-struct Setting {
-    routes: Vec<u32>,
-    allow_no_destination: u32,
-}
-
-impl Setting {
-    /// A sound list of routes, often one that covers all, and the setting on or off.
-    fn new(random: &mut Random) -> Setting {
-        Setting {
-            routes: match random.one_in(2) {
-                true => routes::covering_all(1).to_vec(),
-                false => routes::sound_words(random),
-            },
-            allow_no_destination: random.pick(&[0, 1]),
-        }
-    }
-}
-
-impl Step {
-    /// The call of this step on a table.
-    fn on(&self, setting: &Setting, table: Vec<u8>) -> Call {
-        match self.clone() {
-            Step::Announce {
-                rule,
-                originator,
-                communities,
-            } => Call::Announce {
-                table,
-                judged: Judged {
-                    routes: setting.routes.clone(),
-                    allow_no_destination: setting.allow_no_destination,
-                    rule,
-                    originator,
-                },
-                communities,
-            },
-            Step::Withdraw { rule } => Call::Withdraw { table, rule },
-        }
-    }
-
-    /// The rule that the step is about.
-    fn rule(&self) -> &[u8] {
-        match self {
-            Step::Announce { rule, .. } | Step::Withdraw { rule } => rule,
-        }
-    }
-
-    /// Whether a call of this kind that was answered so is counted.
-    fn counted(&self, answer: &Answer) -> bool {
-        match self {
-            Step::Announce { .. } => matches!(answer.number, 0 | 8),
-            Step::Withdraw { .. } => matches!(answer.number, 0 | 14),
-        }
-    }
-}
-
-/// A step about one of the rules, in some spelling, or rarely about a rule that may be damaged.
-fn step(random: &mut Random, pool: &[Vec<Component>]) -> Step {
-    let value = rules::respelled(random, pool);
-    let rule = match random.one_in(20) {
-        true => rules::rule(random),
-        false => rules::rule_of(&value, random.one_in(3)),
-    };
-    match random.one_in(4) {
-        true => Step::Withdraw { rule },
-        false => Step::Announce {
-            rule,
-            originator: world::usual_originator(random),
-            communities: match random.one_in(20) {
-                true => communities::any(random),
-                false => communities::communities(random),
-            },
-        },
-    }
-}
-
-/// What a rule's calls are told apart by: the rule in its plain spelling.
-fn plain(rule: &[u8]) -> Vec<u8> {
-    let mut buffer = vec![0; rule.len() + 2];
-    let (start, length) = reference::read(rule).unwrap_or_default();
-    let written = reference::write(&rule[start..start + length], &mut buffer).unwrap_or_default();
-    buffer.truncate(written);
-    buffer
-}
-
 /// The last counted step of each rule, by the rule's plain spelling.
 type Last = BTreeMap<Vec<u8>, Step>;
+
+/// Takes one step on a table and gives the answer, after all sides agreed on it.
+fn take(
+    setting: &Setting,
+    table: Vec<u8>,
+    step: &Step,
+    seen: &mut Distribution,
+) -> Result<Answer, String> {
+    let call = step.on(setting, table);
+    let answer = agreed(&call, true)?;
+    seen.count(&call, &answer);
+    Ok(answer)
+}
+
+/// Takes the single calls that an attribute stands for, which are none if it was refused, and sees
+/// that they answer what it listed and leave what it left.
+fn take_singles(
+    setting: &Setting,
+    before: &[u8],
+    step: &Step,
+    whole: &Answer,
+    seen: &mut Distribution,
+) -> Result<Last, String> {
+    let mut table = before.to_vec();
+    let mut last = Last::new();
+    let mut numbers = Vec::new();
+    let singles = match whole.number {
+        0 => step.singles(),
+        _ => Vec::new(),
+    };
+    for single in singles {
+        let answer = take(setting, table, &single, seen)?;
+        numbers.push(answer.number);
+        if let Some(rule) = single.counted(&answer) {
+            last.insert(rule, single);
+        }
+        table = answer.octets;
+    }
+    let rest_kept = whole.answers[numbers.len()..]
+        .iter()
+        .all(|word| *word == UNLISTED);
+    match rest_kept && whole.listed() == numbers && whole.octets == table {
+        true => Ok(last),
+        false => Err(format!(
+            "an attribute does not do what the single calls of its rules do\n{}\nboth: {whole}",
+            step.on(setting, before.to_vec())
+        )),
+    }
+}
 
 /// Takes the steps one by one on a table that begins empty, and gives the last counted one of each
 /// rule and the table at the end.
@@ -132,11 +80,12 @@ fn run(
     let mut table = vec![0; length];
     let mut last = Last::new();
     for step in steps {
-        let call = step.on(setting, table);
-        let answer = agreed(&call, true)?;
-        seen.count(&call, &answer);
-        if step.counted(&answer) {
-            last.insert(plain(step.rule()), step.clone());
+        let answer = take(setting, table.clone(), step, seen)?;
+        match step {
+            Step::Reach { .. } | Step::Unreach { .. } => {
+                last.extend(take_singles(setting, &table, step, &answer, seen)?);
+            }
+            _ => last.extend(step.counted(&answer).map(|rule| (rule, step.clone()))),
         }
         table = answer.octets;
     }
@@ -185,16 +134,17 @@ fn look_up(
 
 /// Runs the history of this number and sees that what must hold of every history holds of it.
 ///
-/// Library, wrapper and reference agree after each call; the records listed are the table; the last
-/// counted calls of each rule alone, in any order, make the same table, and so does any history
-/// that ends in them.
+/// Library, wrapper and reference agree after each call; an attribute does what the single calls of
+/// its rules do, which are the calls that a history is taken to be of; the records listed are the
+/// table; the last counted calls of each rule alone, in any order, make the same table, and so does
+/// any history that ends in them.
 pub fn history(seed: u64, number: u64, seen: &mut Distribution) -> Result<(), String> {
     let random = &mut Random::new(!seed, number);
     let rules = random.pick(&[3, 10, 40, 100]);
     let pool: Vec<_> = (0..rules).map(|_| rules::components(random)).collect();
     let setting = Setting::new(random);
     let length = random.pick(&[150, 700, 2_000, 8_192, Table::LONGEST]);
-    let mut steps: Vec<_> = (0..CALLS).map(|_| step(random, &pool)).collect();
+    let mut steps: Vec<_> = (0..CALLS).map(|_| steps::step(random, &pool)).collect();
     let (last, table) = run(&setting, length, &steps, seen)?;
     if listed(&table)? != table {
         return Err(String::from("the records listed are not the table"));

@@ -4,6 +4,7 @@
 //! The inputs look random and are the same in every run: a case is settled by the seed of its run
 //! and its own number, and so it can be replayed.
 
+mod attributes;
 pub mod calls;
 pub mod cases;
 mod communities;
@@ -16,6 +17,7 @@ pub mod report;
 pub mod routes;
 pub mod rules;
 pub mod sides;
+mod steps;
 mod tables;
 pub mod world;
 
@@ -75,6 +77,25 @@ pub fn compare_calls(seed: u64, count: u64, seen: &mut Distribution) -> Result<(
         let answer = agreed(&call, number % 4 == 0)
             .map_err(|text| format!("{text}\nto see it again: --replay {seed}:{number}"))?;
         seen.count(&call, &answer);
+    }
+    Ok(())
+}
+
+/// Compares so many attributes of a seed, each also cut at every length and changed at every octet;
+/// the text of a disagreement says how to replay it.
+pub fn compare_attributes(seed: u64, count: u64, seen: &mut Distribution) -> Result<(), String> {
+    for number in 0..count {
+        attribute(seed, number, seen).map_err(|text| {
+            format!("{text}\nto see it again: --replay-attribute {seed}:{number}")
+        })?;
+    }
+    Ok(())
+}
+
+/// Compares the attribute of this number: whole, cut at every length and changed at every octet.
+pub fn attribute(seed: u64, number: u64, seen: &mut Distribution) -> Result<(), String> {
+    for call in attributes::everywhere(seed, number) {
+        seen.count(&call, &agreed(&call, false)?);
     }
     Ok(())
 }

@@ -66,6 +66,33 @@ impl Side for Library {
         watched(|_| ffi::withdraw(table, rule))
     }
 
+    fn reach(
+        table: &mut [u8],
+        routes: &[u32],
+        allow: u32,
+        attribute: &[u8],
+        originator: u32,
+        communities: &[u8],
+        answers: &mut [u32],
+    ) -> Words<1> {
+        watched(|out| {
+            ffi::reach(
+                table,
+                routes,
+                allow,
+                attribute,
+                originator,
+                communities,
+                answers,
+                out,
+            )
+        })
+    }
+
+    fn unreach(table: &mut [u8], attribute: &[u8], answers: &mut [u32]) -> Words<1> {
+        watched(|out| ffi::unreach(table, attribute, answers, out))
+    }
+
     fn lookup(table: &[u8], packet: &[u8]) -> Words<6> {
         watched(|out| ffi::lookup(table, packet, out))
     }

@@ -1,6 +1,6 @@
 //! How calls and answers are printed, and how often each answer was met.
 
-use crate::calls::{Answer, Call, Judged};
+use crate::calls::{Answer, Basis, Call};
 use crate::tables;
 use std::collections::BTreeMap;
 use std::fmt::{self, Write};
@@ -28,30 +28,58 @@ fn quoted(octets: &[u8]) -> String {
 }
 
 impl Call {
-    /// The octets that are lent, by their names, and what feasibility is judged by.
-    fn parts(&self) -> (Vec<(&str, &[u8])>, Option<&Judged>) {
+    /// The octets that are lent, by their names.
+    fn parts(&self) -> Vec<(&str, &[u8])> {
         match self {
-            Call::Read { rule } => (vec![("rule", rule)], None),
-            Call::Write { value, buffer } => (vec![("value", value), ("buffer", buffer)], None),
-            Call::Compare { first, second } => (vec![("first", first), ("second", second)], None),
-            Call::Feasible(judged) => (vec![("rule", &judged.rule)], Some(judged)),
-            Call::Actions { communities } => (vec![("communities", communities)], None),
+            Call::Read { rule } | Call::Feasible { rule, .. } => vec![("rule", rule)],
+            Call::Write { value, buffer } => vec![("value", value), ("buffer", buffer)],
+            Call::Compare { first, second } => vec![("first", first), ("second", second)],
+            Call::Actions { communities } => vec![("communities", communities)],
             Call::Announce {
                 table,
-                judged,
+                rule,
                 communities,
-            } => (
-                vec![
-                    ("table", table),
-                    ("rule", &judged.rule),
-                    ("communities", communities),
-                ],
-                Some(judged),
-            ),
-            Call::Withdraw { table, rule } => (vec![("table", table), ("rule", rule)], None),
+                ..
+            } => vec![
+                ("table", table),
+                ("rule", rule),
+                ("communities", communities),
+            ],
+            Call::Withdraw { table, rule } => vec![("table", table), ("rule", rule)],
+            Call::Reach {
+                table,
+                attribute,
+                communities,
+                ..
+            } => vec![
+                ("table", table),
+                ("attribute", attribute),
+                ("communities", communities),
+            ],
+            Call::Unreach {
+                table, attribute, ..
+            } => vec![("table", table), ("attribute", attribute)],
             Call::Lookup { table, packet } | Call::FirstMatch { table, packet } => {
-                (vec![("table", table), ("packet", packet)], None)
+                vec![("table", table), ("packet", packet)]
             }
+        }
+    }
+
+    /// What feasibility is judged by, in the calls that judge it.
+    fn basis(&self) -> Option<&Basis> {
+        match self {
+            Call::Feasible { basis, .. }
+            | Call::Announce { basis, .. }
+            | Call::Reach { basis, .. } => Some(basis),
+            _ => None,
+        }
+    }
+
+    /// The words that are lent for numbers, in the calls of attributes.
+    fn answers(&self) -> Option<&[u32]> {
+        match self {
+            Call::Reach { answers, .. } | Call::Unreach { answers, .. } => Some(answers),
+            _ => None,
         }
     }
 }
@@ -59,18 +87,16 @@ impl Call {
 impl fmt::Display for Call {
     fn fmt(&self, f: &mut fmt::Formatter<'_>) -> fmt::Result {
         write!(f, "{}", self.name())?;
-        let (parts, judged) = self.parts();
-        for (name, octets) in parts {
+        for (name, octets) in self.parts() {
             write!(f, "\n  {name} {}", quoted(octets))?;
         }
-        if let Some(judged) = judged {
-            write!(f, "\n  routes {:x?}", judged.routes)?;
-            write!(f, "\n  originator {}", judged.originator)?;
-            write!(
-                f,
-                "\n  allow_no_destination {}",
-                judged.allow_no_destination
-            )?;
+        if let Some(basis) = self.basis() {
+            write!(f, "\n  routes {:x?}", basis.routes)?;
+            write!(f, "\n  originator {}", basis.originator)?;
+            write!(f, "\n  allow_no_destination {}", basis.allow_no_destination)?;
+        }
+        if let Some(answers) = self.answers() {
+            write!(f, "\n  answers {answers:x?}")?;
         }
         Ok(())
     }
@@ -79,17 +105,19 @@ impl fmt::Display for Call {
 impl fmt::Display for Answer {
     fn fmt(&self, f: &mut fmt::Formatter<'_>) -> fmt::Result {
         write!(f, "number {} place {}", self.number, self.place)?;
-        write!(f, " out {:x?} octets {}", self.out, quoted(&self.octets))
+        write!(f, " out {:x?} octets {}", self.out, quoted(&self.octets))?;
+        write!(f, " answers {:x?}", self.answers)
     }
 }
 
 /// The numbers of the answers, as text.
-const NUMBERS: [&str; 17] = [
+const NUMBERS: [&str; 20] = [
     "0", "1", "2", "3", "4", "5", "6", "7", "8", "9", "10", "11", "12", "13", "14", "15", "16",
+    "17", "18", "19",
 ];
 
-/// The refusals of every call that reads a rule.
-const READING: [&str; 8] = ["1", "2", "3", "4", "5", "6", "7", "15"];
+/// The refusals of every call that reads a rule or a value.
+const READING: [&str; 7] = ["1", "2", "3", "4", "5", "6", "7"];
 
 /// What a call can answer, besides `READING` if it reads a rule.
 struct Expected {
@@ -99,15 +127,11 @@ struct Expected {
 }
 
 /// What each call can answer: a run must meet all of it and nothing else.
-const EXPECTED: [Expected; 9] = [
-    expected("read", true, &["0"]),
-    expected(
-        "write",
-        false,
-        &["0", "1", "2", "3", "4", "5", "6", "7", "16"],
-    ),
-    expected("compare", true, &["0 first", "0 second", "0 same"]),
-    expected("feasible", true, &["0", "8", "9"]),
+const EXPECTED: [Expected; 11] = [
+    expected("read", true, &["0", "15"]),
+    expected("write", true, &["0", "16"]),
+    expected("compare", true, &["0 first", "0 second", "0 same", "15"]),
+    expected("feasible", true, &["0", "8", "9", "15"]),
     expected("actions", false, &["0", "13"]),
     expected(
         "announce",
@@ -121,9 +145,31 @@ const EXPECTED: [Expected; 9] = [
             "10",
             "11",
             "13",
+            "15",
         ],
     ),
-    expected("withdraw", true, &["0", "10", "14"]),
+    expected("withdraw", true, &["0", "10", "14", "15"]),
+    expected(
+        "reach",
+        true,
+        &[
+            "0",
+            "0 around 11",
+            "9",
+            "10",
+            "13",
+            "16",
+            "19",
+            "listed 0",
+            "listed 8",
+            "listed 11",
+        ],
+    ),
+    expected(
+        "unreach",
+        true,
+        &["0", "0 no rule", "10", "16", "19", "listed 0", "listed 14"],
+    ),
     expected(
         "lookup",
         false,
@@ -175,21 +221,56 @@ fn kind_of(call: &Call, answer: &Answer) -> &'static str {
         }
         (Call::Announce { table, .. }, 8) if *table != answer.octets => "8 removed",
         (Call::Announce { .. }, 8) => "8 not held",
+        (Call::Reach { .. }, 0) if stands_between(11, 0, answer.listed()) => "0 around 11",
+        (Call::Unreach { .. }, 0) if answer.out == [0] => "0 no rule",
         (_, number) => NUMBERS[number as usize],
     }
 }
 
-/// How often each call gave each answer.
+/// Whether a number stands in a list with another one before it and behind it.
+fn stands_between(number: u32, other: u32, list: &[u32]) -> bool {
+    let is_other = |listed: &u32| *listed == other;
+    let first = list.iter().position(is_other);
+    let last = list.iter().rposition(is_other);
+    first
+        .zip(last)
+        .is_some_and(|(first, last)| list[first..last].contains(&number))
+}
+
+impl Answer {
+    /// The numbers that an attribute's call listed, one for each rule.
+    pub fn listed(&self) -> &[u32] {
+        let count = self.out.first().map_or(0, |count| *count as usize);
+        self.answers.get(..count).unwrap_or_default()
+    }
+}
+
+/// The name under which a number that an attribute's call listed is counted.
+fn kind_of_listed(number: u32) -> &'static str {
+    match number {
+        0 => "listed 0",
+        8 => "listed 8",
+        11 => "listed 11",
+        14 => "listed 14",
+        _ => "listed another number",
+    }
+}
+
+/// How often each call gave each answer, and how often an attribute's listed each number.
 #[derive(Default)]
 pub struct Distribution {
     counts: BTreeMap<(&'static str, &'static str), u64>,
+    calls: u64,
 }
 
 impl Distribution {
     /// Counts an answer.
     pub fn count(&mut self, call: &Call, answer: &Answer) {
-        let key = (call.name(), kind_of(call, answer));
-        *self.counts.entry(key).or_default() += 1;
+        self.calls += 1;
+        let listed = answer.listed().iter().copied().map(kind_of_listed);
+        for kind in listed.chain([kind_of(call, answer)]) {
+            *self.counts.entry((call.name(), kind)).or_default() += 1;
+        }
     }
 
     /// How often a call gave an answer of this kind.
@@ -197,9 +278,9 @@ impl Distribution {
         self.counts.get(&(call, kind)).copied().unwrap_or_default()
     }
 
-    /// How many answers were counted.
+    /// How many calls were counted.
     pub fn total(&self) -> u64 {
-        self.counts.values().sum()
+        self.calls
     }
 
     /// What is wrong with the run: answers that a call can give and that were never met, and

@@ -90,3 +90,23 @@ pub fn routes(random: &mut Random) -> Vec<u32> {
 pub fn sound_words(random: &mut Random) -> Vec<u32> {
     sound(random).concat()
 }
+
+/// A sound list of routes, as words, in which the one that covers all is of this originator.
+pub fn words_under(random: &mut Random, originator: u32) -> Vec<u32> {
+    let mut routes = sound(random);
+    routes.retain(|route| route[1] > 0);
+    routes.insert(0, covering_all(originator));
+    routes.concat()
+}
+
+/// A list of routes with one thing spoilt, as words; few of them are still sound.
+pub fn damaged_words(random: &mut Random) -> Vec<u32> {
+    let mut routes = sound(random);
+    routes.push(covering_all(1));
+    damage(random, &mut routes);
+    let mut words = routes.concat();
+    if random.one_in(3) {
+        random.cut(&mut words);
+    }
+    words
+}

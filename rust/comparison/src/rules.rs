@@ -309,3 +309,24 @@ pub fn rule(random: &mut Random) -> Vec<u8> {
     }
     rule
 }
+
+/// A rule with damage in its components, its value or its length field, or one of length 0.
+pub fn damaged_rule(random: &mut Random) -> Vec<u8> {
+    let mut found = components(random);
+    let kind = random.below(4);
+    if kind == 0 {
+        return random.pick(&[&[0][..], &[0xf0, 0]]).to_vec();
+    }
+    if kind == 1 {
+        damage_components(random, &mut found);
+    }
+    let mut value = value_of(&found);
+    if kind == 2 {
+        damage_value(random, &mut value);
+    }
+    let mut rule = rule_of(&value, random.one_in(6));
+    if kind == 3 {
+        damage_rule(random, &mut rule);
+    }
+    rule
+}

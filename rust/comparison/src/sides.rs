@@ -9,7 +9,7 @@ use reference::Refusal;
 /// What a call gives back: the words of `out` as the C functions set them, or a refusal.
 pub type Words<const N: usize> = Result<[u64; N], Error>;
 
-/// An implementation of the nine calls; `allow` is the setting for rules with no destination, of
+/// An implementation of the calls; `allow` is the setting for rules with no destination, of
 /// which 0 is off and any other number on.
 pub trait Side {
     /// What the implementation is called.
@@ -43,6 +43,20 @@ pub trait Side {
     /// Nothing, if the rule is held no longer.
     fn withdraw(table: &mut [u8], rule: &[u8]) -> Words<0>;
 
+    /// The count of an attribute's rules, each announced; the answers list their numbers.
+    fn reach(
+        table: &mut [u8],
+        routes: &[u32],
+        allow: u32,
+        attribute: &[u8],
+        originator: u32,
+        communities: &[u8],
+        answers: &mut [u32],
+    ) -> Words<1>;
+
+    /// The count of an attribute's rules, each withdrawn; the answers list their numbers.
+    fn unreach(table: &mut [u8], attribute: &[u8], answers: &mut [u32]) -> Words<1>;
+
     /// The count of rules collected and the merged actions, all 0 where nothing matched.
     fn lookup(table: &[u8], packet: &[u8]) -> Words<6>;
 
@@ -53,6 +67,11 @@ pub trait Side {
 /// The words of a start and a length.
 fn place_words((start, length): (usize, usize)) -> [u64; 2] {
     [start as u64, length as u64]
+}
+
+/// The word of a count.
+fn count_words(count: usize) -> [u64; 1] {
+    [count as u64]
 }
 
 /// The words of actions, as a record has them: flags, DSCP, byte rate, packet rate, redirect.
@@ -101,7 +120,7 @@ impl Side for Wrapper {
     }
 
     fn write(value: &[u8], buffer: &mut [u8]) -> Words<1> {
-        flowspec::write(value, buffer).map(|count| [count as u64])
+        flowspec::write(value, buffer).map(count_words)
     }
 
     fn compare(first: &[u8], second: &[u8]) -> Words<1> {
@@ -132,6 +151,33 @@ impl Side for Wrapper {
 
     fn withdraw(table: &mut [u8], rule: &[u8]) -> Words<0> {
         Table::over(table).withdraw(rule).map(|()| [])
+    }
+
+    fn reach(
+        table: &mut [u8],
+        routes: &[u32],
+        allow: u32,
+        attribute: &[u8],
+        originator: u32,
+        communities: &[u8],
+        answers: &mut [u32],
+    ) -> Words<1> {
+        Table::over(table)
+            .reach(
+                routes,
+                allow != 0,
+                attribute,
+                originator,
+                communities,
+                answers,
+            )
+            .map(count_words)
+    }
+
+    fn unreach(table: &mut [u8], attribute: &[u8], answers: &mut [u32]) -> Words<1> {
+        Table::over(table)
+            .unreach(attribute, answers)
+            .map(count_words)
     }
 
     fn lookup(table: &[u8], packet: &[u8]) -> Words<6> {
@@ -197,7 +243,7 @@ impl Side for Reference {
     }
 
     fn write(value: &[u8], buffer: &mut [u8]) -> Words<1> {
-        told(reference::write(value, buffer), |count| [count as u64])
+        told(reference::write(value, buffer), count_words)
     }
 
     fn compare(first: &[u8], second: &[u8]) -> Words<1> {
@@ -233,6 +279,32 @@ impl Side for Reference {
 
     fn withdraw(table: &mut [u8], rule: &[u8]) -> Words<0> {
         told(reference::withdraw(table, rule), |()| [])
+    }
+
+    fn reach(
+        table: &mut [u8],
+        routes: &[u32],
+        allow: u32,
+        attribute: &[u8],
+        originator: u32,
+        communities: &[u8],
+        answers: &mut [u32],
+    ) -> Words<1> {
+        let allow = allow != 0;
+        let answer = reference::reach(
+            table,
+            routes,
+            allow,
+            attribute,
+            originator,
+            communities,
+            answers,
+        );
+        told(answer, count_words)
+    }
+
+    fn unreach(table: &mut [u8], attribute: &[u8], answers: &mut [u32]) -> Words<1> {
+        told(reference::unreach(table, attribute, answers), count_words)
     }
 
     fn lookup(table: &[u8], packet: &[u8]) -> Words<6> {

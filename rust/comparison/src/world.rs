@@ -53,6 +53,11 @@ pub fn usual_originator(random: &mut Random) -> u32 {
     }
 }
 
+/// The setting for rules with no destination: 0 is off, any other number on.
+pub fn setting(random: &mut Random) -> u32 {
+    random.pick(&[0, 0, 1, 2, 0x100, 0x8000_0000, u32::MAX])
+}
+
 /// A number that a component of this type may ask for and a packet may show.
 pub fn field(random: &mut Random, kind: u8) -> u64 {
     let usual: &[u64] = match kind {

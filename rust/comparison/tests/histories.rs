@@ -4,13 +4,22 @@ use comparison::report::Distribution;
 use comparison::{compare_histories, SEED};
 
 /// Answers without which the histories would show little.
-const MET: [(&str, &str); 9] = [
+const MET: [(&str, &str); 18] = [
     ("announce", "0 new"),
     ("announce", "0 again"),
     ("announce", "8 removed"),
     ("announce", "11"),
     ("withdraw", "0"),
     ("withdraw", "14"),
+    ("reach", "0"),
+    ("reach", "0 around 11"),
+    ("reach", "13"),
+    ("reach", "16"),
+    ("reach", "listed 8"),
+    ("unreach", "0"),
+    ("unreach", "16"),
+    ("unreach", "listed 0"),
+    ("unreach", "listed 14"),
     ("lookup", "0 unmatched"),
     ("lookup", "0 several"),
     ("first_match", "0 record"),
