@@ -25,22 +25,24 @@
  *   13  actions unsound
  *   14  rule to withdraw is not held
  *   15  bytes after the one rule
- *   16  writer's buffer too short
+ *   16  writer's buffer too short; attribute: fewer answer words than rules
+ *   19  attribute not taken: head cut short, next hop, another family, or a reach with no rule
  *
  * The place of 3 to 7 counts octets of the value from 0: the type octet (3, 4), the length octet
  * (5), the operator (7), the value's end (6). The place of every other answer is 0.
  *
- * WHAT IS WRITTEN. Answered 0, each word of `out` is set, and the table or the buffer is as the
- * function says. Refused, `out` and every lent octet stay as they were, except that 8 from
- * flowspec4_announce removes a held equal rule. What is lent as const is never written.
+ * WHAT IS WRITTEN. Answered 0, each word of `out` is set, and the table, the buffer and `answers`
+ * are as the function says. Refused, `out`, `answers` and every lent octet stay as they were, except
+ * that 8 from flowspec4_announce removes a held equal rule. What is lent as const is never written.
  *
  * WHAT IS ASSUMED OF THE CALLER, and cannot be checked by the functions:
  *   - a pointer and its length are true: so many octets (or words) may be read there, and written
  *     where the pointer is not const; `out` has as many words as its declaration says;
- *   - no buffer that is written (`out`, `buf`, a table lent to be changed) overlaps any other lent
- *     buffer;
+ *   - no buffer that is written (`out`, `buf`, `answers`, a table lent to be changed) overlaps any
+ *     other lent buffer;
  *   - pointers are not null, even with a length of 0, and words are aligned.
- * Nothing else is: any octets may be lent as a rule, a table, a packet, communities or routes.
+ * Nothing else is: any octets may be lent as a rule, an attribute, a table, a packet, communities or
+ * routes.
  *
  * THE TABLE is a lent buffer of 0 to 65,536 octets; all zero is an empty table. Records stand from
  * octet 0 in precedence order and all after is zero. A record is: value length (2 octets),
@@ -52,6 +54,12 @@
  * ROUTES are lent as 32-bit words, four a route: address, length, originator, neighbour AS. A list
  * is sound if it has a multiple of four words, at most 4,096 routes, each length at most 32, no bit
  * of an address set past the length, and the routes rise strictly by address, then length.
+ *
+ * AN ATTRIBUTE is the value of MP_REACH_NLRI or MP_UNREACH_NLRI (RFC 4760), with any number of
+ * rules. It is taken or refused as a whole: a refused one leaves every held rule in force, and which
+ * of its rules failed is not told; the place of 3 to 7 is in that rule's own value. Of one that is
+ * taken each rule is tried, in order, and the front of `answers`, which are 32-bit words, lists a
+ * number for each; the words behind them stay as they were.
  */
 #ifndef FLOWSPEC_H
 #define FLOWSPEC_H
@@ -129,6 +137,27 @@ uint64_t flowspec4_announce(uint8_t *table, size_t table_len, const uint32_t *ro
  * Refused with 10, 1 to 7, 15 or 14, checked in this order; a refusal leaves the table as it was.
  */
 uint64_t flowspec4_withdraw(uint8_t *table, size_t table_len, const uint8_t *rule, size_t rule_len);
+
+/*
+ * Announces each rule of MP_REACH_NLRI as flowspec4_announce does, all with the same actions. The
+ * attribute is AFI 1 (2 octets), SAFI 133, a next-hop length of 0, a reserved octet that may be
+ * anything, then one or more rules to the end.
+ * Refused with 10, 9, 19, 1 to 7, 13 or 16, checked in this order, 1 to 7 rule by rule; a refusal
+ * leaves the table as it was.
+ * out: how many rules the attribute has. `answers` then lists for each 0, 8 (infeasible: a held
+ * equal rule is removed) or 11 (no room). 11 for one rule undoes none before it.
+ */
+uint64_t flowspec4_reach(uint8_t *table, size_t table_len, const uint32_t *routes, size_t words, uint32_t allow_no_destination, const uint8_t *attribute, size_t attribute_len, uint32_t originator, const uint8_t *communities, size_t len, uint32_t *answers, size_t answers_len, uint64_t out[1]);
+
+/*
+ * Withdraws each rule of MP_UNREACH_NLRI as flowspec4_withdraw does. The attribute is AFI 1 (2
+ * octets), SAFI 133, then rules to the end; one with no rule changes nothing, and `answers_len` may
+ * then be 0 (`answers` is not null even so).
+ * Refused with 10, 19, 1 to 7 or 16, checked in this order, 1 to 7 rule by rule; a refusal leaves
+ * the table as it was.
+ * out: how many rules the attribute has. `answers` then lists for each 0 or 14 (not held).
+ */
+uint64_t flowspec4_unreach(uint8_t *table, size_t table_len, const uint8_t *attribute, size_t attribute_len, uint32_t *answers, size_t answers_len, uint64_t out[1]);
 
 /*
  * Looks a packet (from its IPv4 header on) up: goes down the table, collects each rule that

@@ -1,6 +1,7 @@
 /*
  * Calls every function of flowspec.h from C and holds the answers to literal values, which are
- * those of the examples in the paper of requirements (01).
+ * those of the examples in the paper of requirements (01), and for whole attributes those that the
+ * words of the request 2026-01 give.
  *
  *     cc -Wall -Wextra -Werror -I include tests/c/calls.c target/staticlib/libc_api.a -o calls && ./calls
  */
@@ -12,6 +13,10 @@
 
 /* What a word of `out` is before a call. */
 #define UNTOUCHED UINT64_C(0xa5a5a5a5a5a5a5a5)
+
+/* What a word of `answers` is before a call, and how many are lent at most. */
+#define UNLISTED UINT32_C(0xb6b6b6b6)
+#define WORDS 6
 
 /* The longest value and its length field. */
 #define LONGEST 4097
@@ -53,7 +58,8 @@ static void check_read(const uint8_t *rule, size_t length, uint32_t number, uint
 }
 
 /* 01's example of a rule: to 192.0.2.0/24, protocol 6, port 25. */
-static const uint8_t example[12] = {0x0b, 0x01, 0x18, 0xc0, 0x00, 0x02, 0x03, 0x81, 0x06, 0x04, 0x81, 0x19};
+#define EXAMPLE 0x0b, 0x01, 0x18, 0xc0, 0x00, 0x02, 0x03, 0x81, 0x06, 0x04, 0x81, 0x19
+static const uint8_t example[12] = {EXAMPLE};
 
 /* A rule is read in both forms of the length field, and refused where 01 says. */
 static void reading(void)
@@ -273,6 +279,182 @@ static void looking(void)
     check_answer("first match, unsound", flowspec4_first_match(table, sizeof table, packet, sizeof packet, found), 10, 0);
 }
 
+/* What a call with a whole attribute may write, and the table before it. */
+struct lent {
+    uint8_t table[64], before[64];
+    uint32_t answers[WORDS];
+    uint64_t out[1];
+};
+
+/* Lends a table that holds 01's example; it is sound only where its last octet is 0. */
+static struct lent lend(uint8_t last)
+{
+    struct lent lent = {.out = {UNTOUCHED}};
+    int word;
+    for (word = 0; word < WORDS; word++)
+        lent.answers[word] = UNLISTED;
+    check_answer("announce", announced(lent.table, sizeof lent.table, 7), 0, 0);
+    lent.table[63] = last;
+    memcpy(lent.before, lent.table, sizeof lent.table);
+    return lent;
+}
+
+/* Holds the front of the answer words to so many numbers, and the rest to what it was. */
+static void check_listed(const char *what, const struct lent *lent, const uint32_t *numbers, int count)
+{
+    int word;
+    for (word = 0; word < WORDS; word++)
+        check(what, lent->answers[word], word < count ? numbers[word] : UNLISTED);
+}
+
+/* Holds all that was lent to what it was, so that the rule that was held is in force. */
+static void check_kept(const char *what, const struct lent *lent)
+{
+    check_octets(what, lent->table, lent->before, sizeof lent->table);
+    check_listed(what, lent, NULL, 0);
+    check(what, lent->out[0], UNTOUCHED);
+}
+
+/* Announces the rules of an attribute to a table of 64 octets. */
+static uint64_t reached(struct lent *lent, size_t words, const uint8_t *attribute, size_t length, uint32_t originator, size_t len, size_t answers_len)
+{
+    return flowspec4_reach(
+        lent->table, sizeof lent->table, route, words, 0, attribute, length, originator, drop, len, lent->answers, answers_len, lent->out);
+}
+
+/* Withdraws the rules of an attribute from a table of 64 octets. */
+static uint64_t unreached(struct lent *lent, const uint8_t *attribute, size_t length, size_t answers_len)
+{
+    return flowspec4_unreach(lent->table, sizeof lent->table, attribute, length, lent->answers, answers_len, lent->out);
+}
+
+/* A reach that is refused: the table's last octet, how many words of the route, octets of communities and answer words are lent, and the
+ * attribute may each be a fault. */
+static void refuse_reach(
+    uint8_t last, size_t words, size_t len, size_t answers_len, const uint8_t *attribute, size_t length, uint32_t number, uint32_t place)
+{
+    struct lent lent = lend(last);
+    check_answer("reach refused", reached(&lent, words, attribute, length, 8, len, answers_len), number, place);
+    check_kept("reach refused: lent", &lent);
+}
+
+/* The same of an unreach. */
+static void refuse_unreach(uint8_t last, size_t answers_len, const uint8_t *attribute, size_t length, uint32_t number, uint32_t place)
+{
+    struct lent lent = lend(last);
+    check_answer("unreach refused", unreached(&lent, attribute, length, answers_len), number, place);
+    check_kept("unreach refused: lent", &lent);
+}
+
+/* "Checks run 10, 9 (reach), 19, 1 to 7 rule by rule, 13 (reach), 16": each beside faults of all after it, then each kind of 19, and each of 1
+ * to 7. The rule before the fault is the one that is held, which would be removed. */
+static void refusing_reach(void)
+{
+    refuse_reach(1, 3, 7, 0, OCTETS(0, 2, 133, 0, 0, 0), 10, 0);
+    refuse_reach(0, 3, 7, 0, OCTETS(0, 2, 133, 0, 0, 0), 9, 0);
+    refuse_reach(0, 4, 7, 0, OCTETS(0, 2, 133, 0, 0, 0), 19, 0);
+    refuse_reach(0, 4, 7, 0, OCTETS(0, 1, 133, 0, 0, EXAMPLE, 0), 2, 0);
+    refuse_reach(0, 4, 7, 0, OCTETS(0, 1, 133, 0, 0, EXAMPLE), 13, 0);
+    refuse_reach(0, 4, 8, 0, OCTETS(0, 1, 133, 0, 0, EXAMPLE), 16, 0);
+    refuse_reach(0, 4, 8, 1, OCTETS(0, 1, 133, 0, 0, EXAMPLE, EXAMPLE), 16, 0);
+    refuse_reach(0, 4, 8, WORDS, example, 0, 19, 0);
+    refuse_reach(0, 4, 8, WORDS, OCTETS(0, 1, 133, 0), 19, 0);
+    refuse_reach(0, 4, 8, WORDS, OCTETS(0, 1, 133, 0, 0), 19, 0);
+    refuse_reach(0, 4, 8, WORDS, OCTETS(0, 1, 133, 1, 0, EXAMPLE), 19, 0);
+    refuse_reach(0, 4, 8, WORDS, OCTETS(0, 1, 133, 4, 192, 0, 2, 1, 0, EXAMPLE), 19, 0);
+    refuse_reach(0, 4, 8, WORDS, OCTETS(1, 1, 133, 0, 0, EXAMPLE), 19, 0);
+    refuse_reach(0, 4, 8, WORDS, OCTETS(0, 0, 133, 0, 0, EXAMPLE), 19, 0);
+    refuse_reach(0, 4, 8, WORDS, OCTETS(0, 1, 132, 0, 0, EXAMPLE), 19, 0);
+    refuse_reach(0, 4, 8, WORDS, OCTETS(0, 1, 134, 0, 0, EXAMPLE), 19, 0);
+    refuse_reach(0, 4, 8, WORDS, OCTETS(0, 1, 133, 0, 0, EXAMPLE, 3, 3, 0x81), 1, 0);
+    refuse_reach(0, 4, 8, WORDS, OCTETS(0, 1, 133, 0, 0, EXAMPLE, 0xf0), 1, 0);
+    refuse_reach(0, 4, 8, WORDS, OCTETS(0, 1, 133, 0, 0, 0xf0, 0, EXAMPLE), 2, 0);
+    refuse_reach(0, 4, 8, WORDS, OCTETS(0, 1, 133, 0, 0, EXAMPLE, 3, 13, 0x81, 6), 3, 0);
+    refuse_reach(0, 4, 8, WORDS, OCTETS(0, 1, 133, 0, 0, EXAMPLE, 6, 3, 0x81, 6, 3, 0x81, 6), 4, 3);
+    refuse_reach(0, 4, 8, WORDS, OCTETS(0, 1, 133, 0, 0, EXAMPLE, 2, 1, 33, 0), 5, 1);
+    refuse_reach(0, 4, 8, WORDS, OCTETS(0, 1, 133, 0, 0, EXAMPLE, 0xf0, 4, 1, 24, 192, 0), 6, 4);
+    refuse_reach(0, 4, 8, WORDS, OCTETS(0, 1, 133, 0, 0, EXAMPLE, 2, 11, 0x91), 7, 1);
+}
+
+/* The same of an unreach, which has neither routes nor communities. */
+static void refusing_unreach(void)
+{
+    refuse_unreach(1, 0, OCTETS(0, 2, 133, 0), 10, 0);
+    refuse_unreach(0, 0, OCTETS(0, 2, 133, 0), 19, 0);
+    refuse_unreach(0, 0, OCTETS(0, 1, 133, EXAMPLE, 0), 2, 0);
+    refuse_unreach(0, 0, OCTETS(0, 1, 133, EXAMPLE), 16, 0);
+    refuse_unreach(0, 1, OCTETS(0, 1, 133, EXAMPLE, EXAMPLE), 16, 0);
+    refuse_unreach(0, WORDS, example, 0, 19, 0);
+    refuse_unreach(0, WORDS, OCTETS(0, 1), 19, 0);
+    refuse_unreach(0, WORDS, OCTETS(1, 1, 133), 19, 0);
+    refuse_unreach(0, WORDS, OCTETS(0, 0, 133), 19, 0);
+    refuse_unreach(0, WORDS, OCTETS(0, 1, 132), 19, 0);
+    refuse_unreach(0, WORDS, OCTETS(0, 1, 134), 19, 0);
+    refuse_unreach(0, WORDS, OCTETS(0, 1, 133, EXAMPLE, 3, 3, 0x81), 1, 0);
+    refuse_unreach(0, WORDS, OCTETS(0, 1, 133, EXAMPLE, 0xf0), 1, 0);
+    refuse_unreach(0, WORDS, OCTETS(0, 1, 133, 0, 0, EXAMPLE), 2, 0);
+    refuse_unreach(0, WORDS, OCTETS(0, 1, 133, EXAMPLE, 3, 13, 0x81, 6), 3, 0);
+    refuse_unreach(0, WORDS, OCTETS(0, 1, 133, EXAMPLE, 6, 3, 0x81, 6, 3, 0x81, 6), 4, 3);
+    refuse_unreach(0, WORDS, OCTETS(0, 1, 133, EXAMPLE, 2, 1, 33, 0), 5, 1);
+    refuse_unreach(0, WORDS, OCTETS(0, 1, 133, EXAMPLE, 0xf0, 4, 1, 24, 192, 0), 6, 4);
+    refuse_unreach(0, WORDS, OCTETS(0, 1, 133, EXAMPLE, 2, 11, 0x91), 7, 1);
+}
+
+/* Four rules: 01's example, one that no route covers, one that costs 37 octets, and the example in another spelling. */
+#define FOUR_RULES EXAMPLE, 5, 1, 24, 198, 51, 100, 5, 1, 24, 192, 0, 2, 0xf0, 0x0b, 1, 24, 192, 0, 2, 3, 0xc9, 6, 4, 0x81, 25
+
+/* Rules announced by one attribute, with any reserved octet: first all are infeasible, which removes the example; then room ends behind the
+ * example, and its other spelling takes its place. */
+static void reaching(void)
+{
+    static const uint8_t empty[64], attribute[] = {0, 1, 133, 0, 255, FOUR_RULES};
+    static const uint32_t infeasible[4] = {8, 8, 8, 8}, numbers[4] = {0, 8, 11, 0};
+    struct lent lent = lend(0);
+    check_answer("reach from 8", reached(&lent, 4, attribute, sizeof attribute, 8, sizeof drop, 4), 0, 0);
+    check("reach from 8: count", lent.out[0], 4);
+    check_listed("reach from 8: answers", &lent, infeasible, 4);
+    check_octets("reach from 8: table", lent.table, empty, sizeof empty);
+    check_answer("reach", reached(&lent, 4, attribute, sizeof attribute, 7, sizeof drop, WORDS), 0, 0);
+    check("reach: count", lent.out[0], 4);
+    check_listed("reach: answers", &lent, numbers, 4);
+    check_record("reach: record", lent.table);
+    check_octets("reach: the rest", lent.table + 43, empty, sizeof empty - 43);
+}
+
+/* A rule with no destination, "protocol 6", in an attribute: infeasible with the setting off, and taken with any other number. */
+static void reaching_with_no_destination(void)
+{
+    static const uint8_t attribute[] = {0, 1, 133, 0, 0, 3, 3, 0x81, 6};
+    static const uint32_t settings[3] = {0, 1, 2}, numbers[3][1] = {{8}, {0}, {0}};
+    int setting;
+    for (setting = 0; setting < 3; setting++) {
+        uint8_t table[64] = {0};
+        struct lent lent = lend(0);
+        uint64_t answer = flowspec4_reach(
+            table, sizeof table, route, 4, settings[setting], attribute, sizeof attribute, 7, drop, sizeof drop, lent.answers, WORDS, lent.out);
+        check_answer("reach, no destination", answer, 0, 0);
+        check("reach, no destination: count", lent.out[0], 1);
+        check_listed("reach, no destination: answers", &lent, numbers[setting], 1);
+        check("reach, no destination: value length", table[1], setting == 0 ? 0 : 3);
+    }
+}
+
+/* An attribute with no rule changes nothing; then rules are withdrawn by one: the example is held, and no longer in its other spelling. */
+static void unreaching(void)
+{
+    static const uint8_t empty[64], attribute[] = {0, 1, 133, FOUR_RULES};
+    static const uint32_t numbers[4] = {0, 14, 14, 14};
+    struct lent lent = lend(0);
+    check_answer("unreach, no rule", unreached(&lent, attribute, 3, 0), 0, 0);
+    check("unreach, no rule: count", lent.out[0], 0);
+    lent.out[0] = UNTOUCHED;
+    check_kept("unreach, no rule: lent", &lent);
+    check_answer("unreach", unreached(&lent, attribute, sizeof attribute, WORDS), 0, 0);
+    check("unreach: count", lent.out[0], 4);
+    check_listed("unreach: answers", &lent, numbers, 4);
+    check_octets("unreach: table", lent.table, empty, sizeof empty);
+}
+
 int main(void)
 {
     reading();
@@ -281,6 +463,11 @@ int main(void)
     judging();
     acting();
     changing();
+    refusing_reach();
+    refusing_unreach();
+    reaching();
+    reaching_with_no_destination();
+    unreaching();
     looking();
     check("number", flowspec4_number(UINT64_C(0x400000006)), 6);
     check("place", flowspec4_place(UINT64_C(0x400000006)), 4);
