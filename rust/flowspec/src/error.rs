@@ -2,8 +2,11 @@
 
 use std::fmt;
 
+/// What stands in the place of a number that no refusal has.
+const NO_REFUSAL: &str = "a number that no refusal has";
+
 /// What each refusal is given for, by its number.
-const PHRASES: [&str; 17] = [
+const PHRASES: [&str; 20] = [
     "done, no refusal",
     "length field or value runs past the bytes; writer: value over 4,095",
     "value of length 0",
@@ -20,16 +23,20 @@ const PHRASES: [&str; 17] = [
     "actions unsound",
     "rule to withdraw is not held",
     "bytes after the one rule",
-    "writer's buffer too short",
+    "writer's buffer too short; attribute: fewer answer words than rules",
+    NO_REFUSAL,
+    NO_REFUSAL,
+    "attribute not taken: head cut short, next hop, another family, or a reach with no rule",
 ];
 
 /// A refusal: its number, and its place in the rule's value.
 #[derive(Clone, Copy, Debug, PartialEq, Eq, Hash)]
 pub struct Error {
-    /// The refusal's number, 1 to 16.
+    /// The refusal's number, 1 to 16 or 19.
     pub number: u32,
     /// For 3 to 7 the place in the value: the type octet (3, 4), the length octet (5), the operator
-    /// (7), the value's end (6); else 0.
+    /// (7), the value's end (6); else 0. Of an attribute it is the place in the one rule's value,
+    /// and which rule that is is not told.
     pub place: u32,
 }
 
@@ -39,7 +46,7 @@ impl Error {
         PHRASES
             .get(self.number as usize)
             .copied()
-            .unwrap_or("a number that no refusal has")
+            .unwrap_or(NO_REFUSAL)
     }
 }
 

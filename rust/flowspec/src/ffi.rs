@@ -1,9 +1,9 @@
 //! The C functions of `include/flowspec.h`, each behind a safe function on slices.
 //!
 //! Every function answers one word: the refusal's number in the low 32 bits (0 done), its place in
-//! the high 32. Answered 0, each word of `out` is set; refused, `out` and every lent octet stay as
-//! they were, except that 8 removes the held rule. The typed functions of this crate stand on
-//! these; use these where the words themselves are wanted.
+//! the high 32. Answered 0, each word of `out` is set; refused, `out` and every lent octet and word
+//! stay as they were, except that 8 removes the held rule. The typed functions of this crate stand
+//! on these; use these where the words themselves are wanted.
 //!
 //! All `unsafe` code of the crate is here. What the C side assumes of its callers holds of slices:
 //! pointer and length are true, and what is lent to be written overlaps nothing else that is lent.
@@ -51,6 +51,30 @@ extern "C" {
         table_len: usize,
         rule: *const u8,
         rule_len: usize,
+    ) -> u64;
+    fn flowspec4_reach(
+        table: *mut u8,
+        table_len: usize,
+        routes: *const u32,
+        words: usize,
+        allow_no_destination: u32,
+        attribute: *const u8,
+        attribute_len: usize,
+        originator: u32,
+        communities: *const u8,
+        len: usize,
+        answers: *mut u32,
+        answers_len: usize,
+        out: &mut [u64; 1],
+    ) -> u64;
+    fn flowspec4_unreach(
+        table: *mut u8,
+        table_len: usize,
+        attribute: *const u8,
+        attribute_len: usize,
+        answers: *mut u32,
+        answers_len: usize,
+        out: &mut [u64; 1],
     ) -> u64;
     fn flowspec4_lookup(
         table: *const u8,
@@ -145,6 +169,58 @@ pub fn withdraw(table: &mut [u8], rule: &[u8]) -> u64 {
     // SAFETY: each pointer and length are those of one slice, and `table` is borrowed apart from
     // `rule`.
     unsafe { flowspec4_withdraw(table.as_mut_ptr(), table.len(), rule.as_ptr(), rule.len()) }
+}
+
+/// Announces the rules of an MP_REACH_NLRI value to a table, and lists the number of each at the
+/// front of `answers`: `out` is their count.
+#[allow(clippy::too_many_arguments)]
+pub fn reach(
+    table: &mut [u8],
+    routes: &[u32],
+    allow_no_destination: u32,
+    attribute: &[u8],
+    originator: u32,
+    communities: &[u8],
+    answers: &mut [u32],
+    out: &mut [u64; 1],
+) -> u64 {
+    // SAFETY: each pointer and length are those of one slice, and `table`, `answers` and `out` are
+    // borrowed apart from all else.
+    unsafe {
+        flowspec4_reach(
+            table.as_mut_ptr(),
+            table.len(),
+            routes.as_ptr(),
+            routes.len(),
+            allow_no_destination,
+            attribute.as_ptr(),
+            attribute.len(),
+            originator,
+            communities.as_ptr(),
+            communities.len(),
+            answers.as_mut_ptr(),
+            answers.len(),
+            out,
+        )
+    }
+}
+
+/// Withdraws the rules of an MP_UNREACH_NLRI value from a table, and lists the number of each at
+/// the front of `answers`: `out` is their count.
+pub fn unreach(table: &mut [u8], attribute: &[u8], answers: &mut [u32], out: &mut [u64; 1]) -> u64 {
+    // SAFETY: each pointer and length are those of one slice, and `table`, `answers` and `out` are
+    // borrowed apart from all else.
+    unsafe {
+        flowspec4_unreach(
+            table.as_mut_ptr(),
+            table.len(),
+            attribute.as_ptr(),
+            attribute.len(),
+            answers.as_mut_ptr(),
+            answers.len(),
+            out,
+        )
+    }
 }
 
 /// Looks a packet up: `out` is the count of rules collected (0 unmatched, the rest 0), then the

@@ -3,7 +3,8 @@
 //!
 //! Reading one rule ([`read`]), writing one ([`write()`]), ordering two ([`compare`]), feasibility
 //! ([`feasible`]), filtering actions ([`actions()`]), and a [`Table`] to announce to, withdraw from
-//! and look packets up in. Nothing here allocates but [`Table::new`]; a table is octets that the
+//! and look packets up in, by single rules or by whole attributes ([`Table::reach`],
+//! [`Table::unreach`]). Nothing here allocates but [`Table::new`]; a table is octets that the
 //! caller owns or lends. A refusal is an [`Error`] with a number and, for malformed values, a
 //! place.
 //!
@@ -50,4 +51,4 @@ mod table;
 pub use actions::{actions, Actions};
 pub use error::Error;
 pub use rule::{compare, feasible, read, write, Precedence};
-pub use table::{Record, Records, Table, Verdict};
+pub use table::{listed, Record, Records, Table, Verdict};

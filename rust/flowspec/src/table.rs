@@ -127,6 +127,79 @@ impl<B: AsRef<[u8]> + AsMut<[u8]>> Table<B> {
     pub fn withdraw(&mut self, rule: &[u8]) -> Result<(), Error> {
         done(ffi::withdraw(self.octets.as_mut(), rule))
     }
+
+    /// Announces each rule of an MP_REACH_NLRI value (AFI 1, SAFI 133) in order, with the same
+    /// actions, and gives their count; refused with 10, 9, 19, 1 to 7, 13 or 16.
+    ///
+    /// The front of `answers` then lists a number for each rule, 0, 8 or 11, as [`Table::announce`]
+    /// would answer; [`listed`] types them. A refused attribute changes nothing: every held rule
+    /// stays in force, and which rule was refused is not told.
+    ///
+    /// ```
+    /// use flowspec::{listed, Table};
+    ///
+    /// let routes = [0xc000_0200, 24, 7, 64500];
+    /// // AFI 1, SAFI 133, no next hop, reserved; to 192.0.2.0/24, then to 198.51.100.0/24.
+    /// let attribute = [
+    ///     0, 1, 133, 0, 0, 5, 0x01, 24, 192, 0, 2, 5, 0x01, 24, 198, 51, 100,
+    /// ];
+    /// let mut answers = [0; 8];
+    /// let mut table = Table::new(Table::LONGEST);
+    /// let count = table.reach(&routes, false, &attribute, 7, &[], &mut answers)?;
+    /// let told: Vec<_> = listed(&answers[..count]).collect();
+    /// assert_eq!(told[0], Ok(()));
+    /// assert_eq!(told[1].unwrap_err().to_string(), "refusal 8: infeasible");
+    /// # Ok::<(), flowspec::Error>(())
+    /// ```
+    pub fn reach(
+        &mut self,
+        routes: &[u32],
+        allow_no_destination: bool,
+        attribute: &[u8],
+        originator: u32,
+        communities: &[u8],
+        answers: &mut [u32],
+    ) -> Result<usize, Error> {
+        let mut out = [0];
+        done(ffi::reach(
+            self.octets.as_mut(),
+            routes,
+            u32::from(allow_no_destination),
+            attribute,
+            originator,
+            communities,
+            answers,
+            &mut out,
+        ))?;
+        Ok(out[0] as usize)
+    }
+
+    /// Withdraws each rule of an MP_UNREACH_NLRI value (AFI 1, SAFI 133) in order and gives their
+    /// count, which may be 0; refused with 10, 19, 1 to 7 or 16.
+    ///
+    /// The front of `answers` then lists a number for each rule, 0 or 14, as [`Table::withdraw`]
+    /// would answer. A refused attribute changes nothing.
+    ///
+    /// ```
+    /// // AFI 1, SAFI 133; to 192.0.2.0/24.
+    /// let attribute = [0, 1, 133, 5, 0x01, 24, 192, 0, 2];
+    /// let (mut table, mut answers) = (flowspec::Table::new(100), [0; 8]);
+    /// let count = table.unreach(&attribute, &mut answers)?;
+    /// assert_eq!(answers[..count], [14]); // not held
+    /// # Ok::<(), flowspec::Error>(())
+    /// ```
+    pub fn unreach(&mut self, attribute: &[u8], answers: &mut [u32]) -> Result<usize, Error> {
+        let mut out = [0];
+        let table = self.octets.as_mut();
+        done(ffi::unreach(table, attribute, answers, &mut out))?;
+        Ok(out[0] as usize)
+    }
+}
+
+/// What each rule of an attribute was answered, from the numbers that [`Table::reach`] or
+/// [`Table::unreach`] listed.
+pub fn listed(numbers: &[u32]) -> impl ExactSizeIterator<Item = Result<(), Error>> + '_ {
+    numbers.iter().map(|number| done(u64::from(*number)))
 }
 
 impl<'a> Record<'a> {
