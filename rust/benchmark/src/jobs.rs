@@ -3,7 +3,7 @@
 //! A run makes so few calls that it takes a millisecond or two, and there are many runs: what else
 //! the machine does then falls into few of them, and the middle one is not touched.
 
-use crate::load::{Load, ORIGINATOR, PACKETS};
+use crate::load::{Load, IN_ATTRIBUTE, ORIGINATOR, PACKETS};
 use comparison::sides::{Reference, Side, Words, Wrapper};
 use flowspec::Table;
 use std::time::{Duration, Instant};
@@ -22,6 +22,13 @@ const SHORT_RUNS: usize = 1_000;
 const CHANGES: usize = 4;
 const CHANGING_RUNS: usize = 500;
 
+/// How many runs give a table the rules of a whole attribute and take them back.
+const ATTRIBUTE_RUNS: usize = 100;
+
+/// What stands before the rules of an attribute MP_REACH_NLRI and of MP_UNREACH_NLRI.
+const REACH_HEAD: &[u8] = &[0, 1, 133, 0, 0];
+const UNREACH_HEAD: &[u8] = &[0, 1, 133];
+
 /// What one run took, how many calls it made, and a sum of what they answered.
 pub struct Run {
     pub time: Duration,
@@ -29,11 +36,14 @@ pub struct Run {
     pub sum: u64,
 }
 
-/// The load with the first so many of its rules announced to a table.
+/// The load with the first so many of its rules announced to a table, and the attributes of its
+/// other rules.
 pub struct Setting<'a> {
     pub load: &'a Load,
     pub rules: usize,
     pub table: Vec<u8>,
+    reach: Vec<u8>,
+    unreach: Vec<u8>,
 }
 
 /// A run of a job by one side: it depends on the setting and on the number of the run.
@@ -72,6 +82,18 @@ pub const JOBS: [Job; 9] = [
     job!("first match", LOOKING_RUNS, first_match),
 ];
 
+/// A whole attribute, and the single calls that it stands for; a call is then all of them.
+pub const ATTRIBUTES: [[Job; 2]; 2] = [
+    [
+        job!("reach of 100", ATTRIBUTE_RUNS, reach),
+        job!("100 announced", ATTRIBUTE_RUNS, announce_each),
+    ],
+    [
+        job!("unreach of 100", ATTRIBUTE_RUNS, unreach),
+        job!("100 withdrawn", ATTRIBUTE_RUNS, withdraw_each),
+    ],
+];
+
 impl Setting<'_> {
     /// The setting with so many rules.
     pub fn new(load: &Load, rules: usize) -> Setting<'_> {
@@ -80,7 +102,14 @@ impl Setting<'_> {
             Wrapper::announce(&mut table, &load.routes, 0, rule, ORIGINATOR, communities)
                 .expect("each rule is held");
         }
-        Setting { load, rules, table }
+        let attribute = |head: &[u8]| [head, &load.others.concat()].concat();
+        Setting {
+            load,
+            rules,
+            table,
+            reach: attribute(REACH_HEAD),
+            unreach: attribute(UNREACH_HEAD),
+        }
     }
 
     /// The rule at a place, counted round and round.
@@ -203,4 +232,89 @@ fn withdraw<S: Side>(setting: &Setting, run: usize) -> Run {
 fn announce<S: Side>(setting: &Setting, run: usize) -> Run {
     let [_, announced] = changed::<S>(setting, run);
     announced
+}
+
+/// Times a change of the setting's table, and another that takes it back.
+fn there_and_back(
+    setting: &Setting,
+    there: impl FnOnce(&mut [u8]) -> u64,
+    back: impl FnOnce(&mut [u8]) -> u64,
+) -> [Run; 2] {
+    let mut table = setting.table.clone();
+    let start = Instant::now();
+    let there = there(&mut table);
+    let between = Instant::now();
+    let back = back(&mut table);
+    let end = Instant::now();
+    assert!(table == setting.table, "the table is as before");
+    [(between - start, there), (end - between, back)].map(|(time, sum)| Run {
+        time,
+        calls: 1,
+        sum,
+    })
+}
+
+/// The sum of what a whole attribute was answered, each of whose rules is done.
+fn whole(call: impl FnOnce(&mut [u32]) -> Words<1>) -> u64 {
+    let mut answers = [u32::MAX; IN_ATTRIBUTE];
+    let count = call(&mut answers);
+    assert!(answers == [0; IN_ATTRIBUTE], "each rule is done");
+    sum_of(count)
+}
+
+/// The sum of what the other rules were answered one by one.
+fn each(setting: &Setting, mut call: impl FnMut(&[u8]) -> Words<0>) -> u64 {
+    let others = setting.load.others.iter();
+    others.map(|rule| sum_of(call(rule))).sum()
+}
+
+/// Gives the other rules to the table by one attribute, and takes them back by another.
+fn by_attributes<S: Side>(setting: &Setting) -> [Run; 2] {
+    let (routes, communities) = (&setting.load.routes, setting.communities(0));
+    there_and_back(
+        setting,
+        |table| {
+            let reach = &setting.reach;
+            whole(|answers| S::reach(table, routes, 0, reach, ORIGINATOR, communities, answers))
+        },
+        |table| whole(|answers| S::unreach(table, &setting.unreach, answers)),
+    )
+}
+
+/// Gives the other rules to the table one by one, and takes them back so.
+fn by_single_calls<S: Side>(setting: &Setting) -> [Run; 2] {
+    let (routes, communities) = (&setting.load.routes, setting.communities(0));
+    there_and_back(
+        setting,
+        |table| {
+            each(setting, |rule| {
+                S::announce(table, routes, 0, rule, ORIGINATOR, communities)
+            })
+        },
+        |table| each(setting, |rule| S::withdraw(table, rule)),
+    )
+}
+
+/// Announces the rules of an attribute.
+fn reach<S: Side>(setting: &Setting, _: usize) -> Run {
+    let [reached, _] = by_attributes::<S>(setting);
+    reached
+}
+
+/// Withdraws the rules of an attribute.
+fn unreach<S: Side>(setting: &Setting, _: usize) -> Run {
+    let [_, unreached] = by_attributes::<S>(setting);
+    unreached
+}
+
+/// Announces the rules of an attribute one by one.
+fn announce_each<S: Side>(setting: &Setting, _: usize) -> Run {
+    let [announced, _] = by_single_calls::<S>(setting);
+    announced
+}
+
+/// Withdraws the rules of an attribute one by one.
+fn withdraw_each<S: Side>(setting: &Setting, _: usize) -> Run {
+    let [_, withdrawn] = by_single_calls::<S>(setting);
+    withdrawn
 }

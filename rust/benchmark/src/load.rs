@@ -8,6 +8,9 @@ use std::collections::BTreeMap;
 /// How many packets are looked up at each size.
 pub const PACKETS: usize = 100_000;
 
+/// How many rules an attribute has.
+pub const IN_ATTRIBUTE: usize = 100;
+
 /// How many routes are known.
 const ROUTES: u32 = 256;
 
@@ -27,6 +30,8 @@ pub struct Load {
     pub packets: Vec<Vec<u8>>,
     /// Routes as words, under which all rules are feasible.
     pub routes: Vec<u32>,
+    /// Further rules, as many as an attribute has.
+    pub others: Vec<Vec<u8>>,
 }
 
 /// What a rule asks for: prefixes as address and length, and some fields.
@@ -161,11 +166,13 @@ impl Load {
             })
             .collect();
         let rules = flows.iter().map(|(value, _)| rules::rule_of(value, false));
+        let rules: Vec<Vec<u8>> = rules.collect();
         Load {
             communities: (0..count).map(|_| communities(random)).collect(),
             packets,
             routes: known_routes(),
-            rules: rules.collect(),
+            others: other_rules(random, &rules),
+            rules,
         }
     }
 
@@ -174,6 +181,18 @@ impl Load {
         let rules = self.rules[..count].iter();
         rules.filter(|rule| rule[2] < SHORT).count()
     }
+}
+
+/// As many rules as an attribute has, each another rule and none of the given ones.
+fn other_rules(random: &mut Random, rules: &[Vec<u8>]) -> Vec<Vec<u8>> {
+    let mut others = Vec::new();
+    while others.len() < IN_ATTRIBUTE {
+        let other = rules::rule_of(&value(&flow(random)), false);
+        if !rules.contains(&other) && !others.contains(&other) {
+            others.push(other);
+        }
+    }
+    others
 }
 
 /// A route that covers all, and routes of length 16 within, all from one neighbour.

@@ -1,5 +1,6 @@
 //! Times each call of the proved library beside the reference, which does the same job with the same
-//! checks, and how both grow with the number of rules.
+//! checks, and how both grow with the number of rules; and whole attributes beside the single calls
+//! that they stand for.
 //!
 //! `cargo run --release --offline -p benchmark` in `rust/`.
 
@@ -8,8 +9,8 @@ mod load;
 
 use comparison::sides::{Reference, Side};
 use flowspec::Table;
-use jobs::{Job, Run, Setting, JOBS};
-use load::{Load, PACKETS};
+use jobs::{Job, Run, Setting, ATTRIBUTES, JOBS};
+use load::{Load, IN_ATTRIBUTE, PACKETS};
 
 /// The sizes between which growth is measured.
 const SIZES: [usize; 2] = [100, 1_200];
@@ -75,7 +76,7 @@ fn describe(load: &Load) {
 
 /// A line of the result: times and ratio at each size, and how much both grow.
 fn print_line(name: &str, times: [[f64; 2]; 2]) {
-    print!("{name:12}");
+    print!("{name:14}");
     for [library, reference] in times {
         print!(
             " | {:>10} {:>10} {:>6.2}",
@@ -92,19 +93,42 @@ fn print_line(name: &str, times: [[f64; 2]; 2]) {
     );
 }
 
+/// Times a job at both sizes and prints its line.
+fn line(settings: &[Setting; 2], job: &Job) -> [[f64; 2]; 2] {
+    let times = settings.each_ref().map(|setting| measure(setting, job));
+    print_line(job.name, times);
+    times
+}
+
+/// A line on a whole attribute: the part that it takes of the time of the single calls.
+fn print_part(whole: [[f64; 2]; 2], single: [[f64; 2]; 2]) {
+    print!("{:14}", "  part of it");
+    for size in 0..SIZES.len() {
+        let [library, reference] = [0, 1].map(|side| whole[size][side] / single[size][side]);
+        print!(" | {library:>10.3} {reference:>10.3} {:>6}", "");
+    }
+    println!(" |");
+}
+
 fn main() {
     let load = Load::new(SIZES[1]);
     describe(&load);
     let [small, large] = SIZES.map(|rules| format!("{rules} rules"));
-    println!("{:12} | {small:28} | {large:28} | growth", "");
+    println!("{:14} | {small:28} | {large:28} | growth", "");
     let columns = format!("{:>10} {:>10} {:>6}", "library", "reference", "ratio");
     println!(
-        "{:12} | {columns} | {columns} | {:>7} {:>7}",
+        "{:14} | {columns} | {columns} | {:>7} {:>7}",
         "call", "lib", "ref"
     );
     let settings = SIZES.map(|rules| Setting::new(&load, rules));
     for job in &JOBS {
-        let times = [0, 1].map(|size| measure(&settings[size], job));
-        print_line(job.name, times);
+        line(&settings, job);
+    }
+    println!(
+        "\n{IN_ATTRIBUTE} rules that the table does not hold, by one attribute and by single calls"
+    );
+    for [whole, single] in &ATTRIBUTES {
+        let [whole, single] = [whole, single].map(|job| line(&settings, job));
+        print_part(whole, single);
     }
 }
