@@ -9,8 +9,8 @@ ghost use lib.IntN.{pos};
 ghost use lib.ListN.{length};
 ghost use lib.Signed.{_≤ℤ_};
 ghost use Rattle.text.specs.Print.{laid};
-ghost use Rattle.lines.specs.Line.{mostSigns};
-ghost use Rattle.lines.specs.Answer.{mostText};
+ghost use Rattle.line.specs.Line.{mostSigns};
+ghost use Rattle.answers.specs.Answer.{mostText};
 ghost use Rattle.lines.specs.Input.{stateOf, firstState, lineText, afterLine, leftBy};
 ghost use Rattle.lines.specs.Blocks.{LedBy, Led};
 use libc::STDERR_FILENO;
@@ -21,7 +21,7 @@ use libc::STDOUT_FILENO;
 const BLOCK: usize = 65536;
 
 // The octets of the buffer for a line: one more than a line may have.
-const LINE: usize = lines::MOST_SIGNS + 1;
+const LINE: usize = line::MOST_SIGNS + 1;
 
 // Where the program stands: the octets of a line not ended yet that its buffer holds, the words of routes in use, and whether the output
 // still takes what is written.
@@ -149,6 +149,6 @@ fn main() {
     let mut line = [0u8; LINE];
     let mut routes = [0u32; lines::MOST_WORDS];
     let mut table = [0u8; table::MOST_OCTETS];
-    let mut out = [0u8; lines::MOST_TEXT];
+    let mut out = [0u8; answers::MOST_TEXT];
     run(&mut block, &mut line, &mut routes, &mut table, &mut out);
 }

@@ -16,8 +16,8 @@ use Rattle.flowspec.specs.Promise.{Announces, Withdraws}
 use Rattle.flowspec.proofs.TableLaws.{announce-kept, withdraw-kept}
 use Rattle.text.specs.Print.{laid}
 use Rattle.lines.specs.declared.Served.{Served}
-use Rattle.lines.specs.Line.{Line, route, announce, withdraw, list, other, lineOf}
-use Rattle.lines.specs.Answer.{changeText}
+use Rattle.line.specs.Line.{Line, route, announce, withdraw, list, other, lineOf}
+use Rattle.answers.specs.Answer.{changeText}
 use Rattle.lines.specs.Serve.{Serving, routeFits, servedAs, served}
 use Rattle.lines.specs.Promise.{Serves}
 

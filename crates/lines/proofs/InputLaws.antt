@@ -19,8 +19,8 @@ use Rattle.text.proofs.FieldLaws.{place-within}
 use Rattle.text.proofs.PrintLaws.{length-laid}
 use Rattle.lines.specs.declared.Served.{Served}
 use Rattle.lines.specs.declared.Gathered.{Gathered}
-use Rattle.lines.specs.Line.{mostSigns}
-use Rattle.lines.specs.Answer.{mostText}
+use Rattle.line.specs.Line.{mostSigns}
+use Rattle.answers.specs.Answer.{mostText}
 use Rattle.lines.specs.Serve.{Serving}
 use Rattle.lines.specs.Gather.{gathered}
 use Rattle.lines.specs.Promise.{Serves, Gathers}

@@ -1,10 +1,6 @@
 -- The laws of this crate.
 pub mod GatherLaws
 pub mod CutLaws
-pub mod FormLaws
-pub mod ReadLaws
-pub mod PrintLaws
-pub mod ListLaws
 pub mod ServeLaws
 pub mod InputLaws
 pub mod Unique

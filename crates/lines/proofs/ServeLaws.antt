@@ -21,15 +21,15 @@ use Rattle.text.specs.Hex.{octetsIn}
 use Rattle.text.specs.Print.{laid}
 use Rattle.text.proofs.HexLaws.{length-octetsIn}
 use Rattle.text.proofs.PrintLaws.{laid-stored, length-laid, laid-none}
-use Rattle.lines.specs.Answer.{unknownText, changeText, listText, mostText, Answered}
+use Rattle.answers.specs.Answer.{unknownText, changeText, listText, mostText, Answered}
 use Rattle.lines.specs.declared.Served.{Served}
-use Rattle.lines.specs.declared.Form.{Form}
-use Rattle.lines.specs.declared.Form.the-variants.{Route, Announce, Withdraw, Listing, Unknown}
-use Rattle.lines.specs.Line.{Line, other, lineOf, mostSigns}
-use Rattle.lines.specs.Form.{formSays, FormIn, Says}
+use Rattle.line.specs.declared.Form.{Form}
+use Rattle.line.specs.declared.Form.the-variants.{Route, Announce, Withdraw, Listing, Unknown}
+use Rattle.line.specs.Line.{Line, other, lineOf, mostSigns}
+use Rattle.line.specs.Form.{formSays, FormIn, Says}
 use Rattle.lines.specs.Serve.{Serving, mostWords, routeFits, printing, changing, adding, servedAs, served, Changes, Adds, servedTold}
 use Rattle.lines.specs.Promise.{Serves}
-use Rattle.lines.proofs.CutLaws.{too-long}
+use Rattle.line.proofs.CutLaws.{too-long}
 
 -- how `route_fits` comes to its answers, and what room it finds
 module _ (routes : List ℕ) (used : ℕ) where

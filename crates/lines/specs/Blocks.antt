@@ -7,7 +7,7 @@ use mathlib.Core.Bool.{cond}
 use mathlib.Core.List.{List, [], _∷_, _++_}
 use lib.Dec.{eqb}
 use lib.ListN.{length, take}
-use Rattle.lines.specs.Line.{mostSigns}
+use Rattle.line.specs.Line.{mostSigns}
 use Rattle.lines.specs.Input.{State, stateOf, firstState, lineText, afterLine}
 
 -- Where the program stands in an input: the octets behind the last LF, and what the lines before it have left.

@@ -1,7 +1,4 @@
 -- The definitions of this crate, in the order in which to read them.
-pub mod Line
-pub mod Form
-pub mod Answer
 pub mod Serve
 pub mod Gather
 pub mod Input

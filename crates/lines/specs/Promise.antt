@@ -7,7 +7,7 @@ use mathlib.Core.List.{List, [], _∷_}
 use Rattle.text.specs.Print.{laid}
 use Rattle.lines.specs.declared.Served.{Served}
 use Rattle.lines.specs.declared.Gathered.{Gathered}
-use Rattle.lines.specs.Answer.{mostText}
+use Rattle.answers.specs.Answer.{mostText}
 use Rattle.lines.specs.Serve.{served, servedTold}
 use Rattle.lines.specs.Gather.{Gathering, gathered}
 

@@ -13,8 +13,8 @@ use Rattle.flowspec.specs.Announce.{announcing, withdrawing, Outcome}
 use Rattle.flowspec.specs.Told.{changeTold}
 use Rattle.text.specs.Print.{laid}
 use Rattle.lines.specs.declared.Served.{Served}
-use Rattle.lines.specs.Line.{Line, route, announce, withdraw, list, other, lineOf}
-use Rattle.lines.specs.Answer.{unknownText, changeText, listText, mostText, Answered}
+use Rattle.line.specs.Line.{Line, route, announce, withdraw, list, other, lineOf}
+use Rattle.answers.specs.Answer.{unknownText, changeText, listText, mostText, Answered}
 
 -- What serving a line leaves: the text that it prints, how many words of the routes' buffer are in use, that buffer's words, and the table.
 pub record Serving : Type 0 where

@@ -5,7 +5,7 @@ use mathlib.Core.Path.{sym}
 use native.Mathlib.Omega.{arith}
 use lib.ListN.{length, length-take, length-drop}
 use lib.Seq.{length-take-le}
-use Rattle.lines.specs.Line.{mostSigns}
+use Rattle.line.specs.Line.{mostSigns}
 use Rattle.lines.proofs.ServeLaws.{serve-routed, serve-announced, serve-withdrawn, serve-listed, serve-unknown, announce-places, withdraw-places}
 use borrow.Author.Needs.{needs}
 use Rattle.lines.proofs.serve.Statement.{statement}

@@ -1,0 +1,4 @@
+-- The laws of this crate.
+pub mod CutLaws
+pub mod FormLaws
+pub mod ReadLaws
