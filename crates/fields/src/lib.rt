@@ -13,7 +13,7 @@ use text::field_end;
 use text::place_of;
 
 // How many octets the lines may have together.
-pub const INPUT: usize = 1000000;
+pub const INPUT: usize = 2000000;
 
 // How many octets a field may hold.
 pub const FIELD: usize = 70000;
