@@ -139,6 +139,18 @@ first =
           (0x0c ∷ 0x80 ∷ 0x0b ∷ []) ∷ [];
     }
 
+-- a TCP packet whose options, a word, look like ports: those behind them are its ports, and its flags stand there too
+abbrev longer : Example
+longer =
+    record {
+      octets = header 0x46 0 44 0 0 6 ++ (0 ∷ 25 ∷ 0 ∷ 25 ∷ []) ++ syn;
+      meets =
+          (0x04 ∷ 0x81 ∷ 0x50 ∷ []) ∷ (0x05 ∷ 0x81 ∷ 0x50 ∷ []) ∷ (0x06 ∷ 0x91 ∷ 0x04 ∷ 0x00 ∷ []) ∷ (0x09 ∷ 0x81 ∷ 0x02 ∷ [])
+          ∷ (0x0a ∷ 0x81 ∷ 0x2c ∷ []) ∷ [];
+      misses =
+          (0x04 ∷ 0x81 ∷ 0x19 ∷ []) ∷ (0x05 ∷ 0x81 ∷ 0x19 ∷ []) ∷ (0x06 ∷ 0x81 ∷ 0x19 ∷ []) ∷ [];
+    }
+
 -- an ICMP echo request has a type and a code, and neither ports nor flags
 abbrev request : Example
 request =
@@ -152,7 +164,7 @@ request =
     }
 
 -- each of them is so
-pub packets : every holds (opening ∷ flags ∷ joined ∷ datagram ∷ later ∷ first ∷ request ∷ []) ≡ true
+pub packets : every holds (opening ∷ flags ∷ joined ∷ datagram ∷ later ∷ first ∷ longer ∷ request ∷ []) ≡ true
 unfolding
     numberAt walk bits sameList coversAddress patternIn shapeOf endsList sizeOf pairAt pairsFrom leadOf offsetAt prefixEnd bodyEnd
     componentAt componentsFrom components plainOperand isUnusable fragmentData transportOctets transportFields fieldsOf packetOf

@@ -9,7 +9,7 @@ use native.Mathlib.Nat.{pow-suc, pow-le-pow-right, add-zero, add-suc, zero-add, 
 use native.Mathlib.Decide.{decLt}
 use lib.Pow.{pow-add, pow-pos, shl-lt}
 use lib.Dec.{lit<}
-use lib.ListN.{length, getD, set, take, drop, length-append, length-drop, List·getD-eq-default}
+use lib.ListN.{length, getD, set, take, drop, length-append, length-drop, List·getD-append, List·getD-eq-default}
 use lib.Seq.{getD-at, getD-drop, getD-take, getD-append-add, take-suc, length-take-le}
 use Rattle.octets.specs.Number.{numberAt, octetsOf}
 use Rattle.octets.specs.Store.{stored}
@@ -104,6 +104,12 @@ pub number-behind : (n : ℕ) (p s : List ℕ) (at : ℕ) → numberAt n (p ++ s
 unfolding numberAt
 number-behind zero p s at = refl
 number-behind (suc n) p s at = rw (number-behind n p s at, add-assoc, getD-append-add p s (at + n) 0)
+
+-- nor are those behind it
+pub number-before : (n : ℕ) (p s : List ℕ) (at : ℕ) → at + n ≤ length p → numberAt n (p ++ s) at ≡ numberAt n p at
+unfolding numberAt
+number-before zero p s at h = refl
+number-before (suc n) p s at h = rw (number-before n p s at (omega arith), List·getD-append p s 0 (at + n) (omega arith))
 
 -- the number in an octet and those behind it
 pub first-octet : (n x : ℕ) (s : List ℕ) → numberAt (suc n) (x ∷ s) 0 ≡ x * 2 ^ (8 * n) + numberAt n s 0

@@ -4,7 +4,7 @@ use mathlib.Core.Path.{_≡_, refl}
 use mathlib.Core.Bool.{true, false}
 use mathlib.Core.List.{List, [], _∷_, _++_, map}
 use Prim.Native.Nat.{ℕ}
-use lib.ListN.{take}
+use lib.ListN.{take, replicate}
 use Rattle.octets.specs.Number.{numberAt}
 use Rattle.rule.specs.Family.{ipv4}
 use Rattle.packet.specs.Header.{isUnusable, fragmentData}
@@ -47,20 +47,36 @@ pub usable : map (isUnusable ipv4)
 unfolding isUnusable numberAt
 usable = refl
 
--- four octets behind a header
-abbrev behind : List ℕ → List ℕ
-behind h = h ++ (1 ∷ 2 ∷ 3 ∷ 4 ∷ [])
+-- four octets behind a header and so many octets of options
+abbrev behind : ℕ → List ℕ → List ℕ
+behind options h = h ++ replicate options 9 ++ (1 ∷ 2 ∷ 3 ∷ 4 ∷ [])
 
 -- all four count in a packet of 24 octets, in a longer one, and in a first fragment; two in one of 22 octets, none in one of 20; and they
--- are not found behind the smallest offset, the greatest, or a header of six words
+-- are not found behind the smallest offset or the greatest
 pub transports : map transportOctets
-    (behind (header 0x45 0 24 0 0 6) ∷ behind (header 0x45 0 28 0 0 6) ∷ behind (header 0x45 0 24 0x20 0 6)
-    ∷ behind (header 0x45 0 22 0 0 6) ∷ behind (header 0x45 0 20 0 0 6)
-    ∷ behind (header 0x45 0 24 0 1 6) ∷ behind (header 0x45 0 24 0x1f 0xff 6) ∷ behind (header 0x46 0 28 0 0 6)
+    (behind 0 (header 0x45 0 24 0 0 6) ∷ behind 0 (header 0x45 0 28 0 0 6) ∷ behind 0 (header 0x45 0 24 0x20 0 6)
+    ∷ behind 0 (header 0x45 0 22 0 0 6) ∷ behind 0 (header 0x45 0 20 0 0 6)
+    ∷ behind 0 (header 0x45 0 24 0 1 6) ∷ behind 0 (header 0x45 0 24 0x1f 0xff 6)
+    ∷ [])
+    ≡ (1 ∷ 2 ∷ 3 ∷ 4 ∷ []) ∷ (1 ∷ 2 ∷ 3 ∷ 4 ∷ []) ∷ (1 ∷ 2 ∷ 3 ∷ 4 ∷ [])
+    ∷ (1 ∷ 2 ∷ []) ∷ []
+    ∷ [] ∷ []
+    ∷ []
+unfolding transportOctets numberAt
+transports = refl
+
+-- all four count behind one word of options, behind ten, and in a first fragment with options; two in a packet of two octets more than its
+-- header, none in one of just its header; none where what is lent ends with the options, inside them or before them; none in a later fragment
+pub options : map transportOctets
+    (behind 4 (header 0x46 0 28 0 0 6) ∷ behind 40 (header 0x4f 0 64 0 0 6) ∷ behind 4 (header 0x46 0 28 0x20 0 6)
+    ∷ behind 40 (header 0x4f 0 62 0 0 6) ∷ behind 40 (header 0x4f 0 60 0 0 6)
+    ∷ behind 0 (header 0x46 0 28 0 0 6) ∷ behind 0 (header 0x4f 0 64 0 0 6) ∷ header 0x4f 0 64 0 0 6
+    ∷ behind 4 (header 0x46 0 28 0 1 6)
     ∷ [])
     ≡ (1 ∷ 2 ∷ 3 ∷ 4 ∷ []) ∷ (1 ∷ 2 ∷ 3 ∷ 4 ∷ []) ∷ (1 ∷ 2 ∷ 3 ∷ 4 ∷ [])
     ∷ (1 ∷ 2 ∷ []) ∷ []
     ∷ [] ∷ [] ∷ []
     ∷ []
+    ∷ []
 unfolding transportOctets numberAt
-transports = refl
+options = refl

@@ -4,3 +4,5 @@ pub mod Theorems
 pub mod HeaderLaws
 pub mod TransportLaws
 pub mod PacketLaws
+pub mod Options
+pub mod LaidOut

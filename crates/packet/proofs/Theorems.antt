@@ -1,27 +1,33 @@
 -- What a reader expects of a packet's fields: 12 is answered exactly where octets are unusable, a usable packet shows the fields of its octets,
--- and a later fragment shows no transport header. Assumes nothing.
-use mathlib.Core.Path.{_≡_}
+-- a later fragment shows no transport header, nor does a packet that ends with its header, and in any other one the transport octets are
+-- those behind the options. Assumes nothing.
+use mathlib.Core.Path.{_≡_, sym, _∙_}
 use mathlib.Core.Bool.{true, and-false}
-use mathlib.Core.List.{List, []}
+use mathlib.Core.List.{List, [], _++_}
 use mathlib.Core.Logic.{_↔_}
-use Prim.Native.Nat.{ℕ}
+use Prim.Native.Nat.{ℕ, _+_, _-_, _*_, _≤_, min}
+use native.Mathlib.Omega.{arith}
+use native.Mathlib.Decide.{decLt}
+use lib.ListN.{length, take, drop, length-append, List·getD-append}
+use lib.Seq.{take-all, take-length, drop-append-seam}
 use Rattle.octets.proofs.Cases.{by-test, apart}
+use Rattle.octets.proofs.NumberLaws.{number-before}
 use Rattle.rule.specs.declared.Family.{Family}
 use Rattle.packet.specs.declared.Field.the-variants.{Hidden}
 use Rattle.packet.specs.declared.Transport.{Transport}
 use Rattle.packet.specs.declared.Packet.{Packet}
 use Rattle.packet.specs.declared.Reading.the-variants.{Usable, Unusable}
-use Rattle.packet.specs.Header.{headerWords, fragmentField, fragmentOffset, isUnusable, protocol}
-use Rattle.packet.specs.Transport.{transportOctets, transportFields}
+use Rattle.packet.specs.Header.{headerWords, totalLength, fragmentField, fragmentOffset, isUnusable, protocol}
+use Rattle.packet.specs.Transport.{transportFound, transportOctets, transportFields}
 use Rattle.packet.specs.Packet.{fieldsOf, packetOf}
-use Rattle.packet.proofs.TransportLaws.{later-not-found}
+use Rattle.packet.proofs.TransportLaws.{later-not-found, empty}
 
 -- a transport header of which nothing is shown
 abbrev pub hidden : Transport
 hidden = record { «source_port» = Hidden; «destination_port» = Hidden; «icmp_type» = Hidden; «icmp_code» = Hidden; flags = Hidden }
 
 -- no octets show nothing, whatever the protocol
-no-octets : (family : Family) (protocol : ℕ) → transportFields family protocol [] ≡ hidden
+pub no-octets : (family : Family) (protocol : ℕ) → transportFields family protocol [] ≡ hidden
 unfolding transportFields
 no-octets family protocol = simp and-false
 
@@ -42,4 +48,36 @@ unusable-exactly family s =
 -- a later fragment shows no transport header
 pub later-hidden : (family : Family) (s : List ℕ) → (fragmentOffset (fragmentField s) ≡ 0 → ⊥) → fieldsOf family s .transport ≡ hidden
 unfolding fieldsOf transportOctets
-later-hidden family s later = rw (later-not-found (headerWords s) (fragmentOffset (fragmentField s)) later) (no-octets family (protocol s))
+later-hidden family s later = rw (later-not-found (fragmentOffset (fragmentField s)) later) (no-octets family (protocol s))
+
+-- up to the smaller of both ends is up to the total length, since no octet stands behind the last
+as-far : (rest : List ℕ) (n total : ℕ) → take (min (n + length rest) total - n) rest ≡ take (total - n) rest
+as-far rest n total =
+    elim (decLt (n + length rest) total) [
+      | yes l ↦ let e : min (n + length rest) total - n ≡ length rest = omega arith in rw e (take-length rest ∙ sym (take-all (total - n) rest (omega arith)))
+      | no g ↦ let e : min (n + length rest) total - n ≡ total - n = omega arith in rw e
+    ]
+
+-- in what is no later fragment the transport octets are those behind the header and its options, up to the total length, whatever octets
+-- the options have
+pub behind-header : (h rest : List ℕ) → 20 ≤ length h → length h ≡ 4 * headerWords h → fragmentOffset (fragmentField h) ≡ 0
+    → transportOctets (h ++ rest) ≡ take (totalLength h - length h) rest
+unfolding transportOctets
+behind-header h rest enough whole found =
+    rw (
+      List·getD-append h rest 0 0 (omega arith),
+      number-before 2 h rest 2 (omega arith),
+      number-before 2 h rest 6 (omega arith),
+      found,
+      ← whole,
+      length-append h rest,
+      drop-append-seam h rest,
+    )
+    (as-far rest (length h) (totalLength h))
+
+-- a packet whose lent octets or whose total length end with the header, or inside it, shows no transport header
+pub ended-hidden : (family : Family) (s : List ℕ) → min (length s) (totalLength s) ≤ 4 * headerWords s → fieldsOf family s .transport ≡ hidden
+unfolding fieldsOf transportOctets
+ended-hidden family s ends =
+    let none : take (min (length s) (totalLength s) - 4 * headerWords s) (drop (4 * headerWords s) s) ≡ [] = empty s (4 * headerWords s) (min (length s) (totalLength s)) ends in
+    rw none (by-test (transportFound (fragmentOffset (fragmentField s))) (λ t. rw t (no-octets family (protocol s))) (λ t. rw t (no-octets family (protocol s))))

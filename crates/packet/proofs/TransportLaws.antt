@@ -1,36 +1,36 @@
 -- Which transport octets are there and what they show: one law for each return of the code. Assumes nothing.
 use mathlib.Core.Path.{_≡_, sym, _∙_}
-use mathlib.Core.Bool.{Bool, true, false, not, and-false}
+use mathlib.Core.Bool.{Bool, false}
 use mathlib.Core.List.{List, []}
 use Prim.Native.Nat.{ℕ, _-_, _*_, _<_, _≤_, min}
 use native.Mathlib.Omega.{arith}
 use lib.Bits.{bitAnd}
 use lib.ListN.{length, getD, take, drop}
-use borrow.Author.Tests.{ne-eqb, not-true, not-false}
+use borrow.Author.Tests.{ne-eqb}
 use Rattle.octets.specs.Number.{numberAt}
 use Rattle.rule.specs.declared.Family.{Family}
 use Rattle.packet.specs.declared.Field.{Field}
 use Rattle.packet.specs.Transport.{transportFound, transportOctets, shownIf, hasPorts, hasIcmp, hasFlags, transportFields}
 
 -- behind a fragment offset that is not 0 the transport header is not found
-pub later-not-found : (words offset : ℕ) → (offset ≡ 0 → ⊥) → transportFound words offset ≡ false
-later-not-found words offset later = simp (ne-eqb offset 0 later, and-false)
+pub later-not-found : (offset : ℕ) → (offset ≡ 0 → ⊥) → transportFound offset ≡ false
+later-not-found offset later = ne-eqb offset 0 later
 
--- a part that ends where it begins has no octets
-empty : (s : List ℕ) (from to : ℕ) → to ≤ from → take (to - from) (drop from s) ≡ []
+-- a part that ends where it begins, or before, has no octets
+pub empty : (s : List ℕ) (from to : ℕ) → to ≤ from → take (to - from) (drop from s) ≡ []
 empty s from to h = let e : to - from ≡ 0 = omega arith in rw e
 
 -- how `transport_octets` comes to each of its answers
-module _ (s : List ℕ) (first field : ℕ) (found : Bool) (is : first ≡ getD s 0 0) (says : field ≡ numberAt 2 s 6)
-    (tells : found ≡ transportFound (bitAnd first 15) (bitAnd field 8191)) where
-  pub not-found : (end : ℕ) → not found ≡ true → take (end - end) (drop end s) ≡ transportOctets s
+module _ (s : List ℕ) (field : ℕ) (says : field ≡ numberAt 2 s 6) where
+  pub not-found : (end : ℕ) → (bitAnd field 8191 ≡ 0 → ⊥) → take (end - end) (drop end s) ≡ transportOctets s
   unfolding transportOctets
-  not-found end h = empty s end end (omega arith) ∙ rw (← is, ← says, ← tells, not-true found h)
+  not-found end later = empty s end end (omega arith) ∙ rw (← says, later-not-found (bitAnd field 8191) later)
 
-  module _ (total end : ℕ) (sum : total ≡ numberAt 2 s 2) (least : end ≡ min (length s) total) (there : not found ≡ false) where
+  module _ (first total end : ℕ) (is : first ≡ getD s 0 0) (sum : total ≡ numberAt 2 s 2) (least : end ≡ min (length s) total)
+      (found : bitAnd field 8191 ≡ 0) where
     pub found-octets : take (end - 4 * bitAnd first 15) (drop (4 * bitAnd first 15) s) ≡ transportOctets s
     unfolding transportOctets
-    found-octets = rw (least, ← sum, ← is, ← says, ← tells, not-false found there)
+    found-octets = rw (least, ← sum, ← is, ← says, found)
 
     pub found-none : end < 4 * bitAnd first 15 → take (end - end) (drop end s) ≡ transportOctets s
     found-none h = empty s end end (omega arith) ∙ sym (empty s (4 * bitAnd first 15) end (omega arith)) ∙ found-octets

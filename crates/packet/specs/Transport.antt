@@ -14,15 +14,15 @@ use Rattle.packet.specs.declared.Field.the-variants.{Shown, Hidden}
 use Rattle.packet.specs.declared.Transport.{Transport}
 use Rattle.packet.specs.Header.{headerWords, totalLength, fragmentField, fragmentOffset}
 
--- 01: transport octets "are found only if header length is 5 words and fragment offset 0".
-abbrev pub transportFound : ℕ → ℕ → Bool
-transportFound words offset = eqb words 5 && eqb offset 0
+-- 01: transport octets "are found only if" ... "fragment offset 0"; 2026-02 strikes out "header length is 5 words and".
+abbrev pub transportFound : ℕ → Bool
+transportFound offset = eqb offset 0
 
--- 01: "Transport octets count only up to the smaller of lent and total length"; they begin behind the header.
+-- 01: "Transport octets count only up to the smaller of lent and total length"; 2026-02: "the transport header is looked for after the
+-- full header length", so behind the options.
 unfoldable pub transportOctets : List ℕ → List ℕ
 transportOctets s =
-    cond (transportFound (headerWords s) (fragmentOffset (fragmentField s)))
-    (between s (4 * headerWords s) (min (length s) (totalLength s))) []
+    cond (transportFound (fragmentOffset (fragmentField s))) (between s (4 * headerWords s) (min (length s) (totalLength s))) []
 
 -- 01: "Ports need protocol 6 or 17 and 4 transport octets".
 abbrev pub hasPorts : ℕ → ℕ → Bool

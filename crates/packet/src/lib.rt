@@ -2,7 +2,7 @@
 // what asks a packet goes by what it found. It answers whatever octets it is lent.
 ghost use mathlib.Core.Path.{_≡_};
 ghost use Rattle.packet.specs.Header.{isUnusable, fragmentData};
-ghost use Rattle.packet.specs.Transport.{transportFound, transportOctets, shownIf, hasPorts, hasIcmp, hasFlags, transportFields};
+ghost use Rattle.packet.specs.Transport.{transportOctets, shownIf, hasPorts, hasIcmp, hasFlags, transportFields};
 ghost use Rattle.packet.specs.Packet.{packetOf};
 use octets::bit_if;
 use octets::least;
@@ -81,14 +81,7 @@ fn fragment_data(field: u64) -> u8
     whole + later + begins + ends
 }
 
-// Whether the transport header is found, behind a header of so many words and at this fragment offset.
-fn transport_found(words: u8, offset: u64) -> bool
-    ensures { λ r. ⌜ r ≡ transportFound words offset ⌝ }
-{
-    (words == 5) & (offset == 0)
-}
-
-// The octets of the transport header and all behind it that are there; none where it is not found.
+// The octets behind the header and its options, up to the smaller of the lent and the total length; none in a later fragment.
 fn transport_octets(octets: &[u8]) -> &[u8]
     ensures { λ r. ⌜ now r ≡ transportOctets (now (octets .entry)) ⌝ }
 {
@@ -98,7 +91,7 @@ fn transport_octets(octets: &[u8]) -> &[u8]
     let total = number_at(2, octets, 2);
     let start = 4 * words as usize;
     let end = least(octets.len(), total as usize);
-    if !transport_found(words, offset) {
+    if offset != 0 {
         return &octets[end..end];
     }
     if end < start {

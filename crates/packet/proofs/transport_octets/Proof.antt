@@ -31,7 +31,6 @@ transport-octets-spec =
     cast-start
     mul-start
     (λ c κs. search needs)
-    (λ c κs. search needs)
     (λ c. search needs)
     (λ c. search needs)
     (λ c. search needs)
