@@ -5,6 +5,7 @@ pub mod Numbers
 pub mod Refusals
 pub mod RoomLaws
 pub mod ComparisonTheorems
+pub mod OptionsTheorems
 pub mod PlainLaws
 pub mod Pinned
 pub mod Examples
