@@ -6,8 +6,8 @@
 //! over it.
 //!
 //! In the comments, 01 is the paper "What is required and the exact rules: IPv4 flow rules",
-//! named with its section, and 2026-01 the later request "Whole attributes, not single rules";
-//! RFC sections are named as such.
+//! named with its section, 2026-01 the later request "Whole attributes, not single rules", and
+//! 2026-02 the one on IP options; RFC sections are named as such.
 
 mod action;
 mod attribute;

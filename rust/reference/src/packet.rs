@@ -1,4 +1,4 @@
-//! Matching a packet (RFC 8955 sections 4.2.1 and 4.2.2).
+//! Matching a packet (RFC 8955 sections 4.2.1 and 4.2.2; 2026-02: behind IP options too).
 
 use crate::rule::{Component, ComponentType, Prefix, Reader, AND};
 use crate::Refusal;
@@ -40,8 +40,9 @@ impl Packet {
         let flags_and_offset = u16::from_be_bytes([header[6], header[7]]);
         let offset = flags_and_offset & 0x1fff;
         let protocol = header[9];
-        let transport = match (header_words, offset) {
-            (5, 0) => &packet[HEADER..packet.len().min(usize::from(length))],
+        let behind = usize::from(header_length)..packet.len().min(usize::from(length));
+        let transport = match offset {
+            0 => packet.get(behind).unwrap_or_default(),
             _ => &[],
         };
         Ok(Packet {
@@ -228,6 +229,14 @@ mod tests {
         packet(6, &transport)
     }
 
+    /// The packet with options of whole words in its header.
+    fn with_options(packet: &[u8], options: &[u8]) -> Vec<u8> {
+        let mut packet = [&packet[..20], options, &packet[20..]].concat();
+        packet[0] += (options.len() / 4) as u8;
+        packet[3] += options.len() as u8;
+        packet
+    }
+
     fn matches(packet: &[u8], value: &str) -> bool {
         Packet::read(packet)
             .expect("usable")
@@ -302,25 +311,67 @@ mod tests {
     }
 
     #[test]
-    fn options_and_later_fragments_hide_the_transport_octets() {
-        let mut packet = ported(25, 25);
-        for value in ["048119", "048700", "048619", "058700", "068700"] {
-            packet[0] = 0x45;
-            packet[7] = 0;
-            assert_eq!(matches(&packet, value), value != "048619");
-            packet[7] = 1;
-            assert!(!matches(&packet, value));
-            packet[7] = 0;
-            packet[0] = 0x46;
-            assert!(!matches(&packet, value));
+    fn later_fragments_hide_the_transport_octets() {
+        let [ports, icmp, flags] = [ported(25, 25), packet(1, &[3, 4]), flagged(0, 0x12)];
+        let cases = [
+            (&ports, "048119", true),
+            (&ports, "048700", true),
+            (&ports, "048619", false),
+            (&ports, "058700", true),
+            (&ports, "068700", true),
+            (&icmp, "078700", true),
+            (&icmp, "088700", true),
+            (&flags, "098204", true),
+        ];
+        for (packet, value, shown) in cases {
+            for words in [0, 1, 10] {
+                let mut packet = with_options(packet, &[0, 25, 0, 25].repeat(words));
+                for (high, low) in [(0x00, 1), (0x10, 0), (0x20, 1), (0x3f, 0xff)] {
+                    (packet[6], packet[7]) = (high, low);
+                    assert!(!matches(&packet, value));
+                }
+                for first in [0x00, 0x20, 0x40, 0x80] {
+                    (packet[6], packet[7]) = (first, 0);
+                    assert_eq!(matches(&packet, value), shown);
+                }
+            }
         }
-        let mut flags = flagged(0, 0x12);
-        assert!(matches(&flags, "098204"));
-        flags[6] = 0x10;
-        assert!(!matches(&flags, "098204"));
-        let mut first = ported(25, 25);
-        first[6] = 0x20;
-        assert!(matches(&first, "048119"));
+    }
+
+    #[test]
+    fn options_are_passed_over() {
+        let transport: Vec<u8> = (1..=20).collect();
+        let found = |packet: &[u8]| {
+            let packet = Packet::read(packet)?;
+            Ok((packet.ports, packet.icmp, packet.flags))
+        };
+        for (protocol, words) in [(1, 1), (1, 10), (6, 1), (6, 10), (17, 1), (17, 10)] {
+            let mut packet = with_options(&packet(protocol, &transport), &[99; 4].repeat(words));
+            let end = 20 + 4 * words;
+            let expected = |octets: usize| {
+                let ports = protocol != 1 && octets >= end + 4;
+                let icmp = protocol == 1 && octets >= end + 2;
+                let flags = protocol == 6 && octets >= end + 14;
+                (
+                    ports.then_some([0x0102, 0x0304]),
+                    icmp.then_some([1, 2]),
+                    flags.then_some(0x0d0e),
+                )
+            };
+            for lent in 20..=packet.len() {
+                assert_eq!(found(&packet[..lent]), Ok(expected(lent)));
+            }
+            for total in 0..=255 {
+                packet[3] = total;
+                let total = usize::from(total);
+                let usable = total >= end;
+                let answer = usable.then(|| expected(total)).ok_or(Refusal::new(12));
+                assert_eq!(found(&packet), answer);
+            }
+        }
+        let packet = with_options(&ported(80, 81), &[0, 25, 0, 25]);
+        assert!(!matches(&packet, "048119"));
+        assert!(matches(&packet, "058151068150"));
     }
 
     #[test]
