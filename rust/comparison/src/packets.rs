@@ -4,6 +4,9 @@ use crate::random::Random;
 use crate::rules::{self, Component};
 use crate::world;
 
+/// The most words of options that a header has.
+const MOST_OPTIONS: usize = 10;
+
 /// What a packet is made from.
 struct Fields {
     source: u32,
@@ -42,10 +45,9 @@ fn fields(random: &mut Random) -> Fields {
         } else {
             random.pick(&[0, 1, 185, 8191])
         },
-        options: if plain {
-            0
-        } else {
-            random.pick(&[0, 0, 1, 2, 10])
+        options: match random.one_in(3) {
+            true => 1 + random.below(MOST_OPTIONS),
+            false => 0,
         },
         transport: match random.one_in(3) {
             true => random.pick(&[0, 1, 2, 3, 4, 8, 13, 14, 32]),
@@ -115,14 +117,14 @@ fn aim(random: &mut Random, fields: &mut Fields, component: &Component) {
     }
 }
 
-/// The header of 20 octets, with its options behind it.
+/// The header's first 20 octets, behind which its options stand.
 fn header(random: &mut Random, fields: &Fields) -> Vec<u8> {
     let length = 20 + 4 * fields.options;
     let total = fields.total.unwrap_or((length + fields.transport) as u16);
     let fragment = u16::from(fields.dont_fragment) << 14
         | u16::from(fields.more_fragments) << 13
         | fields.offset & 0x1fff;
-    let mut octets = random.octets(length);
+    let mut octets = random.octets(20);
     octets[0] = 0x40 | (length / 4) as u8;
     octets[1] = fields.dscp << 2 | octets[1] & 3;
     octets[2..4].copy_from_slice(&total.to_be_bytes());
@@ -133,9 +135,9 @@ fn header(random: &mut Random, fields: &Fields) -> Vec<u8> {
     octets
 }
 
-/// The transport octets: ports, type and code, or flags, by the protocol.
+/// As many transport octets as options can be: ports, type and code, or flags, by the protocol.
 fn transport(random: &mut Random, fields: &Fields) -> Vec<u8> {
-    let mut octets = random.octets(34);
+    let mut octets = random.octets(4 * MOST_OPTIONS);
     match fields.protocol {
         1 => octets[..2].copy_from_slice(&fields.icmp),
         _ => {
@@ -145,8 +147,39 @@ fn transport(random: &mut Random, fields: &Fields) -> Vec<u8> {
             octets[12..14].copy_from_slice(&(fields.flags & 0x0fff | rest).to_be_bytes());
         }
     }
-    octets.truncate(fields.transport);
     octets
+}
+
+/// Options and transport octets: some options look like transport octets, of other numbers or of
+/// those that the packet was to show, which then shows others.
+fn options_and_transport(random: &mut Random, fields: &Fields) -> Vec<u8> {
+    let own = transport(random, fields);
+    let other_fields = Fields {
+        protocol: fields.protocol,
+        ..self::fields(random)
+    };
+    let other = transport(random, &other_fields);
+    let (mut octets, behind) = match random.below(4) {
+        0 => (other, own),
+        1 if fields.options > 0 => (own, other),
+        _ => (random.octets(4 * MOST_OPTIONS), own),
+    };
+    octets.truncate(4 * fields.options);
+    octets.extend(&behind[..fields.transport]);
+    octets
+}
+
+/// Lets the octets of a packet with options, or its total length, end within them or close behind.
+fn end_near_options(random: &mut Random, options: usize, packet: &mut Vec<u8>) {
+    let length = 4 * options;
+    let place = match random.one_in(2) {
+        true => 20 + random.below(length),
+        false => 20 + length + random.below(17),
+    };
+    match random.one_in(2) {
+        true => packet.truncate(place),
+        false => packet[2..4].copy_from_slice(&(place as u16).to_be_bytes()),
+    }
 }
 
 /// Makes a packet odd: cut, longer than it says, of another version, with lengths that cannot be.
@@ -161,7 +194,7 @@ fn damage(random: &mut Random, packet: &mut Vec<u8>) {
         3 => packet[0] = 0x40 | random.below(16) as u8,
         4 => {
             packet[2] = 0;
-            packet[3] = random.below(70) as u8;
+            packet[3] = random.below(80) as u8;
         }
         _ => random.flip_bit(packet),
     }
@@ -176,7 +209,10 @@ pub fn packet(random: &mut Random, aimed_at: &[Component]) -> Vec<u8> {
         }
     }
     let mut packet = header(random, &fields);
-    packet.extend(transport(random, &fields));
+    packet.extend(options_and_transport(random, &fields));
+    if fields.options > 0 && random.one_in(4) {
+        end_near_options(random, fields.options, &mut packet);
+    }
     if random.one_in(6) {
         damage(random, &mut packet);
     }

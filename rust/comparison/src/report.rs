@@ -1,6 +1,7 @@
 //! How calls and answers are printed, and how often each answer was met.
 
 use crate::calls::{Answer, Basis, Call};
+use crate::sides::Reference;
 use crate::tables;
 use std::collections::BTreeMap;
 use std::fmt::{self, Write};
@@ -173,9 +174,20 @@ const EXPECTED: [Expected; 11] = [
     expected(
         "lookup",
         false,
-        &["0 unmatched", "0 one", "0 several", "10", "12"],
+        &[
+            "0 unmatched",
+            "0 one",
+            "0 several",
+            "0 behind options",
+            "10",
+            "12",
+        ],
     ),
-    expected("first_match", false, &["0 none", "0 record", "10", "12"]),
+    expected(
+        "first_match",
+        false,
+        &["0 none", "0 record", "0 behind options", "10", "12"],
+    ),
 ];
 
 /// What one call can answer.
@@ -256,7 +268,24 @@ fn kind_of_listed(number: u32) -> &'static str {
     }
 }
 
-/// How often each call gave each answer, and how often an attribute's listed each number.
+/// Whether a lookup met a rule by transport octets behind options: the reference answers otherwise
+/// if the lent octets end at the header's end.
+fn met_behind_options(call: &Call, answer: &Answer) -> bool {
+    let (Call::Lookup { packet, .. } | Call::FirstMatch { packet, .. }) = call else {
+        return false;
+    };
+    if answer.number != 0 || packet[0] == 0x45 {
+        return false;
+    }
+    let mut bare = call.clone();
+    if let Call::Lookup { packet, .. } | Call::FirstMatch { packet, .. } = &mut bare {
+        packet.truncate(4 * usize::from(packet[0] & 0x0f));
+    }
+    bare.answer_of::<Reference>() != *answer
+}
+
+/// How often each call gave each answer, how often an attribute's listed each number, and how often
+/// a lookup met a rule behind options.
 #[derive(Default)]
 pub struct Distribution {
     counts: BTreeMap<(&'static str, &'static str), u64>,
@@ -268,7 +297,8 @@ impl Distribution {
     pub fn count(&mut self, call: &Call, answer: &Answer) {
         self.calls += 1;
         let listed = answer.listed().iter().copied().map(kind_of_listed);
-        for kind in listed.chain([kind_of(call, answer)]) {
+        let behind = met_behind_options(call, answer).then_some("0 behind options");
+        for kind in listed.chain(behind).chain([kind_of(call, answer)]) {
             *self.counts.entry((call.name(), kind)).or_default() += 1;
         }
     }
