@@ -51,6 +51,13 @@
  * plus the length of its value. Flags: 1 byte rate, 2 packet rate, 4 sample (S), 8 go on to later
  * rules (T), 16 marking, 32 redirect.
  *
+ * A PACKET is lent from its IPv4 header on, as far as it is at hand. It is unusable (12) if under 20
+ * octets are lent, its version is not 4, its header length is below 5 words, or its total length is
+ * below its header length. Ports, ICMP type and code, and TCP flags are looked for behind the whole
+ * header, options included, up to the smaller of the lent and the total length, and not in a later
+ * fragment; ports need 4 octets there, ICMP type and code 2, TCP flags 14. A component that asks for
+ * what is not seen never matches, whatever its operators.
+ *
  * ROUTES are lent as 32-bit words, four a route: address, length, originator, neighbour AS. A list
  * is sound if it has a multiple of four words, at most 4,096 routes, each length at most 32, no bit
  * of an address set past the length, and the routes rise strictly by address, then length.
@@ -160,8 +167,8 @@ uint64_t flowspec4_reach(uint8_t *table, size_t table_len, const uint32_t *route
 uint64_t flowspec4_unreach(uint8_t *table, size_t table_len, const uint8_t *attribute, size_t attribute_len, uint32_t *answers, size_t answers_len, uint64_t out[1]);
 
 /*
- * Looks a packet (from its IPv4 header on) up: goes down the table, collects each rule that
- * matches, and stops after one without T.
+ * Looks a packet up: goes down the table, collects each rule that matches, and stops after one
+ * without T.
  * Refused with 10 or 12, checked in this order.
  * out: how many rules were collected, then their merged actions: flags (T is never set), DSCP, byte
  * rate, packet rate, redirect community. If no rule matches all six words are 0.

@@ -1,7 +1,7 @@
 /*
  * Calls every function of flowspec.h from C and holds the answers to literal values, which are
- * those of the examples in the paper of requirements (01), and for whole attributes those that the
- * words of the request 2026-01 give.
+ * those of the examples in the paper of requirements (01), and for whole attributes and for packets
+ * with options those that the words of the requests 2026-01 and 2026-02 give.
  *
  *     cc -Wall -Wextra -Werror -I include tests/c/calls.c target/staticlib/libc_api.a -o calls && ./calls
  */
@@ -279,6 +279,51 @@ static void looking(void)
     check_answer("first match, unsound", flowspec4_first_match(table, sizeof table, packet, sizeof packet, found), 10, 0);
 }
 
+/* The packet with options of so many words, which look like ports that 01's example asks for; its own destination port is `port`. */
+static size_t with_options(uint8_t *longer, size_t words, uint8_t port)
+{
+    static const uint8_t ports[4] = {0, 25, 0, 25};
+    size_t word, end = 20 + 4 * words;
+    memcpy(longer, packet, 20);
+    for (word = 0; word < words; word++)
+        memcpy(longer + 20 + 4 * word, ports, sizeof ports);
+    memcpy(longer + end, packet + 20, 20);
+    longer[0] = (uint8_t)(0x45 + words);
+    longer[3] = (uint8_t)(end + 20);
+    longer[end + 3] = port;
+    return end;
+}
+
+/* Holds a lookup to its number and, answered 0, to whether 01's example is collected. */
+static void check_hit(const char *what, const uint8_t *table, const uint8_t *longer, size_t lent, uint32_t number, uint64_t hit)
+{
+    uint64_t out[6] = {UNTOUCHED};
+    check_answer(what, flowspec4_lookup(table, 64, longer, lent, out), number, 0);
+    check(what, out[0], number == 0 ? hit : UNTOUCHED);
+}
+
+/* 2026-02: ports are looked for behind options of one word and of ten, up to the smaller of lent and total length, and not in a later fragment. */
+static void passing_options(void)
+{
+    uint8_t table[64] = {0}, longer[80];
+    size_t words, end, size;
+    check_answer("announce", announced(table, sizeof table, 7), 0, 0);
+    for (words = 1; words <= 10; words += 9) {
+        end = with_options(longer, words, 26);
+        check_hit("ports in the options alone", table, longer, end + 20, 0, 0);
+        end = with_options(longer, words, 25);
+        check_hit("ports behind the options", table, longer, end + 20, 0, 1);
+        for (size = 20; size <= end + 14; size++)
+            check_hit("options, lent", table, longer, size, 0, size >= end + 4);
+        for (size = 20; size <= end + 14; size++) {
+            longer[3] = (uint8_t)size;
+            check_hit("options, total length", table, longer, end + 20, size < end ? 12 : 0, size >= end + 4);
+        }
+        longer[7] = 1;
+        check_hit("options, a later fragment", table, longer, end + 20, 0, 0);
+    }
+}
+
 /* What a call with a whole attribute may write, and the table before it. */
 struct lent {
     uint8_t table[64], before[64];
@@ -469,6 +514,7 @@ int main(void)
     reaching_with_no_destination();
     unreaching();
     looking();
+    passing_options();
     check("number", flowspec4_number(UINT64_C(0x400000006)), 6);
     check("place", flowspec4_place(UINT64_C(0x400000006)), 4);
     printf("%d checks, %d failed\n", checks, failures);

@@ -66,7 +66,9 @@ impl<B: AsRef<[u8]>> Table<B> {
         self.octets
     }
 
-    /// Looks a packet up; refused with 10 or 12.
+    /// Looks a packet up, lent from its IPv4 header on; refused with 10 or 12. Ports, ICMP type and
+    /// code, and TCP flags are looked for behind the IPv4 header, options included, up to the
+    /// smaller of the lent and the total length, and not in a later fragment.
     pub fn lookup(&self, packet: &[u8]) -> Result<Verdict, Error> {
         let mut out = [0; 6];
         done(ffi::lookup(self.octets(), packet, &mut out))?;
@@ -80,7 +82,8 @@ impl<B: AsRef<[u8]>> Table<B> {
         })
     }
 
-    /// Finds the record of the first rule that matches a packet; refused with 10 or 12.
+    /// Finds the record of the first rule that matches a packet, read as [`Table::lookup`] reads it;
+    /// refused with 10 or 12.
     pub fn first_match(&self, packet: &[u8]) -> Result<Option<Record<'_>>, Error> {
         let mut out = [0; 2];
         done(ffi::first_match(self.octets(), packet, &mut out))?;

@@ -75,6 +75,19 @@ fn tables_are_over_lent_octets() -> Result<(), Error> {
 }
 
 #[test]
+fn ports_are_found_behind_options() -> Result<(), Error> {
+    let mut table = Table::new(100);
+    table.announce(&ROUTES, false, &RULE, 7, &COMMUNITIES)?;
+    let (header, transport) = (&packet()[..20], &packet()[20..]);
+    let mut longer = [header, &[1; 40], transport].concat();
+    (longer[0], longer[3]) = (0x4f, 64);
+    assert_eq!(table.first_match(&longer)?, Some(HELD));
+    assert_eq!(table.lookup(&longer)?, table.lookup(&packet())?);
+    assert_eq!(table.lookup(&longer[..63])?, Verdict::Unmatched);
+    Ok(())
+}
+
+#[test]
 fn records_of_a_full_table_end() -> Result<(), Error> {
     let mut table = Table::new(2 * (Record::HEAD + HELD.value.len()));
     let mut other = RULE;
