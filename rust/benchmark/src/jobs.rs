@@ -70,7 +70,7 @@ macro_rules! job {
 }
 
 /// All jobs.
-pub const JOBS: [Job; 9] = [
+pub const JOBS: [Job; 10] = [
     job!("read", SHORT_RUNS, read),
     job!("write", SHORT_RUNS, write),
     job!("compare", SHORT_RUNS, compare),
@@ -79,6 +79,7 @@ pub const JOBS: [Job; 9] = [
     job!("announce", CHANGING_RUNS, announce),
     job!("withdraw", CHANGING_RUNS, withdraw),
     job!("lookup", LOOKING_RUNS, lookup),
+    job!("  with options", LOOKING_RUNS, lookup_with_options),
     job!("first match", LOOKING_RUNS, first_match),
 ];
 
@@ -183,6 +184,13 @@ fn feasible<S: Side>(setting: &Setting, run: usize) -> Run {
 fn lookup<S: Side>(setting: &Setting, run: usize) -> Run {
     timed(run, PACKETS_A_RUN, |number| {
         S::lookup(&setting.table, &setting.load.packets[number])
+    })
+}
+
+/// Looks the same packets up, with options in their headers.
+fn lookup_with_options<S: Side>(setting: &Setting, run: usize) -> Run {
+    timed(run, PACKETS_A_RUN, |number| {
+        S::lookup(&setting.table, &setting.load.with_options[number])
     })
 }
 

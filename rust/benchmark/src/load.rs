@@ -28,6 +28,8 @@ pub struct Load {
     pub communities: Vec<Vec<u8>>,
     /// Packets, of which at least half belong to a rule.
     pub packets: Vec<Vec<u8>>,
+    /// The same packets with options in their headers.
+    pub with_options: Vec<Vec<u8>>,
     /// Routes as words, under which all rules are feasible.
     pub routes: Vec<u32>,
     /// Further rules, as many as an attribute has.
@@ -148,6 +150,17 @@ fn packet(random: &mut Random, flow: Option<&Flow>) -> Vec<u8> {
     packet
 }
 
+/// The packet with options of one to ten words.
+fn with_options(random: &mut Random, packet: &[u8]) -> Vec<u8> {
+    let words = 1 + random.below(10) as u8;
+    let options = random.octets(4 * usize::from(words));
+    let total = u16::from_be_bytes([packet[2], packet[3]]) + 4 * u16::from(words);
+    let mut longer = [&packet[..20], &options, &packet[20..]].concat();
+    longer[0] += words;
+    longer[2..4].copy_from_slice(&total.to_be_bytes());
+    longer
+}
+
 impl Load {
     /// The load with so many rules.
     pub fn new(count: usize) -> Load {
@@ -159,7 +172,7 @@ impl Load {
         }
         let mut flows: Vec<(Vec<u8>, Flow)> = flows.into_iter().collect();
         random.shuffle(&mut flows);
-        let packets = (0..PACKETS)
+        let packets: Vec<Vec<u8>> = (0..PACKETS)
             .map(|_| {
                 let of_rule = random.one_in(2).then(|| random.below(count));
                 packet(random, of_rule.map(|at| &flows[at].1))
@@ -169,9 +182,13 @@ impl Load {
         let rules: Vec<Vec<u8>> = rules.collect();
         Load {
             communities: (0..count).map(|_| communities(random)).collect(),
-            packets,
             routes: known_routes(),
             others: other_rules(random, &rules),
+            with_options: packets
+                .iter()
+                .map(|packet| with_options(random, packet))
+                .collect(),
+            packets,
             rules,
         }
     }
