@@ -44,7 +44,8 @@ pub record Header : Type 0 where
   pub source : ℕ
   pub destination : ℕ
 
--- a field has no more bits than RFC 791 gives it; of those that have octets of their own and are only handed on, nothing is asked
+-- a field that stands below another one, or is read from several octets, has no more bits than RFC 791 gives it; of the others nothing is
+-- asked
 pub record Sized (h : Header) : Type 0 where
   pub words : h .words < 16
   pub congestion : h .congestion < 4
