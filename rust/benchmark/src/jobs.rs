@@ -70,12 +70,13 @@ macro_rules! job {
 }
 
 /// All jobs.
-pub const JOBS: [Job; 10] = [
+pub const JOBS: [Job; 11] = [
     job!("read", SHORT_RUNS, read),
     job!("write", SHORT_RUNS, write),
     job!("compare", SHORT_RUNS, compare),
     job!("actions", SHORT_RUNS, actions),
     job!("feasible", SHORT_RUNS, feasible),
+    job!("  most routes", SHORT_RUNS, feasible_by_most),
     job!("announce", CHANGING_RUNS, announce),
     job!("withdraw", CHANGING_RUNS, withdraw),
     job!("lookup", LOOKING_RUNS, lookup),
@@ -173,10 +174,18 @@ fn actions<S: Side>(setting: &Setting, run: usize) -> Run {
     })
 }
 
-/// Judges rules by all routes.
+/// Judges rules by the known routes.
 fn feasible<S: Side>(setting: &Setting, run: usize) -> Run {
     timed(run, SHORT_CALLS / 4, |number| {
         S::feasible(&setting.load.routes, 0, setting.rule(number), ORIGINATOR)
+    })
+}
+
+/// Judges rules by as many routes as may be lent.
+fn feasible_by_most<S: Side>(setting: &Setting, run: usize) -> Run {
+    timed(run, SHORT_CALLS / 40, |number| {
+        let routes = &setting.load.most_routes;
+        S::feasible(routes, 0, setting.rule(number), ORIGINATOR)
     })
 }
 

@@ -11,8 +11,10 @@ pub const PACKETS: usize = 100_000;
 /// How many rules an attribute has.
 pub const IN_ATTRIBUTE: usize = 100;
 
-/// How many routes are known.
-const ROUTES: u32 = 256;
+/// How many bits tell one known route from another, and how many do where there are as many routes
+/// as may be lent.
+const ROUTE_BITS: u32 = 8;
+const MOST_ROUTE_BITS: u32 = 12;
 
 /// A destination with a length below this is called short.
 const SHORT: u8 = 16;
@@ -32,6 +34,8 @@ pub struct Load {
     pub with_options: Vec<Vec<u8>>,
     /// Routes as words, under which all rules are feasible.
     pub routes: Vec<u32>,
+    /// As many routes as may be lent, under which all rules are feasible too.
+    pub most_routes: Vec<u32>,
     /// Further rules, as many as an attribute has.
     pub others: Vec<Vec<u8>>,
 }
@@ -182,7 +186,8 @@ impl Load {
         let rules: Vec<Vec<u8>> = rules.collect();
         Load {
             communities: (0..count).map(|_| communities(random)).collect(),
-            routes: known_routes(),
+            routes: known_routes(ROUTE_BITS),
+            most_routes: known_routes(MOST_ROUTE_BITS),
             others: other_rules(random, &rules),
             with_options: packets
                 .iter()
@@ -212,10 +217,11 @@ fn other_rules(random: &mut Random, rules: &[Vec<u8>]) -> Vec<Vec<u8>> {
     others
 }
 
-/// A route that covers all, and routes of length 16 within, all from one neighbour.
-fn known_routes() -> Vec<u32> {
-    let within = (1..ROUTES).map(|number| 0x0a00_0000 | number << 16);
-    let within = within.map(|address| [address, 16, ORIGINATOR, routes::NEIGHBOUR]);
+/// A route that covers all, and those within 10.0.0.0/8 that are longer by so many bits, without the
+/// lowest; all from one neighbour.
+fn known_routes(bits: u32) -> Vec<u32> {
+    let within = (1..1 << bits).map(|number| 0x0a00_0000 | number << (24 - bits));
+    let within = within.map(|address| [address, 8 + bits, ORIGINATOR, routes::NEIGHBOUR]);
     std::iter::once(routes::covering_all(ORIGINATOR))
         .chain(within)
         .flatten()

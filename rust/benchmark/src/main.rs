@@ -59,9 +59,10 @@ fn describe(load: &Load) {
         .count();
     let part = |count: usize, all: usize| 100.0 * count as f64 / all as f64;
     println!(
-        "tables of {} octets; {} routes",
+        "tables of {} octets; {} routes, and {} where it says most routes",
         Table::LONGEST,
-        load.routes.len() / 4
+        load.routes.len() / 4,
+        load.most_routes.len() / 4
     );
     println!(
         "{rules} rules, {short} of them ({:.1} %) with a destination shorter than 16 bits",
