@@ -1,6 +1,6 @@
 -- The bits of an address, as a list and as a number. Assumes nothing.
 use mathlib.Core.Path.{_≡_, refl, ap, sym, subst, _∙_}
-use mathlib.Core.Bool.{Bool, true, _&&_}
+use mathlib.Core.Bool.{true, _&&_}
 use mathlib.Core.List.{List, [], _∷_}
 use Prim.Native.Nat.{ℕ, zero, suc, _+_, _-_, _*_, _/_, _%_, _^_, _≤_, _<_}
 use native.Mathlib.Omega.{arith}
@@ -124,8 +124,3 @@ pub same-between : (w m n a b : ℕ) → m ≤ n
     → sameList (bitsBetween w m n a) (bitsBetween w m n b) ≡ eqb (a % 2 ^ (w - m) / 2 ^ (w - n)) (b % 2 ^ (w - m) / 2 ^ (w - n))
 same-between w m n a b h =
     rw (between-first w m n a, between-first w m n b) (sym (same-first (w - m) (n - m) (w - n) a b (omega arith)))
-
--- how the code comes to its answer
-pub by-shifts : (w m n highest lowest a b x y : ℕ) (r : Bool) → highest ≡ w - m → lowest ≡ w - n → m < n → x ≡ a % 2 ^ highest → y ≡ b % 2 ^ highest
-    → r ≡ eqb (x / 2 ^ lowest) (y / 2 ^ lowest) → r ≡ sameList (bitsBetween w m n a) (bitsBetween w m n b)
-by-shifts w m n highest lowest a b x y r up down h e f g = g ∙ rw (e, f, up, down) (sym (same-between w m n a b (omega arith)))

@@ -2,8 +2,9 @@
 // address, which of two comes first, and the prefix that a component's body spells.
 ghost use mathlib.Core.Path.{_≡_};
 ghost use mathlib.Core.Bool.{_||_};
+ghost use lib.Bits.{bitAnd};
 ghost use lib.Dec.{eqb};
-ghost use Prim.Native.Nat.{_-_, _/_, _%_, _^_, _≤_, compare};
+ghost use Prim.Native.Nat.{_-_, _/_, _%_, _^_, _≤_, compare, min};
 ghost use Rattle.octets.specs.Number.{numberAt};
 ghost use Rattle.octets.specs.Order.{ordered};
 ghost use Rattle.octets.specs.Test.{sameList};
@@ -23,73 +24,60 @@ pub struct Prefix {
     pub address: Address,
 }
 
-// How many bits of an address follow its first n.
-fn bits_behind(width: u8, n: u32) -> u32
-    ensures { λ r. ⌜ r ≡ width - n ⌝ }
+// By how much a number exceeds another, 0 where it does not.
+fn difference(n: u32, other: u32) -> u32
+    ensures { λ r. ⌜ r ≡ n - other ⌝ }
 {
-    let bits = width as u32;
-    if n < bits { bits - n } else { 0 }
+    if other < n { n - other } else { 0 }
 }
 
-// The lowest bits of a word.
-fn low_part(count: u32, word: u64) -> u64
-    ensures { λ r. ⌜ r ≡ word % 2 ^ count ⌝ }
+// The mask of a word's lowest bits.
+fn low_mask(count: u32) -> u64
+    ensures { λ r. ⌜ r ≡ 2 ^ min count 64 - 1 ⌝ }
 {
     if 64 <= count {
-        return word;
+        return u64::MAX;
     }
-    word & ((1u64 << count) - 1)
+    (1u64 << count) - 1
 }
 
-// A word without its lowest bits.
-fn high_part(count: u32, word: u64) -> u64
-    ensures { λ r. ⌜ r ≡ word / 2 ^ count ⌝ }
+// The mask of a word's bits below `highest` that are not below `lowest`.
+fn mask_between(highest: u32, lowest: u32) -> u64
+    ensures { λ r. ⌜ r ≡ 2 ^ min highest 64 - 2 ^ min lowest 64 ⌝ }
 {
-    if 64 <= count {
-        return 0;
-    }
-    word >> count
+    let below = low_mask(lowest);
+    low_mask(highest) & (u64::MAX - below)
+}
+
+// Whether two words agree under a mask.
+fn agree_under(mask: u64, a: u64, b: u64) -> bool
+    ensures { λ r. ⌜ r ≡ eqb (bitAnd a mask) (bitAnd b mask) ⌝ }
+{
+    let x = a & mask;
+    let y = b & mask;
+    x == y
 }
 
 // The lowest bits of an address.
 pub fn low_bits(count: u32, address: Address) -> Address
     ensures { λ r. ⌜ addressOf r ≡ addressOf address % 2 ^ count ⌝ }
 {
-    let low = address.low;
-    if 64 <= count {
-        let high = low_part(count - 64, address.high);
-        return Address { high, low };
-    }
-    Address {
-        high: 0,
-        low: low_part(count, low),
-    }
+    let high = address.high & low_mask(difference(count, 64));
+    let low = address.low & low_mask(count);
+    Address { high, low }
 }
 
-// Whether two addresses are the same without their lowest bits.
-fn same_above(count: u32, a: Address, b: Address) -> bool
-    ensures { λ r. ⌜ r ≡ eqb (addressOf a / 2 ^ count) (addressOf b / 2 ^ count) ⌝ }
-{
-    if 64 <= count {
-        let rest = count - 64;
-        return high_part(rest, a.high) == high_part(rest, b.high);
-    }
-    let x = a.low >> count;
-    let y = b.low >> count;
-    (a.high == b.high) & (x == y)
-}
-
-// Whether the bits of two addresses behind their first `from`, up to their first `to`, are the same: no bits are, and else what is left
-// when those before and behind them are taken away.
+// Whether the bits of two addresses behind their first `from`, up to their first `to`, are the same: where each word agrees under its
+// mask.
 pub fn same_bits(width: u8, from: u32, to: u32, a: Address, b: Address) -> bool
     ensures { λ r. ⌜ r ≡ sameList (bitsBetween width from to (addressOf a)) (bitsBetween width from to (addressOf b)) ⌝ }
 {
-    if to <= from {
-        return true;
-    }
-    let highest = bits_behind(width, from);
-    let lowest = bits_behind(width, to);
-    same_above(lowest, low_bits(highest, a), low_bits(highest, b))
+    let bits = width as u32;
+    let highest = difference(bits, from);
+    let lowest = difference(bits, to);
+    let low = mask_between(highest, lowest);
+    let high = mask_between(difference(highest, 64), difference(lowest, 64));
+    agree_under(high, a.high, b.high) & agree_under(low, a.low, b.low)
 }
 
 // Whether an address has the bits of a pattern.
@@ -166,6 +154,16 @@ fn address_at(count: usize, s: &[u8], at: usize) -> Address
     let high = octets::number_at(rest, s, at);
     let low = octets::number_at(8, s, at + rest);
     Address { high, low }
+}
+
+// A word without its lowest bits.
+fn high_part(count: u32, word: u64) -> u64
+    ensures { λ r. ⌜ r ≡ word / 2 ^ count ⌝ }
+{
+    if 64 <= count {
+        return 0;
+    }
+    word >> count
 }
 
 // An address shifted to the right.
