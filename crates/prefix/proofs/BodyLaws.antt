@@ -1,19 +1,20 @@
 -- The pattern that a component's body spells: it is plain where the bits behind the pattern are clear, and no two such bodies of one
 -- length spell the same. Assumes nothing.
-use mathlib.Core.Path.{_≡_, ap, sym, _∙_}
-use mathlib.Core.Bool.{Bool, true, false, not}
+use mathlib.Core.Path.{_≡_, refl, ap, sym, _∙_}
+use mathlib.Core.Bool.{Bool, true, false}
 use mathlib.Core.List.{List}
 use mathlib.Core.Logic.{_⊎_, ⊎-elim}
-use Prim.Native.Nat.{ℕ, zero, suc, _+_, _-_, _*_, _/_, _%_, _^_, _≤_, _<_}
+use Prim.Native.Nat.{ℕ, zero, suc, _+_, _-_, _*_, _/_, _%_, _^_, _≤_, _<_, min}
 use native.Mathlib.Omega.{arith}
-use native.Mathlib.Nat.{div-one, zero-div, zero-mod, pow-suc, add-zero, add-suc, add-assoc}
+use native.Mathlib.Decide.{decLt}
+use native.Mathlib.Nat.{zero-div, zero-mod, mod-eq-of-lt, pow-suc, pow-le-pow-right, zero-add, add-zero, add-suc, add-assoc, sub-self}
 use lib.ListN.{length, getD}
 use lib.Pow.{field, mod-mod-pow, shr-lt}
 use lib.Seq.{ext-getD}
-use borrow.Author.Tests.{not-true, not-false}
+use lib.Dec.{lit<}
 use Rattle.octets.specs.Number.{numberAt}
 use Rattle.octets.proofs.Facts.{Octets}
-use Rattle.octets.proofs.NumberLaws.{number-only, number-small, octets-bits}
+use Rattle.octets.proofs.NumberLaws.{IsNumber, number-only, number-small, number-out, number-cut, octets-bits}
 use Rattle.prefix.proofs.BitLaws.{same-clear}
 use Rattle.prefix.specs.declared.Address.{Address}
 use Rattle.prefix.specs.Prefix.{Pattern, addressOf, patternOf, offsetIn, patternStart, patternIn, WellFormed}
@@ -78,6 +79,11 @@ module _ (w : ℕ) (x y : List ℕ) (o : Octets x) (p : Octets y) (l : length x 
       go true k g f (suc zero) j = g
       go true k g f (suc (suc i)) j = let e : suc (suc i) ≡ 2 + i = omega arith in rw e (number-only (w / 8) x y 2 o p f i (omega arith))
 
+-- no octets are the number 0
+no-number : (s : List ℕ) (at : ℕ) → numberAt 0 s at ≡ 0
+unfolding numberAt
+no-number s at = refl
+
 -- a number in two parts
 number-parts : (m n : ℕ) (s : List ℕ) (at : ℕ) → numberAt (m + n) s at ≡ numberAt m s at * 256 ^ n + numberAt n s (at + m)
 unfolding numberAt
@@ -85,24 +91,55 @@ number-parts m zero s at = rw (add-zero m) (omega arith)
 number-parts m (suc n) s at =
     rw (add-suc m n, number-parts m n s at, pow-suc 256 n, add-assoc at m n) (omega arith)
 
--- how the code comes to its answers
-pub two-words : (count at rest high low : ℕ) (s : List ℕ) → 8 < count → rest ≡ count - 8 → high ≡ numberAt rest s at → low ≡ numberAt 8 s (at + rest)
-    → addressOf (record { high = high; low = low }) ≡ numberAt count s at
-two-words count at rest high low s h e f g =
-    let k : count ≡ rest + 8 = omega arith in
-    rw (f, g, k) (sym (number-parts rest 8 s at))
+-- how the code comes to its answers: no octet is there, or those that are there are read
+module _ (n at end stop : ℕ) (s : List ℕ) (few : n ≤ 8) (ends : end ≡ at + n) (stops : stop ≡ min end (length s)) where
+  pub none-there : stop ≤ at → 0 ≡ numberAt n s at
+  none-there h =
+      elim (decLt at (length s)) [
+        | yes i ↦ let e : n ≡ 0 = omega arith in rw e (sym (no-number s at))
+        | no i ↦ number-out n at s (omega arith) .0
+      ]
 
-module _ (w : ℕ) (offsets : Bool) (body : List ℕ) (a : Address) (reach : ℕ) (is : reach ≡ getD body 0 0) where
-  pub no-offset : not offsets ≡ true → addressOf a ≡ numberAt (w / 8) body 1
-      → patternOf (record { offset = 0; length = reach; address = a }) ≡ patternIn w offsets body
-  unfolding patternIn
-  no-offset h e =
-      let f : addressOf a ≡ numberAt (w / 8) body 1 / 2 ^ 0 = e ∙ sym (div-one (numberAt (w / 8) body 1)) in
-      rw (not-true offsets h) (λ i. record { offset = 0; length = is i; address = f i })
+  pub some-there : (missing number : ℕ) → at < stop → missing ≡ end - stop → IsNumber (stop - at) s at number
+      → number * 2 ^ (missing * 8) % 2 ^ 64 ≡ numberAt n s at
+  some-there missing number h e is =
+      elim (decLt (length s) end) [
+        | yes i ↦
+            let f : stop ≡ length s = omega arith in
+            number-cut n missing at number s few (omega arith) (omega arith) (rw f at is) .0
+        | no i ↦
+            let f : stop - at ≡ n = omega arith in
+            let z : missing ≡ 0 = omega arith in
+            let most : 256 ^ n ≤ 256 ^ 8 = pow-le-pow-right {n = 256} (lit< tt) few in
+            let small = rw f at (is .1) in
+            let one : number * 2 ^ (missing * 8) ≡ number = rw z (omega arith) in
+            rw (one, mod-eq-of-lt {n = number} {m = 2 ^ 64} (omega arith), ← f) (is .0)
+      ]
 
-  pub with-offset : (offset number : ℕ) → not offsets ≡ false → offset ≡ getD body 1 0 → number ≡ numberAt (w / 8) body 2 → addressOf a ≡ number / 2 ^ offset
-      → patternOf (record { offset = offset; length = reach; address = a }) ≡ patternIn w offsets body
-  unfolding patternIn
-  with-offset offset number h b n e =
-      let f : addressOf a ≡ numberAt (w / 8) body 2 / 2 ^ getD body 1 0 = e ∙ rw (n, b) in
-      rw (not-false offsets h) (λ i. record { offset = b i; length = is i; address = f i })
+pub two-words : (count at few high low : ℕ) (s : List ℕ) → few ≡ min count 8 → high ≡ numberAt (count - few) s at
+    → low ≡ numberAt few s (at + (count - few)) → addressOf (record { high = high; low = low }) ≡ numberAt count s at
+two-words count at few high low s e f g =
+    elim (decLt 8 count) [
+      | yes h ↦
+          let l : few ≡ 8 = omega arith in
+          let k : count ≡ count - 8 + 8 = omega arith in
+          rw (f, g, l) (sym (number-parts (count - 8) 8 s at) ∙ ap (λ (n : ℕ). numberAt n s at) (sym k))
+      | no h ↦
+          let l : few ≡ count = omega arith in
+          rw (f, g, l, sub-self count, no-number s at, add-zero at) (zero-add (numberAt count s at))
+    ]
+
+pub an-offset : (offsets : Bool) (body : List ℕ) (octet : ℕ) → offsets ≡ true → octet ≡ getD body 1 0 → octet ≡ offsetIn offsets body
+an-offset offsets body octet h e = rw h e
+
+pub start-low : (offsets : Bool) (start : ℕ) → start ≡ patternStart offsets → start ≤ 2
+start-low false start e = omega arith
+start-low true start e = omega arith
+
+pub spells : (w start number : ℕ) (offsets : Bool) (body : List ℕ) (a : Address) (reach offset : ℕ) → reach ≡ getD body 0 0 → offset ≡ offsetIn offsets body
+    → start ≡ patternStart offsets → number ≡ numberAt (w / 8) body start → addressOf a ≡ number / 2 ^ offset
+    → patternOf (record { offset = offset; length = reach; address = a }) ≡ patternIn w offsets body
+unfolding patternIn
+spells w start number offsets body a reach offset l o p n e =
+    let f : addressOf a ≡ numberAt (w / 8) body (patternStart offsets) / 2 ^ offsetIn offsets body = e ∙ rw (n, p, o) in
+    λ i. record { offset = o i; length = l i; address = f i }

@@ -8,7 +8,7 @@ ghost use Prim.Native.Nat.{_-_, _/_, _%_, _^_, _≤_, compare, min};
 ghost use Rattle.octets.specs.Number.{numberAt};
 ghost use Rattle.octets.specs.Order.{ordered};
 ghost use Rattle.octets.specs.Test.{sameList};
-ghost use Rattle.prefix.specs.Prefix.{addressOf, patternOf, bitsBetween, coversAddress, contains, prefixOrder, patternIn};
+ghost use Rattle.prefix.specs.Prefix.{addressOf, patternOf, bitsBetween, coversAddress, contains, prefixOrder, offsetIn, patternStart, patternIn};
 use octets::Order;
 
 // An address in two words; one of up to 64 bits stands in the low one.
@@ -139,20 +139,30 @@ pub fn compare_prefixes(width: u8, first: Prefix, second: Prefix) -> Order
     compare_addresses(first.address, second.address)
 }
 
-// The number in at most 16 octets that begin at a place, the highest first; each that lies past the end counts as 0.
+// The number in at most eight octets that begin at a place, the highest first, where each that lies past the end counts as 0; only those
+// that are there are asked for, so that the compiler takes the reading in and no address goes through memory.
+fn word_at(count: usize, s: &[u8], at: usize) -> u64
+    requires { ⌜ (count ≤ 8) × (at ≤ 10) ⌝ }
+    ensures { λ r. ⌜ r ≡ numberAt count (now (s .entry)) at ⌝ }
+{
+    let end = at + count;
+    let stop = octets::least(end, s.len());
+    if stop <= at {
+        return 0;
+    }
+    let missing = end - stop;
+    octets::number_at(stop - at, s, at) << (missing * 8)
+}
+
+// The same of at most 16 octets, of which the last eight are the low word.
 fn address_at(count: usize, s: &[u8], at: usize) -> Address
     requires { ⌜ (count ≤ 16) × (at ≤ 2) ⌝ }
     ensures { λ r. ⌜ addressOf r ≡ numberAt count (now (s .entry)) at ⌝ }
 {
-    if count <= 8 {
-        return Address {
-            high: 0,
-            low: octets::number_at(count, s, at),
-        };
-    }
-    let rest = count - 8;
-    let high = octets::number_at(rest, s, at);
-    let low = octets::number_at(8, s, at + rest);
+    let few = octets::least(count, 8);
+    let rest = count - few;
+    let high = word_at(rest, s, at);
+    let low = word_at(few, s, at + rest);
     Address { high, low }
 }
 
@@ -185,6 +195,23 @@ fn shifted(count: u32, address: Address) -> Address
     Address { high, low }
 }
 
+// The offset that a component's body spells: its octet behind the length octet, where there are offsets.
+fn offset_in(offsets: bool, body: &[u8]) -> u32
+    ensures { λ r. ⌜ r ≡ offsetIn offsets (now (body .entry)) ⌝ }
+{
+    if offsets {
+        return octets::octet_at(body, 1) as u32;
+    }
+    0
+}
+
+// The place of a body where the octets of its pattern begin.
+fn pattern_start(offsets: bool) -> usize
+    ensures { λ r. ⌜ r ≡ patternStart offsets ⌝ }
+{
+    if offsets { 2 } else { 1 }
+}
+
 // The prefix that a component's body spells: a length octet, an offset octet where there are offsets, then the pattern, whose octets not
 // sent are 0.
 pub fn prefix_of(width: u8, offsets: bool, body: &[u8]) -> Prefix
@@ -192,17 +219,10 @@ pub fn prefix_of(width: u8, offsets: bool, body: &[u8]) -> Prefix
     ensures { λ r. ⌜ patternOf r ≡ patternIn width offsets (now (body .entry)) ⌝ }
 {
     let bits = octets::octet_at(body, 0) as u32;
+    let offset = offset_in(offsets, body);
+    let start = pattern_start(offsets);
     let count = (width / 8) as usize;
-    if !offsets {
-        let address = address_at(count, body, 1);
-        return Prefix {
-            offset: 0,
-            length: bits,
-            address,
-        };
-    }
-    let offset = octets::octet_at(body, 1) as u32;
-    let address = shifted(offset, address_at(count, body, 2));
+    let address = shifted(offset, address_at(count, body, start));
     Prefix {
         offset,
         length: bits,

@@ -1,20 +1,11 @@
--- Up to eight octets are the low word, and of more the last eight are.
+-- The octets before the last eight are the high word.
 use Rattle.prefix.proofs.BodyLaws.{two-words}
 use borrow.Author.Needs.{needs}
 use Rattle.prefix.proofs.address_at.Statement.{statement}
 use Rattle.prefix.proofs.address_at.Tie as tie
 
-returns-2 : tie.Need-returns-2
-returns-2 c = search (two-words, needs)
+returns : tie.Need-returns
+returns c = search (two-words, needs)
 
 pub address-at-spec : {M : Type 1} → statement M
-address-at-spec =
-    tie.close
-    (tie.spec
-    (λ c κs. search needs)
-    (λ c. search needs)
-    (λ c. search needs)
-    (λ c κs. search needs)
-    (λ c. search needs)
-    (λ c κs. search needs)
-    returns-2)
+address-at-spec = tie.close (tie.spec (λ c κs. search needs) (λ c. search needs) (λ c κs. search needs) (λ c. search needs) (λ c κs. search needs) returns)
