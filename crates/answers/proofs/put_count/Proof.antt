@@ -7,11 +7,15 @@ use borrow.Author.Needs.{needs}
 use Rattle.answers.proofs.put_count.Statement.{statement}
 use Rattle.answers.proofs.put_count.Tie as tie
 
+-- where the number is to be printed
+abbrev start : tie.After-put-decimal-arg → tie.Start
+start c = c .before .before .before .before .before .before .before
+
 put-decimal-requires : tie.Need-put-decimal-requires
-put-decimal-requires c κs = omega (arith, decimal-short (c .before .before .before .before .before .before .before .args .count) (omega arith))
+put-decimal-requires c κs = omega (arith, decimal-short (start c .args .count) (omega arith))
 
 put-octets-requires-2 : tie.Need-put-octets-requires-2
-put-octets-requires-2 c κs = omega (arith, decimal-short (c .before .before .before .before .before .before .before .before .before .before .before .before .args .count) (omega arith))
+put-octets-requires-2 c κs = omega (arith, decimal-short (start (c .before .before .before .before .before) .args .count) (omega arith))
 
 returns : tie.Need-returns
 unfolding countText

@@ -13,11 +13,11 @@ returns-2 : tie.Need-returns-2
 returns-2 c = printed-none _ _ _ (place-high _ _ (c .if2 .taken))
 
 put-decimal-requires : tie.Need-put-decimal-requires
-put-decimal-requires c κs = omega (arith, decimal-short (c .before .before .before .before .before .before .before .before .before .args .place) (omega arith))
+put-decimal-requires c κs = let a = c .before .before .before .before .before .before .before .before .before .args in omega (arith, decimal-short (a .place) (omega arith))
 
 returns-3 : tie.Need-returns-3
 returns-3 c =
-    rw (place-told (c .before .before .before .before .before .before .before .before .before .before .before .before .args .number) (c .before .before .before .before .before .before .before .before .before .before .before .before .args .place) (c .before .before .before .before .before .before .before .before .before .before .if1 .left) (c .before .before .before .before .before .before .before .before .before .if2 .left)) (printed-then _ _ _ _ _ _ _ _ (c .before .before .before .before .before .before .put-octets .ensures) (c .before .before .put-decimal .ensures))
+    rw (place-told _ _ (c .before .before .before .before .before .before .before .before .before .before .if1 .left) (c .before .before .before .before .before .before .before .before .before .if2 .left)) (printed-then _ _ _ _ _ _ _ _ (c .before .before .before .before .before .before .put-octets .ensures) (c .before .before .put-decimal .ensures))
 
 pub put-place-spec : {M : Type 1} → statement M
 put-place-spec =

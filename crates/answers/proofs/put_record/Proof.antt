@@ -8,10 +8,10 @@ use Rattle.answers.proofs.put_record.Statement.{statement}
 use Rattle.answers.proofs.put_record.Tie as tie
 
 put-hex-requires : tie.Need-put-hex-requires
-put-hex-requires c κs = omega (arith, length-hexOf (c .before .before .before .before .before .before .before .before .args .held .now))
+put-hex-requires c κs = simp length-hexOf (omega arith)
 
 put-octets-requires-2 : tie.Need-put-octets-requires-2
-put-octets-requires-2 c κs = omega (arith, length-hexOf (c .before .before .before .before .before .before .before .before .before .before .before .before .before .args .held .now))
+put-octets-requires-2 c κs = omega (arith, simp length-hexOf at (c .before .before .before .before .put-hex .ensures .1))
 
 returns : tie.Need-returns
 unfolding ruleText

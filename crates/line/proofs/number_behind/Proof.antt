@@ -7,7 +7,7 @@ use borrow.Author.Needs.{needs}
 use Rattle.line.proofs.number_behind.Statement.{statement}
 use Rattle.line.proofs.number_behind.Tie as tie
 
-there : (c : tie.After-known-told) → Fielded (isOf Any) (c .before .before .before .before .before .args .line .now) (c .before .before .before .before .before .args .end) (c .before .start .given .0 .0) (c .before .start .given .0 .1 .0)
+there : (c : tie.After-known-told) → let a = c .before .before .before .before .before .args in Fielded (isOf Any) (a .line .now) (a .end) (c .before .start .given .0 .0) (c .before .start .given .0 .1 .0)
 there c = was-there _ _ _ _ (c .before .before .before .field-behind .ensures) _ _ (c .before .start .given .1)
 
 returns : tie.Need-returns

@@ -8,7 +8,7 @@ use borrow.Author.Needs.{needs}
 use Rattle.line.proofs.read_withdraw.Statement.{statement}
 use Rattle.line.proofs.read_withdraw.Tie as tie
 
-there : (c : tie.After-known-told) → Fielded isRule (c .before .before .before .before .before .args .line .now) (c .before .before .before .before .before .args .word) (c .before .start .given .0 .0) (c .before .start .given .0 .1 .0)
+there : (c : tie.After-known-told) → let a = c .before .before .before .before .before .args in Fielded isRule (a .line .now) (a .word) (c .before .start .given .0 .0) (c .before .start .given .0 .1 .0)
 there c = was-there _ _ _ _ (c .before .before .before .field-behind .ensures) _ _ (c .before .start .given .1)
 
 returns : tie.Need-returns

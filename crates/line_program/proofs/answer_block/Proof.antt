@@ -27,21 +27,32 @@ abbrev μ-loop : tie.MeasureT-loop
 closed : {P : Type 0} (b : Bool) → not b ≡ true → b ≡ true → P
 closed b n o = absurd (subst T (sym o ∙ not-true b n) tt)
 
--- what is taken of the block, and how much of the line's buffer is held then
-taken : (c : tie.After-struct-known Inv-loop μ-loop) → (0 < c .before .before .before .gather .result .taken) × (c .before .before .before .before .before .before .before .loop .at + c .before .before .before .gather .result .taken ≤ length (c .before .before .before .before .before .before .before .before .before .before .before .before .before .args .block .now)) × (c .before .before .before .gather .result .held ≤ length (c .before .before .before .before .before .before .before .loop .line))
-taken c =
-    let l = c .before .before .before .before .before .before .before .loop in
-    let b = c .before .before .before .before .before .before .before .before .before .before .before .before .before .args .block .now in
-    let within = l .inv .0 in
-    let test = c .before .before .before .before .before .before .loop-test in
-    let p = part-of _ _ _ _ _ _ (c .before .before .before .gather .ensures) in
-    let long : length (take (length b - l .at) (drop (l .at) b)) ≡ length b - l .at = simp (length-take, length-drop) (omega arith) in
-    let some = p .some (omega arith) in
-    let most = p .within in
-    (some, omega arith, p .fits)
+-- where the loop begins: the block
+abbrev block : tie.After-slice-known4 Inv-loop μ-loop → List ℕ
+block c = c .before .before .before .before .before .args .block .now
+
+-- where a part of the block was gathered: the turn, what is taken of the block, and how much of the line's buffer is held then
+module _ (c : tie.After-struct-known Inv-loop μ-loop) where
+  abbrev turn : tie.At-loop Inv-loop μ-loop
+  turn = c .before .before .before .before .before .before .before
+
+  taken : let part = c .before .before .before .gather .result in (0 < part .taken) × (turn .loop .at + part .taken ≤ length (block (turn .before))) × (part .held ≤ length (turn .loop .line))
+  taken =
+      let within = turn .loop .inv .0 in
+      let test = c .before .before .before .before .before .before .loop-test in
+      let p = part-of _ _ _ _ _ _ (c .before .before .before .gather .ensures) in
+      let b = block (turn .before) in
+      let long : length (take (length b - turn .loop .at) (drop (turn .loop .at) b)) ≡ length b - turn .loop .at = simp (length-take, length-drop) (omega arith) in
+      let some = p .some (omega arith) in
+      let most = p .within in
+      (some, omega arith, p .fits)
+
+-- where a line was answered: its part of the block, as it was gathered
+abbrev gathered : tie.Else2 Inv-loop μ-loop → tie.After-struct-known Inv-loop μ-loop
+gathered c = c .before .before .before .before .before .before .before .before .before .before .before .before .before .before
 
 loop-holds : tie.Need-loop-holds Inv-loop μ-loop
-loop-holds c = (omega arith, c .before .before .before .before .before .pre .1 .1 .within, refl, refl, refl, refl, λ input led. block-first input (c .before .before .before .before .before .args .block .now) _ _ _ _ _ led)
+loop-holds c = (omega arith, search needs, refl, refl, refl, refl, λ input led. block-first input (block c) _ _ _ _ _ led)
 
 sub-gather : tie.Need-sub-gather Inv-loop μ-loop
 sub-gather c = search needs
@@ -83,16 +94,20 @@ returns : tie.Need-returns Inv-loop μ-loop
 returns c = λ input led still. closed (c .before .before .before .before .before .before .before .before .answer .result .«open») (search needs) still
 
 loop-less : tie.Need-loop-less Inv-loop μ-loop
-loop-less c = omega (arith, taken (c .before .before .before .before .before .before .before .before .before .before .before .before .before .before))
+loop-less c = omega (arith, taken (gathered c))
 
 loop-again : tie.Need-loop-again Inv-loop μ-loop
-loop-again c = let t = taken (c .before .before .before .before .before .before .before .before .before .before .before .before .before .before) in let i = c .before .before .before .before .before .before .before .before .before .before .before .before .before .before .before .before .before .before .before .before .before .loop .inv in (omega arith, omega arith, search needs, search needs, search needs, search needs, λ input led. block-answered input _ _ _ _ _ _ _ (i .6 input led) _ _ _ (c .before .before .before .before .before .before .before .before .before .before .before .before .before .before .before .before .before .gather .ensures) (search needs) _ _ _ (c .before .before .before .before .before .before .before .before .answer .ensures .1))
+loop-again c = let k = gathered c in
+    let t = taken k in
+    (omega arith, omega arith, search needs, search needs, search needs, search needs, λ input led. block-answered input _ _ _ _ _ _ _ (turn k .loop .inv .6 input led) _ _ _ (k .before .before .before .gather .ensures) (search needs) _ _ _ (c .before .before .before .before .before .before .before .before .answer .ensures .1))
 
 loop-less-2 : tie.Need-loop-less-2 Inv-loop μ-loop
 loop-less-2 c = omega (arith, taken (c .before))
 
 loop-again-2 : tie.Need-loop-again-2 Inv-loop μ-loop
-loop-again-2 c = let t = taken (c .before) in let i = c .before .before .before .before .before .before .before .before .loop .inv in (omega arith, omega arith, search needs, search needs, search needs, search needs, λ input led. block-on input _ _ _ _ _ _ _ (i .6 input led) _ _ _ (c .before .before .before .before .gather .ensures) (search needs))
+loop-again-2 c = let k = c .before in
+    let t = taken k in
+    (omega arith, omega arith, search needs, search needs, search needs, search needs, λ input led. block-on input _ _ _ _ _ _ _ (turn k .loop .inv .6 input led) _ _ _ (k .before .before .before .gather .ensures) (search needs))
 
 same-length-5 : tie.Need-same-length-5 Inv-loop μ-loop
 same-length-5 c = search needs
@@ -107,7 +122,7 @@ same-length-8 : tie.Need-same-length-8 Inv-loop μ-loop
 same-length-8 c = search needs
 
 returns-2 : tie.Need-returns-2 Inv-loop μ-loop
-returns-2 c = λ input led still. block-done input (c .before .before .before .before .before .before .before .args .block .now) (c .before .loop .at) _ _ _ _ _ (c .before .loop .inv .6 input led) (omega arith)
+returns-2 c = λ input led still. block-done input _ _ _ _ _ _ _ (c .before .loop .inv .6 input led) (c .loop-test .left)
 
 pub answer-block-spec : {M : Type 1} → statement M
 answer-block-spec =

@@ -29,7 +29,7 @@ none-read (pos k) count most e z h = record { le = subst T (sym (le-leb k 0 (ome
 none-read (negsuc k) count most e z h = record { le = tt }
 
 loop-holds : tie.Need-loop-holds Inv-loop μ-loop
-loop-holds c = (([], led-first _ _ _ (c .before .before .before .before .before .pre .1) (c .before .before .before .before .before .pre .2)), refl, refl, refl, refl, refl)
+loop-holds c = (([], led-first _ _ _ (search needs) (search needs)), refl, refl, refl, refl, refl)
 
 read-requires : tie.Need-read-requires Inv-loop μ-loop
 read-requires c κs = search needs
@@ -92,7 +92,7 @@ loop-less : tie.Need-loop-less Inv-loop μ-loop
 loop-less c = search needs
 
 loop-again : tie.Need-loop-again Inv-loop μ-loop
-loop-again c = ((_, c .before .before .before .before .before .before .before .before .before .before .answer-block .ensures (c .before .before .before .before .before .before .before .before .before .before .before .before .before .before .before .before .before .before .before .before .before .before .before .before .loop .inv .0 .0) (c .before .before .before .before .before .before .before .before .before .before .before .before .before .before .before .before .before .before .before .before .before .before .before .before .loop .inv .0 .1) (not-false (c .before .before .before .before .before .before .before .before .before .before .answer-block .result .«open») (search needs))), search needs, search needs, search needs, search needs, search needs)
+loop-again c = ((_, c .before .before .before .before .before .before .before .before .before .before .answer-block .ensures _ (c .before .before .before .before .before .before .before .before .before .before .before .before .before .before .before .before .before .before .before .before .before .before .before .before .loop .inv .0 .1) (not-false _ (search needs))), search needs, search needs, search needs, search needs, search needs)
 
 same-length-11 : tie.Need-same-length-11 Inv-loop μ-loop
 same-length-11 c = search needs

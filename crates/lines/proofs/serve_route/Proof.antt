@@ -8,11 +8,16 @@ use borrow.Author.Needs.{needs}
 use Rattle.lines.proofs.serve_route.Statement.{statement}
 use Rattle.lines.proofs.serve_route.Tie as tie
 
-room : (c : tie.Else1) → (c .before .before .before .before .before .args .used + 4 ≤ mostWords) × (c .before .before .before .before .before .args .used + 4 ≤ length (c .before .before .before .before .before .args .routes .now))
-room c = let a = c .before .before .before .before .before .args in route-room (a .routes .now) (a .used) _ (c .before .route-fits .ensures) (c .if1 .left)
+-- where the route fits
+module _ (c : tie.Else1) where
+  abbrev start : tie.Start
+  start = c .before .before .before .before .before
+
+  room : (start .args .used + 4 ≤ mostWords) × (start .args .used + 4 ≤ length (start .args .routes .now))
+  room = route-room (start .args .routes .now) _ _ (c .before .route-fits .ensures) (c .if1 .left)
 
 returns : tie.Need-returns
-returns c = let a = c .before .before .before .before .before .before .before .before .before .args in route-not-added (a .routes .now) (a .used) (a .address) (a .size) (a .originator) (a .neighbour) _ _ (c .before .before .before .before .before .route-fits .ensures) (c .before .before .before .before .if1 .taken) _ _ (c .before .before .put-unknown .ensures)
+returns c = search (route-not-added, needs)
 
 add-second : tie.Need-add-second
 add-second c = omega (arith, room c)
@@ -51,7 +56,7 @@ add-t18 : tie.Need-add-t18
 add-t18 c = omega (arith, room c)
 
 returns-2 : tie.Need-returns-2
-returns-2 c = let a = c .before .before .before .before .before .args in route-added (a .routes .now) (a .used) (a .address) (a .size) (a .originator) (a .neighbour) _ _ (c .before .route-fits .ensures) (c .if1 .left)
+returns-2 c = search (route-added, needs)
 
 pub serve-route-spec : {M : Type 1} → statement M
 serve-route-spec =

@@ -2,8 +2,9 @@
 use borrow.Author.Needs.{needs}
 use Prim.Native.Nat.{_≤_, _-_, compare}
 use mathlib.Core.Path.{_≡_, refl, ap, sym, _∙_}
+use native.Mathlib.Nat.{le-antisymm}
 use native.Mathlib.Omega.{arith}
-use lib.ListN.{length, drop, getD}
+use lib.ListN.{length, drop}
 use Rattle.octets.specs.Order.{lex, ordered}
 use Rattle.octets.proofs.OrderLaws.{lex-both, lex-first-out, lex-second-out, lt-cmp, gt-cmp, eq-cmp}
 use Rattle.octets.proofs.compare_octets.Statement.{statement}
@@ -23,13 +24,10 @@ compare-numbers-requires c κs = search needs
 
 returns : tie.Need-returns Inv-loop μ-loop
 returns c = let l = c .before .before .loop in
-    let e = lex-first-out compare 0 (c .before .before .before .before .before .args .a .now) (c .before .before .before .before .before .args .b .now) (l .i) (c .before .if1 .taken) (l .inv .0) (l .inv .1) in
-    c .compare-numbers .ensures ∙ sym (ap ordered (l .inv .2 ∙ e))
+    c .compare-numbers .ensures ∙ sym (ap ordered (l .inv .2 ∙ lex-first-out compare 0 _ _ _ (c .before .if1 .taken) (l .inv .0) (l .inv .1)))
 
 returns-2 : tie.Need-returns-2 Inv-loop μ-loop
-returns-2 c = let l = c .before .before .loop in
-    let a = c .before .before .before .before .before .args in
-    rw (l .inv .2, lex-second-out compare 0 (a .a .now) (a .b .now) (l .i) (c .before .if1 .left) (c .if2 .taken))
+returns-2 c = rw (c .before .before .loop .inv .2, lex-second-out compare 0 _ _ _ (c .before .if1 .left) (c .if2 .taken))
 
 shared-slice-read-x : tie.Need-shared-slice-read-x Inv-loop μ-loop
 shared-slice-read-x c = search needs
@@ -38,14 +36,12 @@ shared-slice-read-y : tie.Need-shared-slice-read-y Inv-loop μ-loop
 shared-slice-read-y c = search needs
 
 returns-3 : tie.Need-returns-3 Inv-loop μ-loop
-returns-3 c = let l = c .before .before .before .before .before .loop in
-    let a = c .before .before .before .before .before .before .before .before .args in
-    rw (l .inv .2, lex-both compare 0 (a .a .now) (a .b .now) (l .i) (omega arith) (omega arith), lt-cmp _ _ (c .if3 .taken))
+returns-3 c = let both = c .before .before .before in
+    rw (both .before .before .loop .inv .2, lex-both compare 0 _ _ _ (both .before .if1 .left) (both .if2 .left), lt-cmp _ _ (c .if3 .taken))
 
 returns-4 : tie.Need-returns-4 Inv-loop μ-loop
-returns-4 c = let l = c .before .before .before .before .before .before .loop in
-    let a = c .before .before .before .before .before .before .before .before .before .args in
-    rw (l .inv .2, lex-both compare 0 (a .a .now) (a .b .now) (l .i) (omega arith) (omega arith), gt-cmp _ _ (c .if4 .taken))
+returns-4 c = let both = c .before .before .before .before in
+    rw (both .before .before .loop .inv .2, lex-both compare 0 _ _ _ (both .before .if1 .left) (both .if2 .left), gt-cmp _ _ (c .if4 .taken))
 
 add-i : tie.Need-add-i Inv-loop μ-loop
 add-i c = search needs
@@ -54,10 +50,8 @@ loop-less : tie.Need-loop-less Inv-loop μ-loop
 loop-less c = search needs
 
 loop-again : tie.Need-loop-again Inv-loop μ-loop
-loop-again c = let l = c .before .before .before .before .before .before .loop in
-    let a = c .before .before .before .before .before .before .before .before .before .args in
-    let same = eq-cmp (getD (a .a .now) (l .i) 0) (getD (a .b .now) (l .i) 0) (omega arith) in
-    (omega arith, omega arith, l .inv .2 ∙ lex-both compare 0 (a .a .now) (a .b .now) (l .i) (omega arith) (omega arith) ∙ rw same)
+loop-again c = let both = c .before .before .before .before in
+    (omega arith, omega arith, both .before .before .loop .inv .2 ∙ lex-both compare 0 _ _ _ (both .before .if1 .left) (both .if2 .left) ∙ rw (eq-cmp _ _ (le-antisymm (c .if4 .left) (c .before .if3 .left))))
 
 pub compare-octets-spec : {M : Type 1} → statement M
 compare-octets-spec =

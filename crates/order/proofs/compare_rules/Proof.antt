@@ -7,11 +7,16 @@ use borrow.Author.Needs.{needs}
 use Rattle.order.proofs.compare_rules.Statement.{statement}
 use Rattle.order.proofs.compare_rules.Tie as tie
 
-left-read : (c : tie.After-known-told4) → ReadRule (c .before .before .before .before .before .before .before .before .before .before .args .family) (c .before .before .before .before .before .before .before .before .before .before .args .first .now) (c .before .before .before .before .left2 .given .0 .0) (c .before .before .before .before .left2 .given .0 .1 .0)
-left-read c = one-read _ _ _ _ (sym (c .before .before .before .before .before .before .before .one-rule .ensures) ∙ c .before .before .before .before .left2 .given .1)
+-- where both rules were read
+module _ (c : tie.After-known-told4) where
+  abbrev start : tie.Start
+  start = c .before .before .before .before .before .before .before .before .before .before
 
-right-read : (c : tie.After-known-told4) → ReadRule (c .before .before .before .before .before .before .before .before .before .before .args .family) (c .before .before .before .before .before .before .before .before .before .before .args .second .now) (c .before .right2 .given .0 .0) (c .before .right2 .given .0 .1 .0)
-right-read c = one-read _ _ _ _ (sym (c .before .before .before .before .before .before .one-rule2 .ensures) ∙ c .before .right2 .given .1)
+  left-read : ReadRule (start .args .family) (start .args .first .now) (c .before .before .before .before .left2 .given .0 .0) (c .before .before .before .before .left2 .given .0 .1 .0)
+  left-read = one-read _ _ _ _ (sym (c .before .before .before .before .before .before .before .one-rule .ensures) ∙ c .before .before .before .before .left2 .given .1)
+
+  right-read : ReadRule (start .args .family) (start .args .second .now) (c .before .right2 .given .0 .0) (c .before .right2 .given .0 .1 .0)
+  right-read = one-read _ _ _ _ (sym (c .before .before .before .before .before .before .one-rule2 .ensures) ∙ c .before .right2 .given .1)
 
 add-end : tie.Need-add-end
 add-end c = omega (arith, left-read c)

@@ -8,16 +8,16 @@ use Rattle.order.proofs.compare_values.Statement.{statement}
 use Rattle.order.proofs.compare_values.Tie as tie
 
 fill-plain-requires : tie.Need-fill-plain-requires
-fill-plain-requires c κs = let ok = c .before .before .before .pre .1 .0 in (ok, omega (arith, accepted-small _ _ ok))
+fill-plain-requires c κs = (search needs, omega (arith, accepted-small))
 
 fill-plain-requires-2 : tie.Need-fill-plain-requires-2
-fill-plain-requires-2 c κs = let ok = c .before .before .before .before .before .before .pre .1 .1 in (ok, omega (arith, accepted-small _ _ ok))
+fill-plain-requires-2 c κs = (search needs, omega (arith, accepted-small))
 
 array-share-prefix-work : tie.Need-array-share-prefix-work
-array-share-prefix-work c = omega (arith, accepted-small _ _ (c .before .before .before .before .before .before .before .before .pre .1 .0))
+array-share-prefix-work c = omega (arith, accepted-small)
 
 array-share-prefix-space : tie.Need-array-share-prefix-space
-array-share-prefix-space c = omega (arith, accepted-small _ _ (c .before .before .before .before .before .before .before .before .before .pre .1 .1))
+array-share-prefix-space c = omega (arith, accepted-small)
 
 slice-aggregate-compare-plain : tie.Need-slice-aggregate-compare-plain
 slice-aggregate-compare-plain c = front-length _ _ _ _ (c .before .before .before .before .before .fill-plain .ensures)

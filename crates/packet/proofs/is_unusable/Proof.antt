@@ -14,11 +14,15 @@ returns-2 c = search (other-version, needs)
 returns-3 : tie.Need-returns-3
 returns-3 c = search (short-header, needs)
 
+-- where the total length was read
+abbrev start : tie.After-number-at → tie.Start
+start c = c .before .before .before .before .before .before .before
+
 cast-header : tie.Need-cast-header
-cast-header c = omega (arith, words-bounded (c .before .before .before .before .before .before .before .args .octets .now))
+cast-header c = omega (arith, words-bounded (start c .args .octets .now))
 
 mul-header : tie.Need-mul-header
-mul-header c = omega (arith, words-bounded (c .before .before .before .before .before .before .before .args .octets .now))
+mul-header c = omega (arith, words-bounded (start c .args .octets .now))
 
 returns-4 : tie.Need-returns-4
 returns-4 c = search (by-total, needs)

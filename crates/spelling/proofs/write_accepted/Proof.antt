@@ -8,19 +8,19 @@ use Rattle.spelling.proofs.write_accepted.Statement.{statement}
 use Rattle.spelling.proofs.write_accepted.Tie as tie
 
 add-total : tie.Need-add-total
-add-total c = omega (arith, accepted-small _ _ (c .before .before .before .pre))
+add-total c = omega (arith, accepted-small)
 
 returns : tie.Need-returns
 returns c = (no-room _ (c .before .before .before .before .args .value .now) (c .before .before .before .before .args .buffer .now) _ (c .before .field-size-for .ensures .0) (c .if1 .taken), refl)
 
 fill-plain-requires : tie.Need-fill-plain-requires
-fill-plain-requires c κs = let ok = c .before .before .before .before .before .pre in (ok, omega (arith, accepted-small _ _ ok))
+fill-plain-requires c κs = (search needs, omega (arith, accepted-small))
 
 write-length-requires : tie.Need-write-length-requires
 write-length-requires c κs = search (accepted-small, needs)
 
 array-share-prefix-work : tie.Need-array-share-prefix-work
-array-share-prefix-work c = omega (arith, accepted-small _ _ (c .before .before .before .before .before .before .before .before .before .before .before .before .pre))
+array-share-prefix-work c = omega (arith, accepted-small)
 
 slice-aggregate-store : tie.Need-slice-aggregate-store
 slice-aggregate-store c = front-length _ _ _ _ (c .before .before .before .before .before .before .before .fill-plain .ensures)

@@ -8,37 +8,34 @@ use Rattle.table.proofs.announce_value.Statement.{statement}
 use Rattle.table.proofs.announce_value.Tie as tie
 
 fill-plain-requires : tie.Need-fill-plain-requires
-fill-plain-requires c κs = let ok = c .before .before .before .pre .1 in (ok, omega (arith, accepted-small _ _ ok))
+fill-plain-requires c κs = (search needs, omega (arith, accepted-small))
 
 array-share-prefix-work : tie.Need-array-share-prefix-work
-array-share-prefix-work c = omega (arith, accepted-small _ _ (c .before .before .before .before .before .before .before .pre .1))
+array-share-prefix-work c = omega (arith, accepted-small)
 
 slice-aggregate-insert-rule : tie.Need-slice-aggregate-insert-rule
 slice-aggregate-insert-rule c = front-length _ _ _ _ (c .before .before .before .before .fill-plain .ensures)
 
 insert-rule-requires : tie.Need-insert-rule-requires
-insert-rule-requires c κs =
-    let k = c .before .before .before .before .before .before .before .before in
-    (k .pre .0, front-held _ _ _ _ (c .before .before .before .before .fill-plain .ensures) (λ i. c .before .before .before .before .before .before .shared-slice-known .given i .fits) (k .pre .1))
+insert-rule-requires c κs = let filled = c .before .before .before .before in
+    (search needs, front-held _ _ _ _ (filled .fill-plain .ensures) (λ i. filled .before .before .shared-slice-known .given i .fits) (search needs))
 
 returns : tie.Need-returns
-returns c =
-    put-in _ _ _ _ (c .before .before .before .before .before .before .before .fill-plain .ensures) _ _ _ _ _ (c .before .before .before .before .before .if1 .taken) (c .before .before .insert-rule .ensures)
+returns c = search (put-in, needs)
 
 array-share-prefix-work-2 : tie.Need-array-share-prefix-work-2
-array-share-prefix-work-2 c = omega (arith, accepted-small _ _ (c .before .before .before .before .before .before .before .pre .1))
+array-share-prefix-work-2 c = omega (arith, accepted-small)
 
 slice-aggregate-remove-rule : tie.Need-slice-aggregate-remove-rule
 slice-aggregate-remove-rule c = front-length _ _ _ _ (c .before .before .before .before .fill-plain .ensures)
 
 remove-rule-requires : tie.Need-remove-rule-requires
-remove-rule-requires c κs =
-    let k = c .before .before .before .before .before .before .before .before in
-    (k .pre .0, front-held _ _ _ _ (c .before .before .before .before .fill-plain .ensures) (λ i. c .before .before .before .before .before .before .shared-slice-known .given i .fits) (k .pre .1))
+remove-rule-requires c κs = let filled = c .before .before .before .before in
+    (search needs, front-held _ _ _ _ (filled .fill-plain .ensures) (λ i. filled .before .before .shared-slice-known .given i .fits) (search needs))
 
 returns-2 : tie.Need-returns-2
-returns-2 c =
-    infeasible _ _ _ _ (c .before .before .before .before .before .before .before .fill-plain .ensures) _ _ _ _ _ (c .before .before .before .before .before .if1 .left) (λ i. c .before .before .before .before .before .before .before .before .before .before .slice-known .given i .fits) (c .before .before .before .before .before .before .before .before .before .before .before .pre .0 .sound) (c .before .before .remove-rule .ensures)
+returns-2 c = let filled = c .before .before .before .before .before .before .before in
+    infeasible _ _ _ _ (filled .fill-plain .ensures) _ _ _ _ _ (c .before .before .before .before .before .if1 .left) (λ i. filled .before .before .before .slice-known .given i .fits) (search needs) (c .before .before .remove-rule .ensures)
 
 pub announce-value-spec : {M : Type 1} → statement M
 announce-value-spec =

@@ -30,16 +30,16 @@ add-put-octet : (t : ℕ) → lts.Need-add-put-octet (octet.Asked, octet.Learnt,
 add-put-octet t c = search needs
 
 put-octet-requires : (t : ℕ) → lts.Need-put-octet-requires (octet.Asked, octet.Learnt, below t, whole.Post) (here t) whole.Post
-put-octet-requires t c κs = omega (arith, length-one (c .before .before .before .args .n) (omega arith))
+put-octet-requires t c κs = omega (arith, length-one _ (c .before .if1 .taken))
 
 same-length : (t : ℕ) → lts.Need-same-length (octet.Asked, octet.Learnt, below t, whole.Post) (here t) whole.Post
 same-length t c = search needs
 
 returns : (t : ℕ) → lts.Need-returns (octet.Asked, octet.Learnt, below t, whole.Post) (here t) whole.Post
-returns t c = put-one _ _ _ _ (c .before .before .before .before .before .before .args .n) (omega arith) (c .before .before .put-octet .ensures .0) (c .before .before .put-octet .ensures .1)
+returns t c = put-one _ _ _ _ _ (omega arith) (c .before .before .put-octet .ensures .0) (c .before .before .put-octet .ensures .1)
 
 put-decimal-requires : (t : ℕ) → lts.Need-put-decimal-requires (octet.Asked, octet.Learnt, below t, whole.Post) (here t) whole.Post
-put-decimal-requires t c κs = (search needs, omega (arith, length-more (c .before .before .before .args .n) (omega arith)))
+put-decimal-requires t c κs = (search needs, omega (arith, length-more _ (c .before .if1 .left)))
 
 cast-put-octet-2 : (t : ℕ) → lts.Need-cast-put-octet-2 (octet.Asked, octet.Learnt, below t, whole.Post) (here t) whole.Post
 cast-put-octet-2 t c = search needs
@@ -48,7 +48,7 @@ add-put-octet-2 : (t : ℕ) → lts.Need-add-put-octet-2 (octet.Asked, octet.Lea
 add-put-octet-2 t c = search needs
 
 put-octet-requires-2 : (t : ℕ) → lts.Need-put-octet-requires-2 (octet.Asked, octet.Learnt, below t, whole.Post) (here t) whole.Post
-put-octet-requires-2 t c κs = omega (arith, length-more (c .before .before .before .before .before .before .before .args .n) (omega arith))
+put-octet-requires-2 t c κs = omega (arith, length-more _ (c .before .before .before .before .before .if1 .left))
 
 same-length-2 : (t : ℕ) → lts.Need-same-length-2 (octet.Asked, octet.Learnt, below t, whole.Post) (here t) whole.Post
 same-length-2 t c = search needs
@@ -56,7 +56,7 @@ same-length-2 t c = search needs
 returns-2 : (t : ℕ) → lts.Need-returns-2 (octet.Asked, octet.Learnt, below t, whole.Post) (here t) whole.Post
 returns-2 t c = let others = c .before .before .before .before .before .before .put-decimal .ensures in
     let last = c .before .before .put-octet2 .ensures in
-    put-last _ _ _ _ _ _ (c .before .before .before .before .before .before .before .before .before .before .args .n) (omega arith) (others .0) (others .1) (last .0) (last .1)
+    put-last _ _ _ _ _ _ _ (omega arith) (others .0) (others .1) (last .0) (last .1)
 
 pub +put-decimal-spec : {M : Type 1} → statement M
 +put-decimal-spec = close μ λ t. lts.spec (octet.Asked, octet.Learnt, below t, whole.Post)
