@@ -5,9 +5,6 @@ use Rattle.action.proofs.GivenLaws.{first-there}
 use Rattle.action.proofs.first_of.Statement.{statement}
 use Rattle.action.proofs.first_of.Tie as tie
 
-given-of-requires : tie.Need-given-of-requires
-given-of-requires c κs = search needs
-
 returns : tie.Need-returns
 returns c = first-there _ _ _ (c .before .if1 .taken) (c .given-of .ensures)
 
@@ -16,4 +13,4 @@ unfolding firstOf
 returns-2 c = rw (c .if1 .left)
 
 pub first-of-spec : {M : Type 1} → statement M
-first-of-spec = tie.close (tie.spec given-of-requires returns returns-2)
+first-of-spec = tie.close (tie.spec (λ c κs. search needs) returns returns-2)

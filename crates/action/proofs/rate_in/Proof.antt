@@ -7,11 +7,8 @@ use Rattle.action.proofs.rate_in.Tie as tie
 cast-rate-of : tie.Need-cast-rate-of
 cast-rate-of c = record { fits = mask-lt (c .args .community) 32 }
 
-rate-of-requires : tie.Need-rate-of-requires
-rate-of-requires c κs = search needs
-
 returns : tie.Need-returns
 returns c = rw (← (and-mask (c .before .args .community) 32)) (cc)
 
 pub rate-in-spec : {M : Type 1} → statement M
-rate-in-spec = tie.close (tie.spec cast-rate-of rate-of-requires returns)
+rate-in-spec = tie.close (tie.spec cast-rate-of (λ c κs. search needs) returns)

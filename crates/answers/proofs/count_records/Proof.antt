@@ -23,17 +23,8 @@ found-here c = sym (c .before .before .before .record-at .ensures) ∙ c .before
 loop-holds : tie.Need-loop-holds Inv-loop μ-loop
 loop-holds c = count-starts _
 
-record-at-requires : tie.Need-record-at-requires Inv-loop μ-loop
-record-at-requires c κs = search needs
-
-enum-known-next : tie.Need-enum-known-next Inv-loop μ-loop
-enum-known-next c = search needs
-
 returns : tie.Need-returns Inv-loop μ-loop
 returns c = count-done _ _ _ (c .before .before .loop .inv) (left-none _ _ _ (c .before .record-at .ensures) (c .match .keys2))
-
-add-count : tie.Need-add-count Inv-loop μ-loop
-add-count c = search needs
 
 loop-less : tie.Need-loop-less Inv-loop μ-loop
 loop-less c = omega (arith, was-found _ (c .before .before .before .before .loop .at) _ (found-here c))
@@ -48,9 +39,9 @@ count-records-spec =
     Inv-loop
     μ-loop
     loop-holds
-    record-at-requires
-    enum-known-next
+    (λ c κs. search needs)
+    (λ c. search needs)
     returns
-    add-count
+    (λ c. search needs)
     loop-less
     loop-again)

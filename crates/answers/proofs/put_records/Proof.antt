@@ -35,15 +35,6 @@ module _ (c : tie.After-put-record-arg Inv-loop μ-loop) where
 loop-holds : tie.Need-loop-holds Inv-loop μ-loop
 loop-holds c = print-starts _ _ _
 
-record-at-requires : tie.Need-record-at-requires Inv-loop μ-loop
-record-at-requires c κs = search needs
-
-enum-known-next : tie.Need-enum-known-next Inv-loop μ-loop
-enum-known-next c = search needs
-
-same-length : tie.Need-same-length Inv-loop μ-loop
-same-length c = search needs
-
 returns : tie.Need-returns Inv-loop μ-loop
 returns c = print-done _ _ _ _ _ _ (c .before .before .loop .inv) (left-none _ _ _ (c .before .record-at .ensures) (c .match .keys2))
 
@@ -77,9 +68,9 @@ put-records-spec =
     Inv-loop
     μ-loop
     loop-holds
-    record-at-requires
-    enum-known-next
-    same-length
+    (λ c κs. search needs)
+    (λ c. search needs)
+    (λ c. search needs)
     returns
     sub-put-record
     part-put-record-start

@@ -27,17 +27,8 @@ module _ (c : tie.After-known-told Inv-loop μ-loop) where
 loop-holds : tie.Need-loop-holds Inv-loop μ-loop
 loop-holds c = count-starts _ _ _
 
-rule-at-requires : tie.Need-rule-at-requires Inv-loop μ-loop
-rule-at-requires c κs = search needs
-
-enum-told : tie.Need-enum-told Inv-loop μ-loop
-enum-told c = search needs
-
 returns : tie.Need-returns Inv-loop μ-loop
 returns c = search (count-end, needs)
-
-enum-known-end : tie.Need-enum-known-end Inv-loop μ-loop
-enum-known-end c = search needs
 
 add-count : tie.Need-add-count Inv-loop μ-loop
 add-count c = omega (arith, within c)
@@ -47,9 +38,6 @@ loop-less c = omega (arith, within c)
 
 loop-again : tie.Need-loop-again Inv-loop μ-loop
 loop-again c = search (count-on, needs)
-
-enum-known-number : tie.Need-enum-known-number Inv-loop μ-loop
-enum-known-number c = search needs
 
 returns-2 : tie.Need-returns-2 Inv-loop μ-loop
 returns-2 c = search (count-refused, needs)
@@ -61,12 +49,12 @@ count-rules-spec =
     Inv-loop
     μ-loop
     loop-holds
-    rule-at-requires
-    enum-told
+    (λ c κs. search needs)
+    (λ c. search needs)
     returns
-    enum-known-end
+    (λ c. search needs)
     add-count
     loop-less
     loop-again
-    enum-known-number
+    (λ c. search needs)
     returns-2)

@@ -8,14 +8,8 @@ use borrow.Author.Needs.{needs}
 use Rattle.c_api.proofs.change_word.Statement.{statement}
 use Rattle.c_api.proofs.change_word.Tie as tie
 
-enum-known-change : tie.Need-enum-known-change
-enum-known-change c = search needs
-
 word-of-requires : tie.Need-word-of-requires
 word-of-requires c κs = subst (λ z. changeTold z .place ≤ mostValue) (c .before .change .given .1) (c .before .before .before .pre)
-
-enum-told : tie.Need-enum-told
-enum-told c = search needs
 
 returns : tie.Need-returns
 returns c = word-is changeTold _ _ refl _ (c .before .before .change .given .1) _ (c .word-of .ensures)
@@ -24,4 +18,4 @@ returns-2 : tie.Need-returns-2
 returns-2 c = word-is changeTold _ _ refl _ (c .enum-told .given .1) _ refl
 
 pub change-word-spec : {M : Type 1} → statement M
-change-word-spec = tie.close (tie.spec enum-known-change word-of-requires enum-told returns returns-2)
+change-word-spec = tie.close (tie.spec (λ c. search needs) word-of-requires (λ c. search needs) returns returns-2)

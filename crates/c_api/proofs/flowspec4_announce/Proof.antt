@@ -7,17 +7,8 @@ use borrow.Author.Needs.{needs}
 use Rattle.c_api.proofs.flowspec4_announce.Statement.{statement}
 use Rattle.c_api.proofs.flowspec4_announce.Tie as tie
 
-is-on-requires : tie.Need-is-on-requires
-is-on-requires c κs = search needs
-
-announce-requires : tie.Need-announce-requires
-announce-requires c κs = search needs
-
 change-word-requires : tie.Need-change-word-requires
 change-word-requires c κs = change-near _ (λ n p e. not-announced _ _ _ _ n p (sym (c .before .before .announce .ensures .is) ∙ e))
-
-same-length : tie.Need-same-length
-same-length c = search needs
 
 returns : tie.Need-returns
 returns c =
@@ -25,4 +16,4 @@ returns c =
     record { is = word-is changeTold _ _ (kept .is) _ refl _ (c .change-word .ensures); leaves = kept .leaves; keeps = refl }
 
 pub flowspec4-announce-spec : {M : Type 1} → statement M
-flowspec4-announce-spec = tie.close (tie.spec is-on-requires announce-requires change-word-requires same-length returns)
+flowspec4-announce-spec = tie.close (tie.spec (λ c κs. search needs) (λ c κs. search needs) change-word-requires (λ c. search needs) returns)

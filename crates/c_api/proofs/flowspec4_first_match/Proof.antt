@@ -5,21 +5,12 @@ use borrow.Author.Needs.{needs}
 use Rattle.c_api.proofs.flowspec4_first_match.Statement.{statement}
 use Rattle.c_api.proofs.flowspec4_first_match.Tie as tie
 
-first-match-place-requires : tie.Need-first-match-place-requires
-first-match-place-requires c κs = search needs
-
-word-of-requires : tie.Need-word-of-requires
-word-of-requires c κs = search needs
-
 returns : tie.Need-returns
 returns c = record { returns = first-refused _ _ _ _ _ _ (c .before .before .before .first-match-place .ensures) (c .before .if1 .taken) _ (c .word-of .ensures); keeps = refl }
-
-sub-size : tie.Need-sub-size
-sub-size c = search needs
 
 returns-2 : tie.Need-returns-2
 returns-2 c = record { returns = first-done _ _ _ _ _ _ (c .before .before .before .before .first-match-place .ensures) (c .before .before .if1 .left); keeps = refl }
 
 pub flowspec4-first-match-spec : {M : Type 1} → statement M
 flowspec4-first-match-spec =
-    tie.close (tie.spec first-match-place-requires word-of-requires returns sub-size returns-2)
+    tie.close (tie.spec (λ c κs. search needs) (λ c κs. search needs) returns (λ c. search needs) returns-2)

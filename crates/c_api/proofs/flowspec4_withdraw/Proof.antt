@@ -7,18 +7,12 @@ use borrow.Author.Needs.{needs}
 use Rattle.c_api.proofs.flowspec4_withdraw.Statement.{statement}
 use Rattle.c_api.proofs.flowspec4_withdraw.Tie as tie
 
-withdraw-requires : tie.Need-withdraw-requires
-withdraw-requires c κs = search needs
-
 change-word-requires : tie.Need-change-word-requires
 change-word-requires c κs = change-near _ (λ n p e. not-withdrawn _ _ _ n p (sym (c .before .before .withdraw .ensures .is) ∙ e))
-
-same-length : tie.Need-same-length
-same-length c = search needs
 
 returns : tie.Need-returns
 returns c =
     record { is = word-is changeTold _ _ (c .before .before .before .withdraw .ensures .is) _ refl _ (c .change-word .ensures); leaves = c .before .before .before .withdraw .ensures .leaves; keeps = refl }
 
 pub flowspec4-withdraw-spec : {M : Type 1} → statement M
-flowspec4-withdraw-spec = tie.close (tie.spec withdraw-requires change-word-requires same-length returns)
+flowspec4-withdraw-spec = tie.close (tie.spec (λ c κs. search needs) change-word-requires (λ c. search needs) returns)

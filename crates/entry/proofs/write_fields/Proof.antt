@@ -16,35 +16,14 @@ abbrev μ-loop : tie.MeasureT-loop
 loop-holds : tie.Need-loop-holds Inv-loop μ-loop
 loop-holds c = search (writing-starts, needs)
 
-mul-width : tie.Need-mul-width Inv-loop μ-loop
-mul-width c = search needs
-
-shared-slice-read-width : tie.Need-shared-slice-read-width Inv-loop μ-loop
-shared-slice-read-width c = search needs
-
 add-next : tie.Need-add-next Inv-loop μ-loop
 add-next c = omega (arith, field-room _ _ _ _ _ _ _ (c .before .before .loop .inv) (search needs) (search needs))
-
-mul-write-number : tie.Need-mul-write-number Inv-loop μ-loop
-mul-write-number c = search needs
-
-shared-slice-read-write-number : tie.Need-shared-slice-read-write-number Inv-loop μ-loop
-shared-slice-read-write-number c = search needs
 
 write-number-requires : tie.Need-write-number-requires Inv-loop μ-loop
 write-number-requires c κs = search (field-room, needs)
 
-add-i : tie.Need-add-i Inv-loop μ-loop
-add-i c = search needs
-
-loop-less : tie.Need-loop-less Inv-loop μ-loop
-loop-less c = search needs
-
 loop-again : tie.Need-loop-again Inv-loop μ-loop
 loop-again c = search (writing-on, needs)
-
-same-length : tie.Need-same-length Inv-loop μ-loop
-same-length c = search needs
 
 returns : tie.Need-returns Inv-loop μ-loop
 returns c = search (written-all, needs)
@@ -56,14 +35,14 @@ write-fields-spec =
     Inv-loop
     μ-loop
     loop-holds
-    mul-width
-    shared-slice-read-width
+    (λ c. search needs)
+    (λ c. search needs)
     add-next
-    mul-write-number
-    shared-slice-read-write-number
+    (λ c. search needs)
+    (λ c. search needs)
     write-number-requires
-    add-i
-    loop-less
+    (λ c. search needs)
+    (λ c. search needs)
     loop-again
-    same-length
+    (λ c. search needs)
     returns)

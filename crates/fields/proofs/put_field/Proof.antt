@@ -16,38 +16,11 @@ abbrev μ-loop : tie.MeasureT-loop
 loop-holds : tie.Need-loop-holds Inv-loop μ-loop
 loop-holds c = (omega arith, omega arith, omega arith)
 
-sub-place-of : tie.Need-sub-place-of Inv-loop μ-loop
-sub-place-of c = search needs
-
-part-place-of-start : tie.Need-part-place-of-start Inv-loop μ-loop
-part-place-of-start c = search needs
-
-part-place-of-end : tie.Need-part-place-of-end Inv-loop μ-loop
-part-place-of-end c = search needs
-
 place-of-requires : tie.Need-place-of-requires Inv-loop μ-loop
 place-of-requires c κs = tt
 
 add-end : tie.Need-add-end Inv-loop μ-loop
 add-end c = omega arith
-
-sub-put-part : tie.Need-sub-put-part Inv-loop μ-loop
-sub-put-part c = search needs
-
-part-put-part-start : tie.Need-part-put-part-start Inv-loop μ-loop
-part-put-part-start c = search needs
-
-part-put-part-end : tie.Need-part-put-part-end Inv-loop μ-loop
-part-put-part-end c = search needs
-
-sub-put-part-2 : tie.Need-sub-put-part-2 Inv-loop μ-loop
-sub-put-part-2 c = search needs
-
-part-put-part-start-2 : tie.Need-part-put-part-start-2 Inv-loop μ-loop
-part-put-part-start-2 c = search needs
-
-part-put-part-end-2 : tie.Need-part-put-part-end-2 Inv-loop μ-loop
-part-put-part-end-2 c = search needs
 
 put-part-requires : tie.Need-put-part-requires Inv-loop μ-loop
 put-part-requires c κs = tt
@@ -64,9 +37,6 @@ loop-less c = omega arith
 loop-again : tie.Need-loop-again Inv-loop μ-loop
 loop-again c = (omega arith, omega arith, omega arith)
 
-same-length : tie.Need-same-length Inv-loop μ-loop
-same-length c = search needs
-
 returns : tie.Need-returns Inv-loop μ-loop
 returns c = omega arith
 
@@ -77,21 +47,21 @@ put-field-spec =
     Inv-loop
     μ-loop
     loop-holds
-    sub-place-of
-    part-place-of-start
-    part-place-of-end
+    (λ c. search needs)
+    (λ c. search needs)
+    (λ c. search needs)
     place-of-requires
     add-end
-    sub-put-part
-    part-put-part-start
-    part-put-part-end
-    sub-put-part-2
-    part-put-part-start-2
-    part-put-part-end-2
+    (λ c. search needs)
+    (λ c. search needs)
+    (λ c. search needs)
+    (λ c. search needs)
+    (λ c. search needs)
+    (λ c. search needs)
     put-part-requires
     add-at
     add-from
     loop-less
     loop-again
-    same-length
+    (λ c. search needs)
     returns)

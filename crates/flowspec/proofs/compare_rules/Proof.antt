@@ -8,9 +8,6 @@ use borrow.Author.Needs.{needs}
 use Rattle.flowspec.proofs.compare_rules.Statement.{statement}
 use Rattle.flowspec.proofs.compare_rules.Tie as tie
 
-family-of-requires : tie.Need-family-of-requires
-family-of-requires c κs = search needs
-
 compare-rules-requires : tie.Need-compare-rules-requires
 compare-rules-requires c κs = search (chosen-fits, needs)
 
@@ -20,4 +17,4 @@ returns c = let lent = c .before .before .before .before .args in
     record { is = e; tells = ap comparisonTold e ∙ compare-tells _ _ _; keeps = refl }
 
 pub compare-rules-spec : {M : Type 1} → statement M
-compare-rules-spec = tie.close (tie.spec family-of-requires compare-rules-requires returns)
+compare-rules-spec = tie.close (tie.spec (λ c κs. search needs) compare-rules-requires returns)

@@ -6,11 +6,8 @@ use borrow.Author.Needs.{needs}
 use Rattle.flowspec.proofs.read_actions.Statement.{statement}
 use Rattle.flowspec.proofs.read_actions.Tie as tie
 
-actions-of-requires : tie.Need-actions-of-requires
-actions-of-requires c κs = search needs
-
 returns : tie.Need-returns
 returns c = record { is = c .actions-of .ensures; tells = ap actionsTold (c .actions-of .ensures) ∙ actions-tells _; keeps = refl }
 
 pub read-actions-spec : {M : Type 1} → statement M
-read-actions-spec = tie.close (tie.spec actions-of-requires returns)
+read-actions-spec = tie.close (tie.spec (λ c κs. search needs) returns)

@@ -7,15 +7,9 @@ use borrow.Author.Needs.{needs}
 use Rattle.flowspec.proofs.read_rule.Statement.{statement}
 use Rattle.flowspec.proofs.read_rule.Tie as tie
 
-family-of-requires : tie.Need-family-of-requires
-family-of-requires c κs = search needs
-
-one-rule-requires : tie.Need-one-rule-requires
-one-rule-requires c κs = search needs
-
 returns : tie.Need-returns
 returns c = let e = c .one-rule .ensures ∙ ap (λ f. oneRule f (c .before .before .before .args .rule .now)) (c .before .family-of .ensures) in
     record { is = e; tells = ap readingTold e ∙ read-tells _ _; keeps = refl }
 
 pub read-rule-spec : {M : Type 1} → statement M
-read-rule-spec = tie.close (tie.spec family-of-requires one-rule-requires returns)
+read-rule-spec = tie.close (tie.spec (λ c κs. search needs) (λ c κs. search needs) returns)

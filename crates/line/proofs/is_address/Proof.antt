@@ -8,11 +8,8 @@ use Rattle.line.proofs.is_address.Tie as tie
 returns : tie.Need-returns
 returns c = rw (ne-eqb (length (c .before .before .args .field .now)) 8 (c .if1 .taken))
 
-are-octets-requires : tie.Need-are-octets-requires
-are-octets-requires c κs = search needs
-
 returns-2 : tie.Need-returns-2
 returns-2 c = rw (eq-eqb (length (c .before .before .before .args .field .now)) 8 (c .before .if1 .left)) (c .are-octets .ensures)
 
 pub is-address-spec : {M : Type 1} → statement M
-is-address-spec = tie.close (tie.spec returns are-octets-requires returns-2)
+is-address-spec = tie.close (tie.spec returns (λ c κs. search needs) returns-2)

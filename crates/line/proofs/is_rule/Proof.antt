@@ -9,11 +9,8 @@ use Rattle.line.proofs.is_rule.Tie as tie
 returns : tie.Need-returns
 returns c = rw (le-ltb 0 (length (c .before .before .args .field .now)) (omega arith))
 
-are-octets-requires : tie.Need-are-octets-requires
-are-octets-requires c κs = search needs
-
 returns-2 : tie.Need-returns-2
 returns-2 c = rw (lt-ltb 0 (length (c .before .before .before .args .field .now)) (omega arith)) (c .are-octets .ensures)
 
 pub is-rule-spec : {M : Type 1} → statement M
-is-rule-spec = tie.close (tie.spec returns are-octets-requires returns-2)
+is-rule-spec = tie.close (tie.spec returns (λ c κs. search needs) returns-2)

@@ -54,18 +54,6 @@ gathered c = c .before .before .before .before .before .before .before .before .
 loop-holds : tie.Need-loop-holds Inv-loop μ-loop
 loop-holds c = (omega arith, search needs, refl, refl, refl, refl, λ input led. block-first input (block c) _ _ _ _ _ led)
 
-sub-gather : tie.Need-sub-gather Inv-loop μ-loop
-sub-gather c = search needs
-
-part-gather-start : tie.Need-part-gather-start Inv-loop μ-loop
-part-gather-start c = search needs
-
-part-gather-end : tie.Need-part-gather-end Inv-loop μ-loop
-part-gather-end c = search needs
-
-gather-requires : tie.Need-gather-requires Inv-loop μ-loop
-gather-requires c κs = search needs
-
 add-at : tie.Need-add-at Inv-loop μ-loop
 add-at c = omega (arith, taken c)
 
@@ -74,21 +62,6 @@ slice-reshare-prefix-answer c = omega (arith, taken (c .before))
 
 slice-aggregate-answer : tie.Need-slice-aggregate-answer Inv-loop μ-loop
 slice-aggregate-answer c = sym (length-take-le _ _ (omega (arith, taken (c .before .before))))
-
-answer-requires : tie.Need-answer-requires Inv-loop μ-loop
-answer-requires c κs = search needs
-
-same-length : tie.Need-same-length Inv-loop μ-loop
-same-length c = search needs
-
-same-length-2 : tie.Need-same-length-2 Inv-loop μ-loop
-same-length-2 c = search needs
-
-same-length-3 : tie.Need-same-length-3 Inv-loop μ-loop
-same-length-3 c = search needs
-
-same-length-4 : tie.Need-same-length-4 Inv-loop μ-loop
-same-length-4 c = search needs
 
 returns : tie.Need-returns Inv-loop μ-loop
 returns c = λ input led still. closed (c .before .before .before .before .before .before .before .before .answer .result .«open») (search needs) still
@@ -109,18 +82,6 @@ loop-again-2 c = let k = c .before in
     let t = taken k in
     (omega arith, omega arith, search needs, search needs, search needs, search needs, λ input led. block-on input _ _ _ _ _ _ _ (turn k .loop .inv .6 input led) _ _ _ (k .before .before .before .gather .ensures) (search needs))
 
-same-length-5 : tie.Need-same-length-5 Inv-loop μ-loop
-same-length-5 c = search needs
-
-same-length-6 : tie.Need-same-length-6 Inv-loop μ-loop
-same-length-6 c = search needs
-
-same-length-7 : tie.Need-same-length-7 Inv-loop μ-loop
-same-length-7 c = search needs
-
-same-length-8 : tie.Need-same-length-8 Inv-loop μ-loop
-same-length-8 c = search needs
-
 returns-2 : tie.Need-returns-2 Inv-loop μ-loop
 returns-2 c = λ input led still. block-done input _ _ _ _ _ _ _ (c .before .loop .inv .6 input led) (c .loop-test .left)
 
@@ -131,25 +92,25 @@ answer-block-spec =
     Inv-loop
     μ-loop
     loop-holds
-    sub-gather
-    part-gather-start
-    part-gather-end
-    gather-requires
+    (λ c. search needs)
+    (λ c. search needs)
+    (λ c. search needs)
+    (λ c κs. search needs)
     add-at
     slice-reshare-prefix-answer
     slice-aggregate-answer
-    answer-requires
-    same-length
-    same-length-2
-    same-length-3
-    same-length-4
+    (λ c κs. search needs)
+    (λ c. search needs)
+    (λ c. search needs)
+    (λ c. search needs)
+    (λ c. search needs)
     returns
     loop-less
     loop-again
     loop-less-2
     loop-again-2
-    same-length-5
-    same-length-6
-    same-length-7
-    same-length-8
+    (λ c. search needs)
+    (λ c. search needs)
+    (λ c. search needs)
+    (λ c. search needs)
     returns-2)

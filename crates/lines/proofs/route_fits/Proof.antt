@@ -4,17 +4,11 @@ use borrow.Author.Needs.{needs}
 use Rattle.lines.proofs.route_fits.Statement.{statement}
 use Rattle.lines.proofs.route_fits.Tie as tie
 
-sub-if1 : tie.Need-sub-if1
-sub-if1 c = search needs
-
 returns : tie.Need-returns
 returns c = fits-not (c .before .args .routes .now) _ (c .if1 .taken)
-
-add-result : tie.Need-add-result
-add-result c = search needs
 
 returns-2 : tie.Need-returns-2
 returns-2 c = fits-by-length (c .before .args .routes .now) _ (c .if1 .left)
 
 pub route-fits-spec : {M : Type 1} → statement M
-route-fits-spec = tie.close (tie.spec sub-if1 returns add-result returns-2)
+route-fits-spec = tie.close (tie.spec (λ c. search needs) returns (λ c. search needs) returns-2)

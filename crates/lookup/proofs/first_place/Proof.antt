@@ -35,23 +35,11 @@ module _ (c : tie.After-known-told Inv-loop μ-loop) where
 loop-holds : tie.Need-loop-holds Inv-loop μ-loop
 loop-holds c = miss-starts _ _ _ _
 
-record-at-requires : tie.Need-record-at-requires Inv-loop μ-loop
-record-at-requires c κs = search needs
-
-enum-told : tie.Need-enum-told Inv-loop μ-loop
-enum-told c = search needs
-
 returns : tie.Need-returns Inv-loop μ-loop
 returns c = (first-end _ _ _ _ _ (c .before .before .before .loop .inv) _ (c .before .before .record-at .ensures) (c .enum-told .given .1), (omega arith, omega arith))
 
-enum-told-2 : tie.Need-enum-told-2 Inv-loop μ-loop
-enum-told-2 c = search needs
-
 returns-2 : tie.Need-returns-2 Inv-loop μ-loop
 returns-2 c = (first-unsound _ _ _ _ _ (c .before .before .before .loop .inv) _ (c .before .before .record-at .ensures) (c .enum-told2 .given .1), (omega arith, omega arith))
-
-enum-known-next : tie.Need-enum-known-next Inv-loop μ-loop
-enum-known-next c = search needs
 
 sub-hits-record : tie.Need-sub-hits-record Inv-loop μ-loop
 sub-hits-record c = omega (arith, found c)
@@ -87,12 +75,12 @@ first-place-spec =
     Inv-loop
     μ-loop
     loop-holds
-    record-at-requires
-    enum-told
+    (λ c κs. search needs)
+    (λ c. search needs)
     returns
-    enum-told-2
+    (λ c. search needs)
     returns-2
-    enum-known-next
+    (λ c. search needs)
     sub-hits-record
     part-hits-record-start
     part-hits-record-end

@@ -4,14 +4,8 @@ use borrow.Author.Needs.{needs}
 use Rattle.lookup.proofs.hit_of_record.Statement.{statement}
 use Rattle.lookup.proofs.hit_of_record.Tie as tie
 
-hits-record-requires : tie.Need-hits-record-requires
-hits-record-requires c κs = search needs
-
 returns : tie.Need-returns
 returns c = search (judge-missed, needs)
-
-record-actions-requires : tie.Need-record-actions-requires
-record-actions-requires c κs = search needs
 
 returns-2 : tie.Need-returns-2
 returns-2 c = search (judge-goes-on, needs)
@@ -21,4 +15,4 @@ returns-3 c = search (judge-stops, needs)
 
 pub hit-of-record-spec : {M : Type 1} → statement M
 hit-of-record-spec =
-    tie.close (tie.spec hits-record-requires returns record-actions-requires returns-2 returns-3)
+    tie.close (tie.spec (λ c κs. search needs) returns (λ c κs. search needs) returns-2 returns-3)

@@ -32,29 +32,8 @@ module _ (c : tie.After-known-told Inv-loop μ-loop) where
   found : Found (start .args .table .now) (turn .loop .at) (c .before .next .given .0 .0)
   found = was-found _ _ _ found-here
 
-no-actions-requires : tie.Need-no-actions-requires Inv-loop μ-loop
-no-actions-requires c κs = search needs
-
 loop-holds : tie.Need-loop-holds Inv-loop μ-loop
 loop-holds c = look-starts _ _ _ _ _ (c .no-actions .ensures)
-
-record-at-requires : tie.Need-record-at-requires Inv-loop μ-loop
-record-at-requires c κs = search needs
-
-enum-told : tie.Need-enum-told Inv-loop μ-loop
-enum-told c = search needs
-
-verdict-of-requires : tie.Need-verdict-of-requires Inv-loop μ-loop
-verdict-of-requires c κs = search needs
-
-enum-told-2 : tie.Need-enum-told-2 Inv-loop μ-loop
-enum-told-2 c = search needs
-
-verdict-of-requires-2 : tie.Need-verdict-of-requires-2 Inv-loop μ-loop
-verdict-of-requires-2 c κs = search needs
-
-enum-known-next : tie.Need-enum-known-next Inv-loop μ-loop
-enum-known-next c = search needs
 
 sub-hit-of-record : tie.Need-sub-hit-of-record Inv-loop μ-loop
 sub-hit-of-record c = omega (arith, found c)
@@ -69,21 +48,12 @@ hit-of-record-requires : tie.Need-hit-of-record-requires Inv-loop μ-loop
 hit-of-record-requires c κs = let k = c .before in
     (start k .pre, omega (arith, found k, length-there _ (turn k .loop .at) _ (found-here k)))
 
-enum-told-3 : tie.Need-enum-told-3 Inv-loop μ-loop
-enum-told-3 c = search needs
-
 loop-less : tie.Need-loop-less Inv-loop μ-loop
 loop-less c = let k = c .before .before .before .before in omega (arith, found k)
 
 loop-again : tie.Need-loop-again Inv-loop μ-loop
 loop-again c = let k = c .before .before .before .before in
     look-missed _ _ _ _ _ _ _ (turn k .loop .inv) _ (found-here k) _ (c .before .before .hit-of-record .ensures) (c .enum-told3 .given .1)
-
-enum-known-more : tie.Need-enum-known-more Inv-loop μ-loop
-enum-known-more c = search needs
-
-merge-requires : tie.Need-merge-requires Inv-loop μ-loop
-merge-requires c κs = search needs
 
 add-count : tie.Need-add-count Inv-loop μ-loop
 add-count c = let k = c .before .before .before .before .before .before in omega (arith, turn k .loop .inv .few, turn k .loop .inv .within, found k)
@@ -95,17 +65,8 @@ loop-again-2 : tie.Need-loop-again-2 Inv-loop μ-loop
 loop-again-2 c = let k = c .before .before .before .before .before .before in
     look-goes-on _ _ _ _ _ _ _ (turn k .loop .inv) _ (found-here k) _ (c .before .before .before .before .hit-of-record .ensures) _ _ (c .before .before .more .given .1) (c .merge .ensures)
 
-enum-known-more-2 : tie.Need-enum-known-more-2 Inv-loop μ-loop
-enum-known-more-2 c = search needs
-
-merge-requires-2 : tie.Need-merge-requires-2 Inv-loop μ-loop
-merge-requires-2 c κs = search needs
-
 add-verdict-of : tie.Need-add-verdict-of Inv-loop μ-loop
 add-verdict-of c = let k = c .before .before .before .before .before .before in omega (arith, turn k .loop .inv .few, turn k .loop .inv .within, found k)
-
-verdict-of-requires-3 : tie.Need-verdict-of-requires-3 Inv-loop μ-loop
-verdict-of-requires-3 c κs = search needs
 
 returns : tie.Need-returns Inv-loop μ-loop
 returns c = search (look-end, needs)
@@ -123,30 +84,30 @@ look-up-spec =
     (tie.spec
     Inv-loop
     μ-loop
-    no-actions-requires
+    (λ c κs. search needs)
     loop-holds
-    record-at-requires
-    enum-told
-    verdict-of-requires
-    enum-told-2
-    verdict-of-requires-2
-    enum-known-next
+    (λ c κs. search needs)
+    (λ c. search needs)
+    (λ c κs. search needs)
+    (λ c. search needs)
+    (λ c κs. search needs)
+    (λ c. search needs)
     sub-hit-of-record
     part-hit-of-record-start
     part-hit-of-record-end
     hit-of-record-requires
-    enum-told-3
+    (λ c. search needs)
     loop-less
     loop-again
-    enum-known-more
-    merge-requires
+    (λ c. search needs)
+    (λ c κs. search needs)
     add-count
     loop-less-2
     loop-again-2
-    enum-known-more-2
-    merge-requires-2
+    (λ c. search needs)
+    (λ c κs. search needs)
     add-verdict-of
-    verdict-of-requires-3
+    (λ c κs. search needs)
     returns
     returns-2
     returns-3)

@@ -4,9 +4,6 @@ use Rattle.lookup.proofs.OpeningLaws.{see-unsound, see-unusable, see-us
 use Rattle.lookup.proofs.open_lookup.Statement.{statement}
 use Rattle.lookup.proofs.open_lookup.Tie as tie
 
-sound-table-requires : tie.Need-sound-table-requires
-sound-table-requires c κs = search needs
-
 returns : tie.Need-returns
 returns c = search (see-unsound, needs)
 
@@ -20,7 +17,7 @@ pub open-lookup-spec : {M : Type 1} → statement M
 open-lookup-spec =
     tie.close
     (tie.spec
-    sound-table-requires
+    (λ c κs. search needs)
     (λ c. search needs)
     (λ c. search needs)
     (λ c κs. search needs)

@@ -4,14 +4,8 @@ use borrow.Author.Needs.{needs}
 use Rattle.matching.proofs.body_covers.Statement.{statement}
 use Rattle.matching.proofs.body_covers.Tie as tie
 
-prefix-of-requires : tie.Need-prefix-of-requires
-prefix-of-requires c κs = search needs
-
-covers-address-requires : tie.Need-covers-address-requires
-covers-address-requires c κs = search needs
-
 returns : tie.Need-returns
 returns c = search (covered, needs)
 
 pub body-covers-spec : {M : Type 1} → statement M
-body-covers-spec = tie.close (tie.spec prefix-of-requires covers-address-requires returns)
+body-covers-spec = tie.close (tie.spec (λ c κs. search needs) (λ c κs. search needs) returns)

@@ -17,12 +17,6 @@ abbrev μ-loop : tie.MeasureT-loop
 loop-holds : tie.Need-loop-holds Inv-loop μ-loop
 loop-holds c = search (body-start, needs)
 
-pair-at-requires : tie.Need-pair-at-requires Inv-loop μ-loop
-pair-at-requires c κs = search needs
-
-enum-known-pair : tie.Need-enum-known-pair Inv-loop μ-loop
-enum-known-pair c = search needs
-
 evaluate-pair-requires : tie.Need-evaluate-pair-requires Inv-loop μ-loop
 evaluate-pair-requires c κs = more-inside _ _ _ _ _ (c .before .before .before .pair-at .ensures) (c .before .pair .given .1)
 
@@ -32,17 +26,11 @@ loop-less c = search (more-nearer, needs)
 loop-again : tie.Need-loop-again Inv-loop μ-loop
 loop-again c = search (list-on, needs)
 
-enum-known-pair-2 : tie.Need-enum-known-pair-2 Inv-loop μ-loop
-enum-known-pair-2 c = search needs
-
 evaluate-pair-requires-2 : tie.Need-evaluate-pair-requires-2 Inv-loop μ-loop
 evaluate-pair-requires-2 c κs = last-inside _ _ _ _ _ (c .before .before .before .pair-at .ensures) (c .before .pair2 .given .1)
 
 returns : tie.Need-returns Inv-loop μ-loop
 returns c = search (list-last, needs)
-
-enum-told : tie.Need-enum-told Inv-loop μ-loop
-enum-told c = search needs
 
 returns-2 : tie.Need-returns-2 Inv-loop μ-loop
 returns-2 c = search (list-cut, needs)
@@ -54,13 +42,13 @@ list-holds-spec =
     Inv-loop
     μ-loop
     loop-holds
-    pair-at-requires
-    enum-known-pair
+    (λ c κs. search needs)
+    (λ c. search needs)
     evaluate-pair-requires
     loop-less
     loop-again
-    enum-known-pair-2
+    (λ c. search needs)
     evaluate-pair-requires-2
     returns
-    enum-told
+    (λ c. search needs)
     returns-2)

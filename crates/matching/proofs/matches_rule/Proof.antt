@@ -18,17 +18,8 @@ abbrev μ-loop : tie.MeasureT-loop
 loop-holds : tie.Need-loop-holds Inv-loop μ-loop
 loop-holds c = search (from-start, needs)
 
-next-component-requires : tie.Need-next-component-requires Inv-loop μ-loop
-next-component-requires c κs = search needs
-
-enum-known-next : tie.Need-enum-known-next Inv-loop μ-loop
-enum-known-next c = search needs
-
 component-body-requires : tie.Need-component-body-requires Inv-loop μ-loop
 component-body-requires c κs = search (ends-behind, ends-inside, needs)
-
-matches-component-requires : tie.Need-matches-component-requires Inv-loop μ-loop
-matches-component-requires c κs = search needs
 
 returns : tie.Need-returns Inv-loop μ-loop
 returns c = search (rule-out, needs)
@@ -39,14 +30,8 @@ loop-less c = search (rule-nearer, needs)
 loop-again : tie.Need-loop-again Inv-loop μ-loop
 loop-again c = search (rule-on, needs)
 
-enum-told : tie.Need-enum-told Inv-loop μ-loop
-enum-told c = search needs
-
 returns-2 : tie.Need-returns-2 Inv-loop μ-loop
 returns-2 c = search (rule-end, needs)
-
-enum-told-2 : tie.Need-enum-told-2 Inv-loop μ-loop
-enum-told-2 c = search needs
 
 returns-3 : tie.Need-returns-3 Inv-loop μ-loop
 returns-3 c = search (rule-cut, needs)
@@ -58,14 +43,14 @@ matches-rule-spec =
     Inv-loop
     μ-loop
     loop-holds
-    next-component-requires
-    enum-known-next
+    (λ c κs. search needs)
+    (λ c. search needs)
     component-body-requires
-    matches-component-requires
+    (λ c κs. search needs)
     returns
     loop-less
     loop-again
-    enum-told
+    (λ c. search needs)
     returns-2
-    enum-told-2
+    (λ c. search needs)
     returns-3)

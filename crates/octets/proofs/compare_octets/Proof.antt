@@ -19,21 +19,12 @@ abbrev μ-loop : tie.MeasureT-loop
 loop-holds : tie.Need-loop-holds Inv-loop μ-loop
 loop-holds c = (search needs, search needs, refl)
 
-compare-numbers-requires : tie.Need-compare-numbers-requires Inv-loop μ-loop
-compare-numbers-requires c κs = search needs
-
 returns : tie.Need-returns Inv-loop μ-loop
 returns c = let l = c .before .before .loop in
     c .compare-numbers .ensures ∙ sym (ap ordered (l .inv .2 ∙ lex-first-out compare 0 _ _ _ (c .before .if1 .taken) (l .inv .0) (l .inv .1)))
 
 returns-2 : tie.Need-returns-2 Inv-loop μ-loop
 returns-2 c = rw (c .before .before .loop .inv .2, lex-second-out compare 0 _ _ _ (c .before .if1 .left) (c .if2 .taken))
-
-shared-slice-read-x : tie.Need-shared-slice-read-x Inv-loop μ-loop
-shared-slice-read-x c = search needs
-
-shared-slice-read-y : tie.Need-shared-slice-read-y Inv-loop μ-loop
-shared-slice-read-y c = search needs
 
 returns-3 : tie.Need-returns-3 Inv-loop μ-loop
 returns-3 c = let both = c .before .before .before in
@@ -42,12 +33,6 @@ returns-3 c = let both = c .before .before .before in
 returns-4 : tie.Need-returns-4 Inv-loop μ-loop
 returns-4 c = let both = c .before .before .before .before in
     rw (both .before .before .loop .inv .2, lex-both compare 0 _ _ _ (both .before .if1 .left) (both .if2 .left), gt-cmp _ _ (c .if4 .taken))
-
-add-i : tie.Need-add-i Inv-loop μ-loop
-add-i c = search needs
-
-loop-less : tie.Need-loop-less Inv-loop μ-loop
-loop-less c = search needs
 
 loop-again : tie.Need-loop-again Inv-loop μ-loop
 loop-again c = let both = c .before .before .before .before in
@@ -60,13 +45,13 @@ compare-octets-spec =
     Inv-loop
     μ-loop
     loop-holds
-    compare-numbers-requires
+    (λ c κs. search needs)
     returns
     returns-2
-    shared-slice-read-x
-    shared-slice-read-y
+    (λ c. search needs)
+    (λ c. search needs)
     returns-3
     returns-4
-    add-i
-    loop-less
+    (λ c. search needs)
+    (λ c. search needs)
     loop-again)

@@ -27,9 +27,6 @@ loop-holds : tie.Need-loop-holds Inv-loop μ-loop
 unfolding numberAt
 loop-holds c = search needs
 
-shared-slice-read-octet : tie.Need-shared-slice-read-octet Inv-loop μ-loop
-shared-slice-read-octet c = search needs
-
 mul-number : tie.Need-mul-number Inv-loop μ-loop
 mul-number c = omega (arith, room c)
 
@@ -38,12 +35,6 @@ cast-number c = omega (arith, small c)
 
 add-number : tie.Need-add-number Inv-loop μ-loop
 add-number c = omega (arith, room c, small c)
-
-add-i : tie.Need-add-i Inv-loop μ-loop
-add-i c = search needs
-
-loop-less : tie.Need-loop-less Inv-loop μ-loop
-loop-less c = search needs
 
 loop-again : tie.Need-loop-again Inv-loop μ-loop
 loop-again c = let l = c .before .before .loop in
@@ -65,11 +56,11 @@ number-of-spec =
     Inv-loop
     μ-loop
     loop-holds
-    shared-slice-read-octet
+    (λ c. search needs)
     mul-number
     cast-number
     add-number
-    add-i
-    loop-less
+    (λ c. search needs)
+    (λ c. search needs)
     loop-again
     returns)

@@ -15,34 +15,13 @@ Inv-loop buffer₀ at size gap-end i₀ buffer i = (at + size ≤ i) × (i ≤ l
 abbrev μ-loop : tie.MeasureT-loop
 μ-loop buffer₀ at size gap-end i₀ buffer i = i
 
-add-gap-end : tie.Need-add-gap-end Inv-loop μ-loop
-add-gap-end c = search needs
-
 loop-holds : tie.Need-loop-holds Inv-loop μ-loop
 loop-holds c = search (up-first, needs)
-
-sub-i : tie.Need-sub-i Inv-loop μ-loop
-sub-i c = search needs
-
-sub-from : tie.Need-sub-from Inv-loop μ-loop
-sub-from c = search needs
-
-slice-read-buffer : tie.Need-slice-read-buffer Inv-loop μ-loop
-slice-read-buffer c = search needs
-
-slice-write-buffer : tie.Need-slice-write-buffer Inv-loop μ-loop
-slice-write-buffer c = search needs
-
-loop-less : tie.Need-loop-less Inv-loop μ-loop
-loop-less c = search needs
 
 loop-again : tie.Need-loop-again Inv-loop μ-loop
 loop-again c = let l = c .before .before .loop in
     let a = c .before .before .before .args in
     (omega arith, omega arith, simp length-set (l .inv .2), up-more _ (l .buffer) (a .at) (a .size) (l .i) _ (omega arith) (omega arith) refl (l .inv .3))
-
-same-length : tie.Need-same-length Inv-loop μ-loop
-same-length c = search needs
 
 returns : tie.Need-returns Inv-loop μ-loop
 returns c = search (up-all, needs)
@@ -53,13 +32,13 @@ open-gap-spec =
     (tie.spec
     Inv-loop
     μ-loop
-    add-gap-end
+    (λ c. search needs)
     loop-holds
-    sub-i
-    sub-from
-    slice-read-buffer
-    slice-write-buffer
-    loop-less
+    (λ c. search needs)
+    (λ c. search needs)
+    (λ c. search needs)
+    (λ c. search needs)
+    (λ c. search needs)
     loop-again
-    same-length
+    (λ c. search needs)
     returns)

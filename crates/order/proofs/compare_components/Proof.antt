@@ -10,11 +10,8 @@ returns c = search (order-lower, needs)
 returns-2 : tie.Need-returns-2
 returns-2 c = search (order-higher, needs)
 
-compare-bodies-requires : tie.Need-compare-bodies-requires
-compare-bodies-requires c κs = search needs
-
 returns-3 : tie.Need-returns-3
 returns-3 c = search (order-bodies, needs)
 
 pub compare-components-spec : {M : Type 1} → statement M
-compare-components-spec = tie.close (tie.spec returns returns-2 compare-bodies-requires returns-3)
+compare-components-spec = tie.close (tie.spec returns returns-2 (λ c κs. search needs) returns-3)

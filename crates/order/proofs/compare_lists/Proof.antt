@@ -22,17 +22,8 @@ loop-holds : tie.Need-loop-holds Inv-loop μ-loop
 unfolding components
 loop-holds c = refl
 
-compare-next-requires : tie.Need-compare-next-requires Inv-loop μ-loop
-compare-next-requires c κs = search needs
-
-enum-known-turn : tie.Need-enum-known-turn Inv-loop μ-loop
-enum-known-turn c = search needs
-
 returns : tie.Need-returns Inv-loop μ-loop
 returns c = search (lists-decided, needs)
-
-enum-known-turn-2 : tie.Need-enum-known-turn-2 Inv-loop μ-loop
-enum-known-turn-2 c = search needs
 
 loop-less : tie.Need-loop-less Inv-loop μ-loop
 loop-less c = omega (arith, lists-ahead _ _ (c .before .before .before .before .loop .at) _ _ _ _ (c .before .before .before .compare-next .ensures) _ (c .before .before .before .before .loop .inv) _ _ _ (c .before .turn2 .given .1))
@@ -47,9 +38,9 @@ compare-lists-spec =
     Inv-loop
     μ-loop
     loop-holds
-    compare-next-requires
-    enum-known-turn
+    (λ c κs. search needs)
+    (λ c. search needs)
     returns
-    enum-known-turn-2
+    (λ c. search needs)
     loop-less
     loop-again)

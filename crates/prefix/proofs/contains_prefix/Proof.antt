@@ -10,11 +10,8 @@ returns c = search (other-offset, needs)
 returns-2 : tie.Need-returns-2
 returns-2 c = search (no-shorter, needs)
 
-covers-address-requires : tie.Need-covers-address-requires
-covers-address-requires c κs = search needs
-
 returns-3 : tie.Need-returns-3
 returns-3 c = search (by-bits, needs)
 
 pub contains-prefix-spec : {M : Type 1} → statement M
-contains-prefix-spec = tie.close (tie.spec returns returns-2 covers-address-requires returns-3)
+contains-prefix-spec = tie.close (tie.spec returns returns-2 (λ c κs. search needs) returns-3)

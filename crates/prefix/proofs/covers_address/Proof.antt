@@ -4,12 +4,9 @@ use borrow.Author.Needs.{needs}
 use Rattle.prefix.proofs.covers_address.Statement.{statement}
 use Rattle.prefix.proofs.covers_address.Tie as tie
 
-same-bits-requires : tie.Need-same-bits-requires
-same-bits-requires c κs = search needs
-
 returns : tie.Need-returns
 unfolding coversAddress
 returns c = search needs
 
 pub covers-address-spec : {M : Type 1} → statement M
-covers-address-spec = tie.close (tie.spec same-bits-requires returns)
+covers-address-spec = tie.close (tie.spec (λ c κs. search needs) returns)

@@ -8,11 +8,8 @@ use Rattle.prefix.proofs.high_part.Tie as tie
 returns : tie.Need-returns
 returns c = high-none 64 _ _ (search needs) (search needs)
 
-shr-result : tie.Need-shr-result
-shr-result c = search needs
-
 returns-2 : tie.Need-returns-2
 returns-2 c = refl
 
 pub high-part-spec : {M : Type 1} → statement M
-high-part-spec = tie.close (tie.spec returns shr-result returns-2)
+high-part-spec = tie.close (tie.spec returns (λ c. search needs) returns-2)

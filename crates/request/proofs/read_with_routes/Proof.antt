@@ -11,12 +11,9 @@ sound-routes-requires c κs = search (chosen-fits, needs)
 returns : tie.Need-returns
 returns c = search (with-unsound, needs)
 
-one-rule-requires : tie.Need-one-rule-requires
-one-rule-requires c κs = search needs
-
 returns-2 : tie.Need-returns-2
 returns-2 c = search (with-sound, needs)
 
 pub read-with-routes-spec : {M : Type 1} → statement M
 read-with-routes-spec =
-    tie.close (tie.spec (λ c κs. search needs) sound-routes-requires returns one-rule-requires returns-2)
+    tie.close (tie.spec (λ c κs. search needs) sound-routes-requires returns (λ c κs. search needs) returns-2)

@@ -4,15 +4,6 @@ use borrow.Author.Needs.{needs}
 use Rattle.route.proofs.all_agree.Statement.{statement}
 use Rattle.route.proofs.all_agree.Tie as tie
 
-enum-told : tie.Need-enum-told
-enum-told c = search needs
-
-enum-known-seen : tie.Need-enum-known-seen
-enum-known-seen c = search needs
-
-enum-told-2 : tie.Need-enum-told-2
-enum-told-2 c = search needs
-
 returns : tie.Need-returns
 unfolding agrees
 returns c = rw (c .enum-told .given .1)
@@ -27,4 +18,4 @@ returns-3 c = rw (c .enum-told2 .given .1)
 
 pub all-agree-spec : {M : Type 1} → statement M
 all-agree-spec =
-    tie.close (tie.spec enum-told enum-known-seen enum-told-2 returns returns-2 returns-3)
+    tie.close (tie.spec (λ c. search needs) (λ c. search needs) (λ c. search needs) returns returns-2 returns-3)

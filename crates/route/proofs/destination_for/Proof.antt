@@ -4,9 +4,6 @@ use borrow.Author.Needs.{needs}
 use Rattle.route.proofs.destination_for.Statement.{statement}
 use Rattle.route.proofs.destination_for.Tie as tie
 
-prefix-of-requires : tie.Need-prefix-of-requires
-prefix-of-requires c κs = search needs
-
 returns : tie.Need-returns
 returns c = search (one-prefix, needs)
 
@@ -14,4 +11,4 @@ returns-2 : tie.Need-returns-2
 returns-2 c = search (other-kind, needs)
 
 pub destination-for-spec : {M : Type 1} → statement M
-destination-for-spec = tie.close (tie.spec prefix-of-requires returns returns-2)
+destination-for-spec = tie.close (tie.spec (λ c κs. search needs) returns returns-2)

@@ -7,11 +7,8 @@ use Rattle.route.proofs.is_plain.Tie as tie
 returns : tie.Need-returns
 returns c = search (too-wide, needs)
 
-low-bits-requires : tie.Need-low-bits-requires
-low-bits-requires c κs = search needs
-
 returns-2 : tie.Need-returns-2
 returns-2 c = search (by-rest, needs)
 
 pub is-plain-spec : {M : Type 1} → statement M
-is-plain-spec = tie.close (tie.spec returns low-bits-requires returns-2)
+is-plain-spec = tie.close (tie.spec returns (λ c κs. search needs) returns-2)

@@ -4,24 +4,15 @@ use borrow.Author.Needs.{needs}
 use Rattle.route.proofs.is_validated.Statement.{statement}
 use Rattle.route.proofs.is_validated.Tie as tie
 
-enum-known-best : tie.Need-enum-known-best
-enum-known-best c = search needs
-
-enum-told : tie.Need-enum-told
-enum-told c = search needs
-
 returns : tie.Need-returns
 returns c = search (no-match, needs)
 
 returns-2 : tie.Need-returns-2
 returns-2 c = search (other-originator, needs)
 
-all-agree-requires : tie.Need-all-agree-requires
-all-agree-requires c κs = search needs
-
 returns-3 : tie.Need-returns-3
 returns-3 c = search (by-neighbour, needs)
 
 pub is-validated-spec : {M : Type 1} → statement M
 is-validated-spec =
-    tie.close (tie.spec enum-known-best enum-told returns returns-2 all-agree-requires returns-3)
+    tie.close (tie.spec (λ c. search needs) (λ c. search needs) returns returns-2 (λ c κs. search needs) returns-3)

@@ -17,29 +17,8 @@ abbrev μ-loop : tie.MeasureT-loop
 loop-holds : tie.Need-loop-holds Inv-loop μ-loop
 loop-holds c = search (pass-start, needs)
 
-sub-loop : tie.Need-sub-loop Inv-loop μ-loop
-sub-loop c = search needs
-
-route-at-requires : tie.Need-route-at-requires Inv-loop μ-loop
-route-at-requires c κs = search needs
-
-better-requires : tie.Need-better-requires Inv-loop μ-loop
-better-requires c κs = search needs
-
-note-neighbour-requires : tie.Need-note-neighbour-requires Inv-loop μ-loop
-note-neighbour-requires c κs = search needs
-
-add-at : tie.Need-add-at Inv-loop μ-loop
-add-at c = search needs
-
-loop-less : tie.Need-loop-less Inv-loop μ-loop
-loop-less c = search needs
-
 loop-again : tie.Need-loop-again Inv-loop μ-loop
 loop-again c = search (pass-on, needs)
-
-is-validated-requires : tie.Need-is-validated-requires Inv-loop μ-loop
-is-validated-requires c κs = search needs
 
 returns : tie.Need-returns Inv-loop μ-loop
 returns c = search (pass-end, needs)
@@ -51,12 +30,12 @@ judge-spec =
     Inv-loop
     μ-loop
     loop-holds
-    sub-loop
-    route-at-requires
-    better-requires
-    note-neighbour-requires
-    add-at
-    loop-less
+    (λ c. search needs)
+    (λ c κs. search needs)
+    (λ c κs. search needs)
+    (λ c κs. search needs)
+    (λ c. search needs)
+    (λ c. search needs)
     loop-again
-    is-validated-requires
+    (λ c κs. search needs)
     returns)

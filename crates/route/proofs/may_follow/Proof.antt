@@ -4,14 +4,8 @@ use borrow.Author.Needs.{needs}
 use Rattle.route.proofs.may_follow.Statement.{statement}
 use Rattle.route.proofs.may_follow.Tie as tie
 
-is-plain-requires : tie.Need-is-plain-requires
-is-plain-requires c κs = search needs
-
-rises-to-requires : tie.Need-rises-to-requires
-rises-to-requires c κs = search needs
-
 returns : tie.Need-returns
 returns c = search (by-both, needs)
 
 pub may-follow-spec : {M : Type 1} → statement M
-may-follow-spec = tie.close (tie.spec is-plain-requires rises-to-requires returns)
+may-follow-spec = tie.close (tie.spec (λ c κs. search needs) (λ c κs. search needs) returns)

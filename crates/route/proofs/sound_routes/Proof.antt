@@ -13,14 +13,8 @@ Inv-loop family words stride previous₀ at₀ previous at = Checked family word
 abbrev μ-loop : tie.MeasureT-loop
 μ-loop family words stride previous₀ at₀ previous at = length words - at
 
-mul-if1 : tie.Need-mul-if1 Inv-loop μ-loop
-mul-if1 c = search needs
-
 returns : tie.Need-returns Inv-loop μ-loop
 returns c = search (too-long, needs)
-
-rem-if2 : tie.Need-rem-if2 Inv-loop μ-loop
-rem-if2 c = search needs
 
 returns-2 : tie.Need-returns-2 Inv-loop μ-loop
 returns-2 c = search (left-over, needs)
@@ -28,35 +22,14 @@ returns-2 c = search (left-over, needs)
 returns-3 : tie.Need-returns-3 Inv-loop μ-loop
 returns-3 c = search (no-routes, needs)
 
-route-at-requires : tie.Need-route-at-requires Inv-loop μ-loop
-route-at-requires c κs = search needs
-
-is-plain-requires : tie.Need-is-plain-requires Inv-loop μ-loop
-is-plain-requires c κs = search needs
-
 returns-4 : tie.Need-returns-4 Inv-loop μ-loop
 returns-4 c = search (first-not-plain, needs)
 
 loop-holds : tie.Need-loop-holds Inv-loop μ-loop
 loop-holds c = search (check-start, needs)
 
-sub-loop : tie.Need-sub-loop Inv-loop μ-loop
-sub-loop c = search needs
-
-route-at-requires-2 : tie.Need-route-at-requires-2 Inv-loop μ-loop
-route-at-requires-2 c κs = search needs
-
-may-follow-requires : tie.Need-may-follow-requires Inv-loop μ-loop
-may-follow-requires c κs = search needs
-
 returns-5 : tie.Need-returns-5 Inv-loop μ-loop
 returns-5 c = search (not-following, needs)
-
-add-at : tie.Need-add-at Inv-loop μ-loop
-add-at c = search needs
-
-loop-less : tie.Need-loop-less Inv-loop μ-loop
-loop-less c = search needs
 
 loop-again : tie.Need-loop-again Inv-loop μ-loop
 loop-again c = search (check-on, needs)
@@ -70,20 +43,20 @@ sound-routes-spec =
     (tie.spec
     Inv-loop
     μ-loop
-    mul-if1
+    (λ c. search needs)
     returns
-    rem-if2
+    (λ c. search needs)
     returns-2
     returns-3
-    route-at-requires
-    is-plain-requires
+    (λ c κs. search needs)
+    (λ c κs. search needs)
     returns-4
     loop-holds
-    sub-loop
-    route-at-requires-2
-    may-follow-requires
+    (λ c. search needs)
+    (λ c κs. search needs)
+    (λ c κs. search needs)
     returns-5
-    add-at
-    loop-less
+    (λ c. search needs)
+    (λ c. search needs)
     loop-again
     returns-6)

@@ -27,17 +27,8 @@ returns-3 c = search (check-cut, needs)
 loop-holds : tie.Need-loop-holds Inv-loop μ-loop
 loop-holds c = search (check-walk, needs)
 
-next-component-requires : tie.Need-next-component-requires Inv-loop μ-loop
-next-component-requires c κs = search needs
-
-enum-told : tie.Need-enum-told Inv-loop μ-loop
-enum-told c = search needs
-
 returns-4 : tie.Need-returns-4 Inv-loop μ-loop
 returns-4 c = search (check-accepted, needs)
-
-enum-known-next : tie.Need-enum-known-next Inv-loop μ-loop
-enum-known-next c = search needs
 
 loop-less : tie.Need-loop-less Inv-loop μ-loop
 loop-less c = let l = c .before .before .before .before .loop in
@@ -46,9 +37,6 @@ loop-less c = let l = c .before .before .before .before .loop in
 
 loop-again : tie.Need-loop-again Inv-loop μ-loop
 loop-again c = search (check-on, needs)
-
-enum-known-next-2 : tie.Need-enum-known-next-2 Inv-loop μ-loop
-enum-known-next-2 c = search needs
 
 returns-5 : tie.Need-returns-5 Inv-loop μ-loop
 returns-5 c = search (check-refused, needs)
@@ -63,11 +51,11 @@ check-value-spec =
     returns-2
     returns-3
     loop-holds
-    next-component-requires
-    enum-told
+    (λ c κs. search needs)
+    (λ c. search needs)
     returns-4
-    enum-known-next
+    (λ c. search needs)
     loop-less
     loop-again
-    enum-known-next-2
+    (λ c. search needs)
     returns-5)

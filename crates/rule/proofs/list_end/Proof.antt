@@ -18,26 +18,14 @@ abbrev μ-loop : tie.MeasureT-loop
 loop-holds : tie.Need-loop-holds Inv-loop μ-loop
 loop-holds c = refl
 
-pair-at-requires : tie.Need-pair-at-requires Inv-loop μ-loop
-pair-at-requires c κs = search needs
-
-enum-known-pair : tie.Need-enum-known-pair Inv-loop μ-loop
-enum-known-pair c = search needs
-
 loop-less : tie.Need-loop-less Inv-loop μ-loop
 loop-less c = omega (arith, more-within _ _ (c .before .before .before .before .loop .at) _ (sym (c .before .before .before .pair-at .ensures) ∙ c .before .pair .given .1))
 
 loop-again : tie.Need-loop-again Inv-loop μ-loop
 loop-again c = search (list-on, needs)
 
-enum-known-pair-2 : tie.Need-enum-known-pair-2 Inv-loop μ-loop
-enum-known-pair-2 c = search needs
-
 returns : tie.Need-returns Inv-loop μ-loop
 returns c = search (list-last, needs)
-
-enum-known-pair-3 : tie.Need-enum-known-pair-3 Inv-loop μ-loop
-enum-known-pair-3 c = search needs
 
 returns-2 : tie.Need-returns-2 Inv-loop μ-loop
 returns-2 c = search (list-refused, needs)
@@ -49,11 +37,11 @@ list-end-spec =
     Inv-loop
     μ-loop
     loop-holds
-    pair-at-requires
-    enum-known-pair
+    (λ c κs. search needs)
+    (λ c. search needs)
     loop-less
     loop-again
-    enum-known-pair-2
+    (λ c. search needs)
     returns
-    enum-known-pair-3
+    (λ c. search needs)
     returns-2)

@@ -6,9 +6,6 @@ use borrow.Author.Needs.{needs}
 use Rattle.rule.proofs.shape_of.Statement.{statement}
 use Rattle.rule.proofs.shape_of.Tie as tie
 
-sub-t4 : tie.Need-sub-t4
-sub-t4 c = search needs
-
 returns : tie.Need-returns
 unfolding shapeOf
 returns c = rw (c .match .keys1)
@@ -31,4 +28,4 @@ returns-6 : tie.Need-returns-6
 returns-6 c = other-shape (c .before .before .before .args .family) _ (omega arith) (omega arith) (omega arith) (omega arith) (omega arith)
 
 pub shape-of-spec : {M : Type 1} → statement M
-shape-of-spec = tie.close (tie.spec sub-t4 returns returns-2 returns-3 returns-4 returns-5 returns-6)
+shape-of-spec = tie.close (tie.spec (λ c. search needs) returns returns-2 returns-3 returns-4 returns-5 returns-6)

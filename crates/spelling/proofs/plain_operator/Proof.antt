@@ -4,9 +4,6 @@ use borrow.Author.Needs.{needs}
 use Rattle.spelling.proofs.plain_operator.Statement.{statement}
 use Rattle.spelling.proofs.plain_operator.Tie as tie
 
-without-reserved-requires : tie.Need-without-reserved-requires
-without-reserved-requires c κs = search needs
-
 returns : tie.Need-returns
 unfolding plainOperator
 returns c = rw (c .before .without-reserved .ensures, c .if1 .taken)
@@ -16,4 +13,4 @@ unfolding plainOperator
 returns-2 c = rw (c .before .without-reserved .ensures, c .if1 .left)
 
 pub plain-operator-spec : {M : Type 1} → statement M
-plain-operator-spec = tie.close (tie.spec without-reserved-requires returns returns-2)
+plain-operator-spec = tie.close (tie.spec (λ c κs. search needs) returns returns-2)

@@ -41,23 +41,11 @@ module _ (c : tie.After-known-told Inv-loop μ-loop) where
 loop-holds : tie.Need-loop-holds Inv-loop μ-loop
 loop-holds c = search-starts _ _ _ (c .before .before .pre .1 .0)
 
-record-at-requires : tie.Need-record-at-requires Inv-loop μ-loop
-record-at-requires c κs = search needs
-
-enum-told : tie.Need-enum-told Inv-loop μ-loop
-enum-told c = search needs
-
 returns : tie.Need-returns Inv-loop μ-loop
 returns c = search (search-end, needs)
 
-enum-told-2 : tie.Need-enum-told-2 Inv-loop μ-loop
-enum-told-2 c = search needs
-
 returns-2 : tie.Need-returns-2 Inv-loop μ-loop
 returns-2 c = search (search-unsound, needs)
-
-enum-known-next : tie.Need-enum-known-next Inv-loop μ-loop
-enum-known-next c = search needs
 
 add-start : tie.Need-add-start Inv-loop μ-loop
 add-start c = omega (arith, found c)
@@ -71,27 +59,15 @@ part-compare-plain-start c = omega (arith, found c)
 part-compare-plain-end : tie.Need-part-compare-plain-end Inv-loop μ-loop
 part-compare-plain-end c = omega (arith, found c)
 
-compare-plain-requires : tie.Need-compare-plain-requires Inv-loop μ-loop
-compare-plain-requires c κs = search needs
-
-enum-told-3 : tie.Need-enum-told-3 Inv-loop μ-loop
-enum-told-3 c = search needs
-
 returns-3 : tie.Need-returns-3 Inv-loop μ-loop
 returns-3 c = let k = c .before .before .before .before in
     search-first _ _ _ _ (turn k .loop .inv) (start k .pre .0) _ (found-here k) (table-octets k) (value-octets k) (start k .pre .1 .1) _
     (c .before .before .compare-plain .ensures) (c .enum-told3 .given .1)
 
-enum-told-4 : tie.Need-enum-told-4 Inv-loop μ-loop
-enum-told-4 c = search needs
-
 returns-4 : tie.Need-returns-4 Inv-loop μ-loop
 returns-4 c = let k = c .before .before .before .before in
     search-same _ _ _ _ (turn k .loop .inv) (start k .pre .0) _ (found-here k) (table-octets k) (value-octets k) (start k .pre .1 .1) _
     (c .before .before .compare-plain .ensures) (c .enum-told4 .given .1)
-
-enum-told-5 : tie.Need-enum-told-5 Inv-loop μ-loop
-enum-told-5 c = search needs
 
 loop-less : tie.Need-loop-less Inv-loop μ-loop
 loop-less c = let k = c .before .before .before .before in omega (arith, found k, turn k .loop .inv .within)
@@ -108,21 +84,21 @@ find-spec =
     Inv-loop
     μ-loop
     loop-holds
-    record-at-requires
-    enum-told
+    (λ c κs. search needs)
+    (λ c. search needs)
     returns
-    enum-told-2
+    (λ c. search needs)
     returns-2
-    enum-known-next
+    (λ c. search needs)
     add-start
     sub-compare-plain
     part-compare-plain-start
     part-compare-plain-end
-    compare-plain-requires
-    enum-told-3
+    (λ c κs. search needs)
+    (λ c. search needs)
     returns-3
-    enum-told-4
+    (λ c. search needs)
     returns-4
-    enum-told-5
+    (λ c. search needs)
     loop-less
     loop-again)

@@ -43,23 +43,11 @@ returns c = search (test-long, needs)
 loop-holds : tie.Need-loop-holds Inv-loop μ-loop
 loop-holds c = test-starts _ _ (c .if1 .left)
 
-record-at-requires : tie.Need-record-at-requires Inv-loop μ-loop
-record-at-requires c κs = search needs
-
-enum-told : tie.Need-enum-told Inv-loop μ-loop
-enum-told c = search needs
-
 returns-2 : tie.Need-returns-2 Inv-loop μ-loop
 returns-2 c = search (test-end, needs)
 
-enum-told-2 : tie.Need-enum-told-2 Inv-loop μ-loop
-enum-told-2 c = search needs
-
 returns-3 : tie.Need-returns-3 Inv-loop μ-loop
 returns-3 c = search (test-unsound, needs)
-
-enum-known-next : tie.Need-enum-known-next Inv-loop μ-loop
-enum-known-next c = search needs
 
 sub-is-good-record : tie.Need-sub-is-good-record Inv-loop μ-loop
 sub-is-good-record c = omega (arith, found c)
@@ -102,12 +90,12 @@ sound-table-spec =
     μ-loop
     returns
     loop-holds
-    record-at-requires
-    enum-told
+    (λ c κs. search needs)
+    (λ c. search needs)
     returns-2
-    enum-told-2
+    (λ c. search needs)
     returns-3
-    enum-known-next
+    (λ c. search needs)
     sub-is-good-record
     part-is-good-record-start
     part-is-good-record-end

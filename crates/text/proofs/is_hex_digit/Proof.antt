@@ -4,15 +4,9 @@ use Rattle.text.specs.Hex.{isHexDigit}
 use Rattle.text.proofs.is_hex_digit.Statement.{statement}
 use Rattle.text.proofs.is_hex_digit.Tie as tie
 
-is-from-requires : tie.Need-is-from-requires
-is-from-requires c κs = search needs
-
-is-from-requires-2 : tie.Need-is-from-requires-2
-is-from-requires-2 c κs = search needs
-
 returns : tie.Need-returns
 unfolding isHexDigit
 returns c = rw (c .before .is-from .ensures, c .is-from2 .ensures)
 
 pub is-hex-digit-spec : {M : Type 1} → statement M
-is-hex-digit-spec = tie.close (tie.spec is-from-requires is-from-requires-2 returns)
+is-hex-digit-spec = tie.close (tie.spec (λ c κs. search needs) (λ c κs. search needs) returns)

@@ -20,32 +20,11 @@ abbrev μ-loop : tie.MeasureT-loop
 loop-holds : tie.Need-loop-holds Inv-loop μ-loop
 loop-holds c = (omega (arith, length-hexOf (c .before .before .args .s .now)), search needs, search needs, refl, refl)
 
-shared-slice-read-octet : tie.Need-shared-slice-read-octet Inv-loop μ-loop
-shared-slice-read-octet c = search needs
-
 hex-digit-requires : tie.Need-hex-digit-requires Inv-loop μ-loop
 hex-digit-requires c κs = omega (arith, c .shared-slice-known2 .given (c .before .before .loop .i))
 
-hex-digit-requires-2 : tie.Need-hex-digit-requires-2 Inv-loop μ-loop
-hex-digit-requires-2 c κs = search needs
-
-put-octet-requires : tie.Need-put-octet-requires Inv-loop μ-loop
-put-octet-requires c κs = search needs
-
-put-octet-requires-2 : tie.Need-put-octet-requires-2 Inv-loop μ-loop
-put-octet-requires-2 c κs = search needs
-
-add-i : tie.Need-add-i Inv-loop μ-loop
-add-i c = search needs
-
-loop-less : tie.Need-loop-less Inv-loop μ-loop
-loop-less c = search needs
-
 loop-again : tie.Need-loop-again Inv-loop μ-loop
 loop-again c = (search needs, search needs, search needs, search needs, search (hex-more, needs))
-
-same-length : tie.Need-same-length Inv-loop μ-loop
-same-length c = search needs
 
 returns : tie.Need-returns Inv-loop μ-loop
 unfolding hexOf
@@ -60,13 +39,13 @@ put-hex-spec =
     Inv-loop
     μ-loop
     loop-holds
-    shared-slice-read-octet
+    (λ c. search needs)
     hex-digit-requires
-    hex-digit-requires-2
-    put-octet-requires
-    put-octet-requires-2
-    add-i
-    loop-less
+    (λ c κs. search needs)
+    (λ c κs. search needs)
+    (λ c κs. search needs)
+    (λ c. search needs)
+    (λ c. search needs)
     loop-again
-    same-length
+    (λ c. search needs)
     returns)

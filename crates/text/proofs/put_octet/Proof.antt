@@ -6,24 +6,12 @@ use Rattle.text.proofs.PrintLaws.{laid-one}
 use Rattle.text.proofs.put_octet.Statement.{statement}
 use Rattle.text.proofs.put_octet.Tie as tie
 
-add-result : tie.Need-add-result
-add-result c = search needs
-
 returns : tie.Need-returns
 returns c = (sym (laid-one _ _ _ ∙ set-out _ _ _ (search needs)), refl)
-
-slice-write-out : tie.Need-slice-write-out
-slice-write-out c = search needs
-
-add-result-2 : tie.Need-add-result-2
-add-result-2 c = search needs
-
-same-length : tie.Need-same-length
-same-length c = search needs
 
 returns-2 : tie.Need-returns-2
 returns-2 c = (sym (laid-one _ _ _), refl)
 
 pub put-octet-spec : {M : Type 1} → statement M
 put-octet-spec =
-    tie.close (tie.spec add-result returns slice-write-out add-result-2 same-length returns-2)
+    tie.close (tie.spec (λ c. search needs) returns (λ c. search needs) (λ c. search needs) (λ c. search needs) returns-2)

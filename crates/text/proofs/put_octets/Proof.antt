@@ -14,26 +14,8 @@ Inv-loop out₀ at s place₀ i₀ out place i = (i ≤ length s) × (place ≡ 
 abbrev μ-loop : tie.MeasureT-loop
 μ-loop out₀ at s place₀ i₀ out place i = length s - i
 
-loop-holds : tie.Need-loop-holds Inv-loop μ-loop
-loop-holds c = search needs
-
-shared-slice-read-put-octet : tie.Need-shared-slice-read-put-octet Inv-loop μ-loop
-shared-slice-read-put-octet c = search needs
-
-put-octet-requires : tie.Need-put-octet-requires Inv-loop μ-loop
-put-octet-requires c κs = search needs
-
-add-i : tie.Need-add-i Inv-loop μ-loop
-add-i c = search needs
-
-loop-less : tie.Need-loop-less Inv-loop μ-loop
-loop-less c = search needs
-
 loop-again : tie.Need-loop-again Inv-loop μ-loop
 loop-again c = (search needs, search needs, search needs, search (put-more, needs))
-
-same-length : tie.Need-same-length Inv-loop μ-loop
-same-length c = search needs
 
 returns : tie.Need-returns Inv-loop μ-loop
 returns c = (search (put-all, drop-of-length-le, needs), search needs)
@@ -44,11 +26,11 @@ put-octets-spec =
     (tie.spec
     Inv-loop
     μ-loop
-    loop-holds
-    shared-slice-read-put-octet
-    put-octet-requires
-    add-i
-    loop-less
+    (λ c. search needs)
+    (λ c. search needs)
+    (λ c κs. search needs)
+    (λ c. search needs)
+    (λ c. search needs)
     loop-again
-    same-length
+    (λ c. search needs)
     returns)

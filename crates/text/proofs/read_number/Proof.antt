@@ -17,29 +17,17 @@ Inv-loop text number₀ i₀ number i = (number < 2 ^ 32) × (readNumber text �
 abbrev μ-loop : tie.MeasureT-loop
 μ-loop text number₀ i₀ number i = length text - i
 
-starts-well-requires : tie.Need-starts-well-requires Inv-loop μ-loop
-starts-well-requires c κs = search needs
-
 returns : tie.Need-returns Inv-loop μ-loop
 returns c = search (number-not, needs)
 
 loop-holds : tie.Need-loop-holds Inv-loop μ-loop
 loop-holds c = (search needs, search (number-starts, needs))
 
-shared-slice-read-sign : tie.Need-shared-slice-read-sign Inv-loop μ-loop
-shared-slice-read-sign c = search needs
-
-is-from-requires : tie.Need-is-from-requires Inv-loop μ-loop
-is-from-requires c κs = search needs
-
 returns-2 : tie.Need-returns-2 Inv-loop μ-loop
 returns-2 c = search (goes-not, needs)
 
 sub-digit : tie.Need-sub-digit Inv-loop μ-loop
 sub-digit c = search (low-decimal, not-false, needs)
-
-mul-number : tie.Need-mul-number Inv-loop μ-loop
-mul-number c = search needs
 
 cast-number : tie.Need-cast-number Inv-loop μ-loop
 cast-number c = omega (arith, c .before .before .shared-slice-known2 .given (c .before .before .before .before .loop .i))
@@ -51,17 +39,8 @@ returns-3 : tie.Need-returns-3 Inv-loop μ-loop
 returns-3 c = let l = c .before .before .before .before .before .loop in
     goes-past _ (l .i) _ _ (l .inv .1) _ (c .before .before .is-from .ensures) (omega arith) (c .before .if2 .left) (omega arith)
 
-add-i : tie.Need-add-i Inv-loop μ-loop
-add-i c = search needs
-
-loop-less : tie.Need-loop-less Inv-loop μ-loop
-loop-less c = search needs
-
 loop-again : tie.Need-loop-again Inv-loop μ-loop
 loop-again c = (search needs, search (goes-more, needs))
-
-cast-read : tie.Need-cast-read Inv-loop μ-loop
-cast-read c = search needs
 
 returns-4 : tie.Need-returns-4 Inv-loop μ-loop
 returns-4 c = search (goes-all, needs)
@@ -72,19 +51,19 @@ read-number-spec =
     (tie.spec
     Inv-loop
     μ-loop
-    starts-well-requires
+    (λ c κs. search needs)
     returns
     loop-holds
-    shared-slice-read-sign
-    is-from-requires
+    (λ c. search needs)
+    (λ c κs. search needs)
     returns-2
     sub-digit
-    mul-number
+    (λ c. search needs)
     cast-number
     add-number
     returns-3
-    add-i
-    loop-less
+    (λ c. search needs)
+    (λ c. search needs)
     loop-again
-    cast-read
+    (λ c. search needs)
     returns-4)

@@ -19,44 +19,8 @@ abbrev μ-loop : tie.MeasureT-loop
 loop-holds : tie.Need-loop-holds Inv-loop μ-loop
 loop-holds c = (search needs, refl, refl)
 
-mul-first : tie.Need-mul-first Inv-loop μ-loop
-mul-first c = search needs
-
-add-second : tie.Need-add-second Inv-loop μ-loop
-add-second c = search needs
-
-shared-slice-read-hex-value : tie.Need-shared-slice-read-hex-value Inv-loop μ-loop
-shared-slice-read-hex-value c = search needs
-
-hex-value-requires : tie.Need-hex-value-requires Inv-loop μ-loop
-hex-value-requires c κs = search needs
-
-shared-slice-read-hex-value-2 : tie.Need-shared-slice-read-hex-value-2 Inv-loop μ-loop
-shared-slice-read-hex-value-2 c = search needs
-
-hex-value-requires-2 : tie.Need-hex-value-requires-2 Inv-loop μ-loop
-hex-value-requires-2 c κs = search needs
-
-mul-put-octet : tie.Need-mul-put-octet Inv-loop μ-loop
-mul-put-octet c = search needs
-
-add-put-octet : tie.Need-add-put-octet Inv-loop μ-loop
-add-put-octet c = search needs
-
-put-octet-requires : tie.Need-put-octet-requires Inv-loop μ-loop
-put-octet-requires c κs = search needs
-
-add-i : tie.Need-add-i Inv-loop μ-loop
-add-i c = search needs
-
-loop-less : tie.Need-loop-less Inv-loop μ-loop
-loop-less c = search needs
-
 loop-again : tie.Need-loop-again Inv-loop μ-loop
 loop-again c = (search needs, search needs, search (read-more, needs))
-
-same-length : tie.Need-same-length Inv-loop μ-loop
-same-length c = search needs
 
 returns : tie.Need-returns Inv-loop μ-loop
 returns c = let text = c .before .before .before .before .args .text .now in
@@ -69,17 +33,17 @@ read-octets-spec =
     Inv-loop
     μ-loop
     loop-holds
-    mul-first
-    add-second
-    shared-slice-read-hex-value
-    hex-value-requires
-    shared-slice-read-hex-value-2
-    hex-value-requires-2
-    mul-put-octet
-    add-put-octet
-    put-octet-requires
-    add-i
-    loop-less
+    (λ c. search needs)
+    (λ c. search needs)
+    (λ c. search needs)
+    (λ c κs. search needs)
+    (λ c. search needs)
+    (λ c κs. search needs)
+    (λ c. search needs)
+    (λ c. search needs)
+    (λ c κs. search needs)
+    (λ c. search needs)
+    (λ c. search needs)
     loop-again
-    same-length
+    (λ c. search needs)
     returns)

@@ -10,11 +10,8 @@ returns c = search (well-none, needs)
 returns-2 : tie.Need-returns-2
 returns-2 c = search (well-one, needs)
 
-shared-slice-read-result : tie.Need-shared-slice-read-result
-shared-slice-read-result c = search needs
-
 returns-3 : tie.Need-returns-3
 returns-3 c = search (well-many, needs)
 
 pub starts-well-spec : {M : Type 1} → statement M
-starts-well-spec = tie.close (tie.spec returns returns-2 shared-slice-read-result returns-3)
+starts-well-spec = tie.close (tie.spec returns returns-2 (λ c. search needs) returns-3)
