@@ -7,7 +7,7 @@ use native.Mathlib.Omega.{arith}
 use lib.Dec.{leb, ltb, eqb}
 use lib.ListN.{length, getD}
 use borrow.Author.Tests.{le-leb, lt-leb, lt-ltb, le-ltb, leb-true, leb-false, ltb-false, eqb-false}
-use Rattle.octets.specs.Walk.{Step, more, last, stop, Walk, before}
+use Rattle.octets.specs.Walk.{Step, more, last, stop, Walk, before, through}
 use Rattle.octets.proofs.Cases.{by-test, apart}
 use Rattle.octets.proofs.WalkLaws.{walk-stop, walk-last, walk-more, walk-ind}
 use Rattle.rule.specs.declared.Family.{Family}
@@ -20,7 +20,7 @@ use Rattle.rule.specs.declared.Next.{Next}
 use Rattle.rule.specs.declared.Next.the-variants.{Nothing, Another, Refused}
 use Rattle.rule.specs.Shape.{shapeOf}
 use Rattle.rule.specs.Operator.{endsList, sizeOf}
-use Rattle.rule.specs.Component.{pairAt, Pair, pairOf, pairStep, through, pairsFrom, leadOf, offsetAt, prefixEnd, bodyEnd, found, componentAt}
+use Rattle.rule.specs.Component.{pairAt, Pair, pairOf, pairStep, pairsFrom, leadOf, offsetAt, prefixEnd, bodyEnd, found, componentAt}
 
 -- how `pair_at` comes to each of its answers
 module _ (largest : ℕ) (v : List ℕ) (at : ℕ) where

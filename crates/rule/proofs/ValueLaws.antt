@@ -7,7 +7,7 @@ use native.Mathlib.Omega.{arith}
 use lib.Dec.{ltb, eqb}
 use lib.ListN.{length, getD}
 use borrow.Author.Tests.{ltb-false, lt-ltb, le-ltb, eqb-false}
-use Rattle.octets.specs.Walk.{Step, more, last, stop, Walk, before}
+use Rattle.octets.specs.Walk.{Step, more, last, stop, Walk, before, through}
 use Rattle.octets.proofs.Cases.{by-test, apart}
 use Rattle.octets.proofs.WalkLaws.{walk-stop, walk-more, walk-ind}
 use Rattle.rule.specs.declared.Family.{Family}
@@ -17,7 +17,7 @@ use Rattle.rule.specs.declared.Next.{Next}
 use Rattle.rule.specs.declared.Next.the-variants.{Nothing, Another, Refused as RefusedNext}
 use Rattle.rule.specs.declared.Checked.{Checked}
 use Rattle.rule.specs.declared.Checked.the-variants.{Accepted, Refused}
-use Rattle.rule.specs.Component.{through, bodyEnd, found, componentAt}
+use Rattle.rule.specs.Component.{bodyEnd, found, componentAt}
 use Rattle.rule.specs.Value.{mostValue, Component, between, Progress, componentStep, componentsFrom, checkValue}
 use Rattle.rule.proofs.ComponentLaws.{component-cases, Within, Met, EndWithin, body-within}
 use Rattle.rule.proofs.Refusal.{Refusal, placeless}

@@ -6,7 +6,7 @@ use mathlib.Core.List.{List}
 use lib.Dec.{leb, ltb, eqb}
 use lib.ListN.{length, getD}
 use Rattle.octets.specs.Number.{numberAt}
-use Rattle.octets.specs.Walk.{Step, more, last, stop, Walk, walk}
+use Rattle.octets.specs.Walk.{Step, more, last, stop, Walk, through}
 use Rattle.rule.specs.declared.Family.{Family}
 use Rattle.rule.specs.declared.NextPair.{NextPair}
 use Rattle.rule.specs.declared.NextPair.the-variants.{More, Last, Refused as RefusedPair}
@@ -42,11 +42,6 @@ abbrev pub pairStep : List ℕ → ℕ → NextPair → Step ℕ Pair BodyEnd
 pairStep v at (More next) = more (pairOf v at next) next
 pairStep v at (Last next) = last (pairOf v at next) (At next)
 pairStep v at (RefusedPair number place) = stop (RefusedBody number place)
-
--- A walk through octets: a step for each of them and one more, which are enough, since every step moves on. The ending `out` stands for too
--- few steps and never shows: the laws `pairs-any` and `components-any`.
-abbrev pub through : {S A E : Type 0} → List ℕ → E → (S → Step S A E) → S → Walk A E
-through v out step s = walk (length v + 1) out step s
 
 -- The pairs of a list from a place on, and where the list ends.
 unfoldable pub pairsFrom : ℕ → List ℕ → ℕ → Walk Pair BodyEnd

@@ -5,13 +5,13 @@ use mathlib.Core.Bool.{cond, _||_}
 use mathlib.Core.List.{List, [], _∷_, _++_}
 use lib.Dec.{ltb, eqb}
 use lib.ListN.{length, take, drop}
-use Rattle.octets.specs.Walk.{Step, more, stop, Walk}
+use Rattle.octets.specs.Walk.{Step, more, stop, Walk, through}
 use Rattle.rule.specs.declared.Family.{Family}
 use Rattle.rule.specs.declared.Next.{Next}
 use Rattle.rule.specs.declared.Next.the-variants.{Nothing, Another, Refused as RefusedNext}
 use Rattle.rule.specs.declared.Checked.{Checked}
 use Rattle.rule.specs.declared.Checked.the-variants.{Accepted, Refused}
-use Rattle.rule.specs.Component.{through, componentAt}
+use Rattle.rule.specs.Component.{componentAt}
 
 -- The octets a value has at most.
 abbrev pub mostValue : ℕ
