@@ -8,12 +8,11 @@ use lib.ListN.{length, getD}
 use Rattle.octets.specs.Number.{numberAt}
 use Rattle.rule.specs.declared.Family.{Family}
 
--- RFC 4760, "Address Family Identifier (AFI)": IANA's number for a family, 1 for IP version 4. A family of another version has no AFI here:
--- 65,536 does not stand in two octets, so that none of its attributes is taken.
+-- RFC 4760, "Address Family Identifier (AFI)": IANA's number for a family, 1 for IP version 4 and 2 for IP version 6.
 unfoldable pub afiOf : Family → ℕ
-afiOf family = cond (eqb (family .version) 4) 1 65536
+afiOf family = cond (eqb (family .version) 4) 1 2
 
--- RFC 8955 section 4: "SAFI=133", the "Subsequent Address Family Identifier" of flow rules.
+-- RFC 8955 section 4, and RFC 8956 section 2 for AFI 2: "SAFI=133", the "Subsequent Address Family Identifier" of flow rules.
 abbrev pub flowSafi : ℕ
 flowSafi = 133
 

@@ -1,4 +1,4 @@
--- When an attribute is refused, said a second time. 19: by the octets of an attribute of IPv4 that is taken, written out; that the tests of
+-- When an attribute is refused, said a second time. 19: by the octets of an attribute that is taken, written out; that the tests of
 -- Head.antt hold exactly there is shown in proofs/HeadLaws.antt. 1 to 7: by the places where rules begin in it, one of them is refused and
 -- all before it are accepted, or all are; that the walk over the rules (Rules.antt) ends so is shown in proofs/RefusalsLaws.antt.
 use Prim.Native.Nat.{ℕ, _+_, _<_, _≤_}
@@ -8,18 +8,20 @@ use lib.ListN.{length, drop}
 use Rattle.rule.specs.declared.Family.{Family}
 use Rattle.rule.specs.declared.Checked.the-variants.{Accepted, Refused}
 use Rattle.rule.specs.Reading.{ruleEnd, checkRule}
+use Rattle.attribute.specs.Head.{afiOf}
 
--- RFC 4760 section 3, for IPv4's flow rules: AFI 1, SAFI 133, a next hop of length 0, a reserved octet that may be anything, and something.
-pub record ReachOctets (attribute : List ℕ) : Type 0 where
+-- RFC 4760 section 3, for a family's flow rules: its AFI in two octets, SAFI 133, a next hop of length 0, a reserved octet that may be
+-- anything, and something.
+pub record ReachOctets (family : Family) (attribute : List ℕ) : Type 0 where
   pub reserved : ℕ
   pub first : ℕ
   pub rest : List ℕ
-  pub is : attribute ≡ 0 ∷ 1 ∷ 133 ∷ 0 ∷ reserved ∷ first ∷ rest
+  pub is : attribute ≡ 0 ∷ afiOf family ∷ 133 ∷ 0 ∷ reserved ∷ first ∷ rest
 
--- Section 4, for the same: AFI 1, SAFI 133, and whatever follows.
-pub record UnreachOctets (attribute : List ℕ) : Type 0 where
+-- Section 4, for the same: its AFI, SAFI 133, and whatever follows.
+pub record UnreachOctets (family : Family) (attribute : List ℕ) : Type 0 where
   pub rest : List ℕ
-  pub is : attribute ≡ 0 ∷ 1 ∷ 133 ∷ rest
+  pub is : attribute ≡ 0 ∷ afiOf family ∷ 133 ∷ rest
 
 -- In an attribute a rule begins, or the attribute ends, at a place: the first behind the head, each other behind an accepted rule.
 pub data RuleBegins (family : Family) (attribute : List ℕ) (head : ℕ) : ℕ → Type 0 where

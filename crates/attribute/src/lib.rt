@@ -34,14 +34,14 @@ pub enum Counted {
 
 // ---- The head (RFC 4760 sections 3 and 4) ----
 
-// The AFI of a family: 1 for IP version 4, and for any other a number that two octets do not hold.
+// The AFI of a family: 1 for IP version 4 and 2 for IP version 6.
 fn afi_of(family: Family) -> u64
     ensures { λ r. ⌜ r ≡ afiOf family ⌝ }
 {
     if family.version == 4 {
         return 1;
     }
-    0x1_0000
+    2
 }
 
 // Whether an attribute's AFI and SAFI are those of a family's flow rules.

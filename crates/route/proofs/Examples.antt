@@ -5,8 +5,7 @@ use mathlib.Core.List.{List, [], _∷_, _++_}
 use Prim.Native.Nat.{ℕ, _*_, _^_}
 use Rattle.octets.specs.Test.{every, sameList}
 use Rattle.prefix.specs.Prefix.{bits, coversAddress, contains}
-use Rattle.rule.specs.declared.Family.{Family}
-use Rattle.rule.specs.Family.{ipv4}
+use Rattle.rule.specs.Family.{ipv4, ipv6}
 use Rattle.route.specs.Route.{numberInWords, routeAt, routesFrom, routesOf, plainPrefix, rises, rising, soundRoutes}
 use Rattle.route.specs.Destination.{Destination, Missing, At}
 use Rattle.route.specs.Feasible.{coveredBy, moreSpecific, longer, matched, bestMatch, undisputed, judged, feasible}
@@ -57,10 +56,6 @@ pub examples : (by one false (to 0xc0000200 25) 7
 unfolding every bits sameList coversAddress contains numberInWords routeAt routesFrom routesOf coveredBy moreSpecific longer matched bestMatch undisputed judged feasible
 examples = refl
 
--- a family with addresses of 128 bits, in four words, and offsets
-abbrev wide : Family
-wide = record { highest = 13; width = 128; head = 0; offsets = true; fragment = 0x0e; icmp = 58; version = 6; words = 7 }
-
 -- 2001:db8::/32 of originator 7 and AS 64500, and 2001:db8:0:1::/64 of AS 64501
 abbrev long : List ℕ
 long = 0x20010db8 ∷ 0 ∷ 0 ∷ 0 ∷ 32 ∷ 7 ∷ 64500 ∷ 0x20010db8 ∷ 1 ∷ 0 ∷ 0 ∷ 64 ∷ 7 ∷ 64501 ∷ []
@@ -68,12 +63,12 @@ long = 0x20010db8 ∷ 0 ∷ 0 ∷ 0 ∷ 32 ∷ 7 ∷ 64500 ∷ 0x20010db8 ∷ 1 
 -- whether a rule to these bits of 2001:db8:: is feasible by them
 abbrev widely : ℕ → ℕ → Bool
 widely offset length =
-    feasible 128 true (At (record { offset = offset; length = length; address = 0x20010db8 * 2 ^ 96 })) 7 (routesOf wide long)
+    feasible 128 true (At (record { offset = offset; length = length; address = 0x20010db8 * 2 ^ 96 })) 7 (routesOf ipv6 long)
 
 -- the list is sound, with a bit past the length it is not; 2001:db8::/64 is feasible, 2001:db8::/32 is disputed by the other route, and
 -- RFC 8956 section 5: a destination with an offset is infeasible, as no route covers it
-pub longs : (soundRoutes wide long
-    ∷ soundRoutes wide (0x20010db8 ∷ 0 ∷ 0 ∷ 1 ∷ 32 ∷ 7 ∷ 64500 ∷ [])
+pub longs : (soundRoutes ipv6 long
+    ∷ soundRoutes ipv6 (0x20010db8 ∷ 0 ∷ 0 ∷ 1 ∷ 32 ∷ 7 ∷ 64500 ∷ [])
     ∷ widely 0 64
     ∷ widely 0 32
     ∷ widely 1 64

@@ -3,14 +3,14 @@ use mathlib.Core.Path.{_≡_, refl, ap, sym, _∙_}
 use mathlib.Core.Bool.{true, _&&_}
 use mathlib.Core.List.{List, [], _∷_, List·Memᴰ, List·Memᴰ·cases-cons, List·Memᴰ·not-nil}
 use mathlib.Core.Logic.{_⊎_, inl, inr, ⊎-elim}
-use Prim.Native.Nat.{ℕ, zero, suc, _+_, _-_, _*_, _/_, _%_, _^_, _<_}
+use Prim.Native.Nat.{ℕ, zero, suc, _+_, _-_, _*_, _/_, _%_, _^_, _<_, _≤_}
 use native.Mathlib.Decide.{decLt}
-use native.Mathlib.Nat.{sub-zero, mul-suc}
+use native.Mathlib.Nat.{sub-zero, mul-suc, mul-le-mul-right, mul-mod-left}
 use native.Mathlib.Omega.{arith}
 use lib.Dec.{leb, ltb, eqb, lit<}
 use lib.Pow.{pow-add}
 use lib.ListN.{length, getD}
-use borrow.Author.Tests.{lt-ltb, le-ltb, ltb-true, leb-true, eq-eqb, eqb-true}
+use borrow.Author.Tests.{lt-ltb, le-ltb, ltb-true, leb-true, leb-false, le-leb, lt-leb, eq-eqb, eqb-true}
 use Rattle.octets.specs.Test.{every}
 use Rattle.octets.proofs.Cases.{by-test, both}
 use Rattle.octets.proofs.TestLaws.{every-both}
@@ -150,3 +150,17 @@ module _ (family : Family) (ws : List ℕ) (sound : soundRoutes family ws ≡ tr
   sound-formed F fits r m =
       let h = routes-spelled family F ws fits (length ws / family .words) 0 r m in
       plain-formed (family .width) (r .prefix) (every-plain (family .width) (routesOf family ws) (routes-sound .0) r m) (h .offset) (h .fits)
+
+-- so many routes: up to 4,096 of them are not too many, whatever words one has, and one more is
+pub route-limit : (family : Family) → 0 < family .words → (ws : List ℕ) (n : ℕ) → length ws ≡ n * family .words
+    → soundRoutes family ws ≡ leb n 4096 && (every (λ (r : Route). plainPrefix (family .width) (r .prefix)) (routesOf family ws) && rising (routesOf family ws))
+unfolding soundRoutes
+route-limit family some ws n e =
+    let limit : leb (n * family .words) (mostRoutes * family .words) ≡ leb n 4096 =
+    by-test (leb n 4096)
+    (λ t. rw t (le-leb (n * family .words) (mostRoutes * family .words) (mul-le-mul-right (family .words) (leb-true n 4096 t))))
+    (λ t.
+    let over : 4097 ≤ n = leb-false n 4096 t in
+    let more = mul-le-mul-right (family .words) over in
+    rw t (lt-leb (n * family .words) (mostRoutes * family .words) (omega arith))) in
+    rw (e, mul-mod-left n (family .words), limit)

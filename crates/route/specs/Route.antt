@@ -29,7 +29,8 @@ numberInWords (suc n) words at = numberInWords n words at * 2 ^ 32 + getD words 
 abbrev pub addressWords : Family → ℕ
 addressWords family = family .words - 3
 
--- 01: "four a route: address, length, originator, neighbour AS": the route whose words begin at a place.
+-- 01: "four a route: address, length, originator, neighbour AS"; 2026-04: "Routes are lent as words with four-word addresses", so that one of
+-- IPv6 has seven. The route whose words begin at a place.
 unfoldable pub routeAt : Family → List ℕ → ℕ → Route
 routeAt family words at =
     record {

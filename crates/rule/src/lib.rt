@@ -5,7 +5,7 @@
 ghost use mathlib.Core.Path.{_≡_};
 ghost use Prim.Native.Nat.{_<_, _≤_};
 ghost use lib.ListN.{length};
-ghost use Rattle.rule.specs.Family.{ipv4, familyOf};
+ghost use Rattle.rule.specs.Family.{ipv4, ipv6, familyOf};
 ghost use Rattle.rule.specs.Shape.{shapeOf};
 ghost use Rattle.rule.specs.Operator.{endsList, sizeOf};
 ghost use Rattle.rule.specs.Component.{pairAt, pairsFrom, leadOf, offsetAt, prefixEnd, bodyEnd, componentAt};
@@ -22,6 +22,7 @@ pub const MOST_VALUE: usize = 4095;
 // The families of addresses whose rules are known (RFC 4760's address family).
 pub enum AddressFamily {
     Ipv4,
+    Ipv6,
 }
 
 // What a family of addresses decides: the highest component type; the bits of an address; the octets before the first component;
@@ -105,12 +106,29 @@ pub fn ipv4() -> Family
     }
 }
 
+// IPv6 (RFC 8956).
+pub fn ipv6() -> Family
+    ensures { λ r. ⌜ r ≡ ipv6 ⌝ }
+{
+    Family {
+        highest: 13,
+        width: 128,
+        head: 0,
+        offsets: true,
+        fragment: 0x0e,
+        icmp: 58,
+        version: 6,
+        words: 7,
+    }
+}
+
 // What a family of addresses decides.
 pub fn family_of(which: AddressFamily) -> Family
     ensures { λ r. ⌜ r ≡ familyOf which ⌝ }
 {
     match which {
         AddressFamily::Ipv4 => ipv4(),
+        AddressFamily::Ipv6 => ipv6(),
     }
 }
 

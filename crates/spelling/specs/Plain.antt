@@ -64,7 +64,7 @@ plainOperator bitmask first x =
     cond first (bitAnd operator 0xbf) operator
 
 -- A value, or an octet of one, without the bits to be ignored, which `shapeOf` says by type; 01: "the top two bits of a DSCP value; the top
--- four of a fragment value".
+-- four of a fragment value", of which IPv6 ignores 0x01 too.
 unfoldable pub plainOperand : ℕ → ℕ → ℕ
 plainOperand ignored x = x - bitAnd x ignored
 
