@@ -2,9 +2,9 @@
 -- Assumes nothing.
 use mathlib.Core.Path.{_≡_, refl, ap, ap₂, sym, _∙_}
 use mathlib.Core.Bool.{Bool, true, false, _&&_, _||_, or-true, and-false}
-use mathlib.Core.List.{_∷_, head-eq-of-cons-eq, tail-eq-of-cons-eq}
+use mathlib.Core.List.{List, _∷_, head-eq-of-cons-eq, tail-eq-of-cons-eq}
 use mathlib.Core.Logic.{⊎-elim}
-use Prim.Native.Nat.{ℕ, _+_, _-_, _*_, _/_, _%_, _^_, _≤_, _<_}
+use Prim.Native.Nat.{ℕ, _+_, _-_, _*_, _/_, _%_, _^_, _≤_, _<_, min}
 use native.Mathlib.Omega.{arith}
 use native.Mathlib.Decide.{decLt}
 use native.Mathlib.Nat.{mod-lt, mod-eq-of-lt}
@@ -52,6 +52,11 @@ module _ (w : ℕ) (p q : Pattern) where
   unfolding contains
   by-bits r o h e = rw (eq-eqb (p .offset) (q .offset) o, le-leb (p .length) (q .length) h) e
 
+-- lists are the same either way round
+same-sym : (x y : List ℕ) → sameList x y ≡ sameList y x
+same-sym x y =
+    same-test (sameList x y) (sameList y x) (λ t. rw (same-list x y t) (list-same y)) (λ t. rw (same-list y x t) (list-same x))
+
 -- of two patterns one contains the other where the one that is no longer contains the other
 module _ (w : ℕ) (p q : Pattern) where
   both-ways : p .length ≤ q .length → contains w q p ≡ true → contains w p q ≡ true
@@ -63,13 +68,31 @@ module _ (w : ℕ) (p q : Pattern) where
       = λ a. ap₂ (λ m n. bitsBetween w m n a) (i .aligned) (sym long) in
       says-contains w p q (record { aligned = sym (i .aligned); longer = h; begins = sym (at (p .address)) ∙ sym (i .begins) ∙ at (q .address) })
 
-  pub nested-longer : (r : Bool) → p .length ≤ q .length → r ≡ contains w p q → r ≡ (contains w p q || contains w q p)
+  nested-longer : (r : Bool) → p .length ≤ q .length → r ≡ contains w p q → r ≡ (contains w p q || contains w q p)
   nested-longer r h e =
       e ∙ same-test (contains w p q) (contains w p q || contains w q p) (λ t. rw t)
       (λ t. by-test (contains w p q) (λ u. u) (λ u. both-ways h (rw u at t)))
 
-  pub nested-shorter : (r : Bool) → q .length < p .length → r ≡ contains w q p → r ≡ (contains w p q || contains w q p)
+  nested-shorter : (r : Bool) → q .length < p .length → r ≡ contains w q p → r ≡ (contains w p q || contains w q p)
   nested-shorter r h e = e ∙ rw (← no-shorter w p q h)
+
+  -- how the code comes to its answer: by the offsets, or by the bits up to the lesser length
+  pub apart-offsets : (p .offset ≡ q .offset → ⊥) → false ≡ (contains w p q || contains w q p)
+  apart-offsets h = rw (← other-offset w p q h, ← other-offset w q p (λ e. h (sym e)))
+
+  pub nested-by-bits : (r : Bool) (shared : ℕ) → p .offset ≡ q .offset → shared ≡ min (p .length) (q .length)
+      → r ≡ sameList (bitsBetween w (p .offset) shared (p .address)) (bitsBetween w (p .offset) shared (q .address))
+      → r ≡ (contains w p q || contains w q p)
+  unfolding coversAddress
+  nested-by-bits r shared o s e =
+      elim (decLt (q .length) (p .length)) [
+        | yes h ↦
+            let is : shared ≡ q .length = omega arith in
+            nested-shorter r h (by-bits w q p r (sym o) (omega arith) (e ∙ same-sym _ _ ∙ rw (is, o) refl))
+        | no h ↦
+            let is : shared ≡ p .length = omega arith in
+            nested-longer r (omega arith) (by-bits w p q r o (omega arith) (e ∙ rw is refl))
+      ]
 
 -- every pattern contains itself
 pub contains-self : (w : ℕ) (p : Pattern) → contains w p p ≡ true

@@ -183,6 +183,16 @@ by-masks w m n highest lowest up down upper lower a b ah bh al bl e f g h i j p 
     (sym (same-words 64 2 w m n (addressOf a) (addressOf b) (two-fit 64 (a .high) (a .low) ah al) (two-fit 64 (b .high) (b .low) bh bl)
     ∙ two-agree 64 (w - m) (w - n) (a .high) (b .high) (a .low) (b .low) ah bh al bl))
 
+-- the same of addresses of fewer than 64 bits, whose high word has none of the bits
+pub by-low-mask : (w m n highest lowest lower : ℕ) (a b : Address) → a .high < 2 ^ 64 → b .high < 2 ^ 64 → a .low < 2 ^ 64 → b .low < 2 ^ 64
+    → w < 64 → highest ≡ w - m → lowest ≡ w - n → lower ≡ wordMask 64 highest lowest → (q : Bool)
+    → q ≡ eqb (bitAnd (a .low) lower) (bitAnd (b .low) lower)
+    → q ≡ sameList (bitsBetween w m n (addressOf a)) (bitsBetween w m n (addressOf b))
+by-low-mask w m n highest lowest lower a b ah bh al bl narrow e f j q s =
+    by-masks w m n highest lowest 0 0 0 lower a b ah bh al bl e f (omega arith) (omega arith) refl j true q
+    (rw (and-zero-r (a .high), and-zero-r (b .high)))
+    s
+
 -- the lowest n bits of a word of k bits are those below the lesser of n and k
 enough : (k n x : ℕ) → x < 2 ^ k → x % 2 ^ min n k ≡ x % 2 ^ n
 enough k n x h =

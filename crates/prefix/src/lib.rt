@@ -68,11 +68,15 @@ pub fn low_bits(count: u32, address: Address) -> Address
 }
 
 // Whether the bits of two addresses behind their first `from`, up to their first `to`, are the same: where each word agrees under its
-// mask.
+// mask. An address of fewer than 64 bits has but one word, so that the other is not asked.
 pub fn same_bits(width: u8, from: u32, to: u32, a: Address, b: Address) -> bool
     ensures { λ r. ⌜ r ≡ sameList (bitsBetween width from to (addressOf a)) (bitsBetween width from to (addressOf b)) ⌝ }
 {
     let bits = width as u32;
+    if bits < 64 {
+        let mask = mask_between(difference(bits, from), difference(bits, to));
+        return agree_under(mask, a.low, b.low);
+    }
     let highest = difference(bits, from);
     let lowest = difference(bits, to);
     let low = mask_between(highest, lowest);
@@ -116,14 +120,22 @@ pub fn compare_addresses(a: Address, b: Address) -> Order
     octets::compare_numbers(a.low as usize, b.low as usize)
 }
 
-// Whether one of two prefixes contains the other: none contains a shorter one.
-fn are_nested(width: u8, first: Prefix, second: Prefix) -> bool
+// The lesser of two numbers.
+fn lesser(n: u32, other: u32) -> u32
+    ensures { λ r. ⌜ r ≡ min n other ⌝ }
+{
+    if other < n { other } else { n }
+}
+
+// Whether one of two prefixes contains the other: where they begin alike and have the same bits up to the end of the shorter one.
+pub fn are_nested(width: u8, first: Prefix, second: Prefix) -> bool
     ensures { λ r. ⌜ r ≡ (contains width (patternOf first) (patternOf second) || contains width (patternOf second) (patternOf first)) ⌝ }
 {
-    if first.length <= second.length {
-        return contains_prefix(width, first, second);
+    if first.offset != second.offset {
+        return false;
     }
-    contains_prefix(width, second, first)
+    let shared = lesser(first.length, second.length);
+    same_bits(width, first.offset, shared, first.address, second.address)
 }
 
 // Which of two prefixes comes first: that of the lower offset, then the more specific if one contains the other, else the lower address.

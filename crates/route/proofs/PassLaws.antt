@@ -9,7 +9,7 @@ use lib.Dec.{ltb, eqb}
 use lib.ListN.{length}
 use borrow.Author.Tests.{lt-ltb, le-ltb, ltb-true, ltb-false, eq-eqb, ne-eqb, eqb-true, eqb-false, not-true, not-false}
 use Rattle.octets.specs.Test.{every}
-use Rattle.octets.proofs.Cases.{by-test}
+use Rattle.octets.proofs.Cases.{by-test, apart}
 use Rattle.prefix.specs.Prefix.{Pattern, patternOf, contains}
 use Rattle.prefix.specs.declared.Prefix.{Prefix}
 use Rattle.rule.specs.declared.Family.{Family}
@@ -85,6 +85,11 @@ pass-start family d ws =
     let e = routes-all family ws in
     record { within = omega arith; matching = rw e; agreeing = λ n. rw e }
 
+-- neither of two tests holds
+neither : (a b : Bool) → a || b ≡ false → (a ≡ false) × (b ≡ false)
+neither true b e = apart (cc)
+neither false b e = (refl, e)
+
 module _ (family : Family) (F : Fits family) (d : Pattern) (ws : List ℕ) (best : BestMatch) (seen : Neighbours) (at : ℕ) (c : Passed family d ws best seen at) where
   pub pass-on : (r : Route) (b : BestMatch) (s : Neighbours) → family .words ≤ length ws - at → r ≡ routeAt family ws at
       → b ≡ longer best (matched (family .width) d r) → s ≡ noted (family .width) d seen r → Passed family d ws b s (at + family .words)
@@ -99,6 +104,15 @@ module _ (family : Family) (F : Fits family) (d : Pattern) (ws : List ℕ) (best
             (rw (next, ← e) at (c .matching));
         agreeing = λ n. rw (g, noted-agrees (family .width) d seen r n, and-assoc) (rw (next, ← e) at (c .agreeing n));
       }
+
+  -- a route that neither covers the destination nor lies inside it leaves what is kept as it was
+  pub pass-over : (r : Route) (nested : Bool) → family .words ≤ length ws - at → r ≡ routeAt family ws at
+      → nested ≡ (contains (family .width) d (r .prefix) || contains (family .width) (r .prefix) d) → not nested ≡ true
+      → Passed family d ws best seen (at + family .words)
+  unfolding matched coveredBy noted moreSpecific
+  pass-over r nested h e says far =
+      let none = neither (contains (family .width) d (r .prefix)) (contains (family .width) (r .prefix) d) (sym says ∙ not-true nested far) in
+      pass-on r best seen h e (rw (none .1) (sym (longer-none best))) (rw (none .0) refl)
 
 -- what the pass has kept says what the routes do
 kept-says : (w : ℕ) (d : Pattern) (originator : ℕ) (rs : List Route) (best : BestMatch) (seen : Neighbours) → bestMatch w d rs ≡ best

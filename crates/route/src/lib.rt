@@ -238,7 +238,8 @@ fn is_validated(best: BestMatch, originator: u32, seen: Neighbours) -> bool
     all_agree(seen, route.neighbour)
 }
 
-// Whether a rule with this destination is feasible: one pass keeps the best match and the neighbour ASes inside.
+// Whether a rule with this destination is feasible: one pass keeps the best match and the neighbour ASes inside. Most routes neither cover
+// the destination nor lie inside it, and one comparison tells.
 fn judge(family: Family, destination: Prefix, originator: u32, words: &[u32]) -> bool
     requires { ⌜ Fits family ⌝ }
     ensures { λ r. ⌜ r ≡ judged (family .width) (patternOf destination) originator (routesOf family (now (words .entry))) ⌝ }
@@ -250,9 +251,12 @@ fn judge(family: Family, destination: Prefix, originator: u32, words: &[u32]) ->
     let mut at = 0;
     while stride <= words.len() - at {
         let route = route_at(family, words, at);
+        at += stride;
+        if !prefix::are_nested(width, destination, route.prefix) {
+            continue;
+        }
         best = better(width, best, destination, route);
         seen = note_neighbour(width, seen, destination, route);
-        at += stride;
     }
     is_validated(best, originator, seen)
 }
