@@ -26,8 +26,7 @@ use Rattle.action.specs.declared.Reading.the-variants.{Read, Unsound}
 use Rattle.action.specs.Actions.{noActions, actionsOf, flagsOf, valuesOf}
 use Rattle.entry.specs.Entry.{Entry}
 use Rattle.route.specs.Route.{soundRoutes}
-use Rattle.packet.specs.Header.{isUnusable}
-use Rattle.packet.specs.Packet.{fieldsOf, packetOf}
+use Rattle.packet.specs.Packet.{isUnusable, fieldsOf, packetOf}
 use Rattle.lookup.specs.declared.Verdict.{Verdict}
 use Rattle.lookup.specs.declared.Verdict.the-variants.{Unmatched, Matched}
 use Rattle.table.specs.Walk.{entries}

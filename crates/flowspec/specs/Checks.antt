@@ -20,8 +20,7 @@ use Rattle.action.specs.declared.Reading.{Reading as ActionsReading}
 use Rattle.action.specs.declared.Reading.the-variants.{Read, Unsound}
 use Rattle.action.specs.Actions.{noActions, actionsOf, valuesOf}
 use Rattle.route.specs.Route.{soundRoutes}
-use Rattle.packet.specs.Header.{isUnusable}
-use Rattle.packet.specs.Packet.{fieldsOf}
+use Rattle.packet.specs.Packet.{isUnusable, fieldsOf}
 use Rattle.entry.specs.Entry.{Entry}
 use Rattle.table.specs.Walk.{entries}
 use Rattle.table.specs.Sound.{soundTable}

@@ -14,7 +14,7 @@ use Rattle.flowspec.specs.declared.Looked.the-variants.{Answered, Refuse
 use Rattle.flowspec.specs.declared.MatchPlace.{MatchPlace}
 use Rattle.flowspec.specs.Told.{lookupTold}
 
--- The head that a packet is looked up under: none, as in IPv4. In a family whose values have a head no value has the empty one, so that its
+-- The head that a packet is looked up under: none, as in IPv4 and IPv6. In a family whose values have a head no value has the empty one, so that its
 -- lookups have to name a head.
 abbrev pub noHead : List ℕ
 noHead = []

@@ -22,7 +22,7 @@ use Rattle.entry.specs.Entry.{Entry}
 use Rattle.table.specs.Sound.{cost}
 
 -- Whether a packet, looked up under a head, matches an entry's rule: the value's head (the octets before its first component; none in
--- IPv4) is that head, and its components match.
+-- IPv4 and IPv6) is that head, and its components match.
 abbrev pub hit : Family → List ℕ → Packet → Entry → Bool
 hit family head packet e = sameList (headOf family (e .value)) head && matches family (e .value) packet
 

@@ -8,8 +8,7 @@ use Rattle.octets.specs.Test.{every, oneHolds, sameList}
 use Rattle.octets.specs.Number.{numberAt}
 use Rattle.octets.specs.Walk.{walk}
 use Rattle.prefix.specs.Prefix.{bits, coversAddress, patternIn}
-use Rattle.rule.specs.declared.Family.{Family}
-use Rattle.rule.specs.Family.{ipv4}
+use Rattle.rule.specs.Family.{ipv4, ipv6}
 use Rattle.rule.specs.Shape.{shapeOf}
 use Rattle.rule.specs.Operator.{endsList, sizeOf}
 use Rattle.rule.specs.Component.{pairAt, pairsFrom, leadOf, offsetAt, prefixEnd, bodyEnd, componentAt}
@@ -19,9 +18,9 @@ use Rattle.packet.specs.declared.Field.the-variants.{Shown, Hidden}
 use Rattle.packet.specs.declared.Packet.{Packet}
 use Rattle.packet.specs.declared.Reading.{Reading}
 use Rattle.packet.specs.declared.Reading.the-variants.{Usable, Unusable}
-use Rattle.packet.specs.Header.{isUnusable, fragmentData}
+use Rattle.packet.specs.Header.{ipv4Unusable}
 use Rattle.packet.specs.Transport.{transportOctets, transportFields}
-use Rattle.packet.specs.Packet.{fieldsOf, packetOf}
+use Rattle.packet.specs.Packet.{fragmentData, ipv4Fields, isUnusable, fieldsOf, packetOf}
 use Rattle.packet.proofs.Examples.{header}
 use Rattle.matching.specs.Operator.{numericHolds, bitmaskHolds}
 use Rattle.matching.specs.PairList.{groupsFrom, groups, listHolds}
@@ -167,16 +166,13 @@ request =
 pub packets : every holds (opening ∷ flags ∷ joined ∷ datagram ∷ later ∷ first ∷ longer ∷ request ∷ []) ≡ true
 unfolding
     numberAt walk bits sameList coversAddress patternIn shapeOf endsList sizeOf pairAt pairsFrom leadOf offsetAt prefixEnd bodyEnd
-    componentAt componentsFrom components plainOperand isUnusable fragmentData transportOctets transportFields fieldsOf packetOf
+    componentAt componentsFrom components plainOperand isUnusable ipv4Unusable fragmentData ipv4Fields transportOctets transportFields fieldsOf packetOf
     numericHolds bitmaskHolds every oneHolds groupsFrom groups listHolds holdsFor bodyHolds fieldMatches fieldsFor
     bodyCovers componentMatches matches
 packets = refl
 
--- a family of addresses of 128 bits, with offsets, in which the lowest bit of a fragment value is ignored; and a packet of it that goes from
--- 2001:db8::2 to 2001:db8::1234:5678:9a00:1, whose protocol is not found, and whose transport header is shown as one of ICMP
-abbrev wide : Family
-wide = record { highest = 13; width = 128; head = 0; offsets = true; fragment = 0x0e; icmp = 58; version = 6; words = 7 }
-
+-- a packet of IPv6 that goes from 2001:db8::2 to 2001:db8::1234:5678:9a00:1, whose protocol is not found, whose transport header is shown as
+-- one of ICMP, and whose flow label has more than 16 bits
 abbrev seen : Packet
 seen =
     record {
@@ -194,17 +190,19 @@ seen =
             «icmp_code» = Shown 0;
             flags = Hidden;
           };
+      label = Shown 0x12345;
     }
 
--- RFC 8956 section 3.8's pattern from bit 64 up to 104, and others with and without an offset
-pub patterns : every (λ value. matches wide value seen)
+-- RFC 8956 section 3.8's pattern from bit 64 up to 104, and others with and without an offset; the lowest bit of a fragment value is ignored;
+-- and a flow label is compared whole
+pub patterns : every (λ value. matches ipv6 value seen)
     ((0x01 ∷ 0x68 ∷ 0x40 ∷ 0x12 ∷ 0x34 ∷ 0x56 ∷ 0x78 ∷ 0x9a ∷ []) ∷ (0x01 ∷ 0x20 ∷ 0x00 ∷ 0x20 ∷ 0x01 ∷ 0x0d ∷ 0xb8 ∷ [])
     ∷ (0x01 ∷ 0x00 ∷ 0x00 ∷ [])
     ∷ (0x01 ∷ 0x68 ∷ 0x40 ∷ 0x12 ∷ 0x34 ∷ 0x56 ∷ 0x78 ∷ 0x9a ∷ 0x02 ∷ 0x80 ∷ 0x00 ∷ 0x20 ∷ 0x01 ∷ 0x0d ∷ 0xb8 ∷ 0x00 ∷ 0x00 ∷ 0x00 ∷ 0x00 ∷ 0x00 ∷ 0x00 ∷ 0x00 ∷ 0x00 ∷ 0x00 ∷ 0x00 ∷ 0x00 ∷ 0x02 ∷ [])
-    ∷ (0x0c ∷ 0x81 ∷ 0x01 ∷ []) ∷ (0x07 ∷ 0x81 ∷ 0x80 ∷ []) ∷ [])
-    && not (oneHolds (λ value. matches wide value seen)
+    ∷ (0x0c ∷ 0x81 ∷ 0x01 ∷ []) ∷ (0x07 ∷ 0x81 ∷ 0x80 ∷ []) ∷ (0x0d ∷ 0xa1 ∷ 0x00 ∷ 0x01 ∷ 0x23 ∷ 0x45 ∷ []) ∷ [])
+    && not (oneHolds (λ value. matches ipv6 value seen)
     ((0x01 ∷ 0x68 ∷ 0x40 ∷ 0x12 ∷ 0x34 ∷ 0x56 ∷ 0x78 ∷ 0x9b ∷ []) ∷ (0x01 ∷ 0x21 ∷ 0x00 ∷ 0x20 ∷ 0x01 ∷ 0x0d ∷ 0xb8 ∷ 0x80 ∷ [])
-    ∷ (0x02 ∷ 0x41 ∷ 0x40 ∷ 0x80 ∷ []) ∷ (0x03 ∷ 0x87 ∷ 0x00 ∷ []) ∷ (0x0c ∷ 0x81 ∷ 0x02 ∷ []) ∷ (0x04 ∷ 0x87 ∷ 0x00 ∷ []) ∷ []))
+    ∷ (0x02 ∷ 0x41 ∷ 0x40 ∷ 0x80 ∷ []) ∷ (0x03 ∷ 0x87 ∷ 0x00 ∷ []) ∷ (0x0c ∷ 0x81 ∷ 0x02 ∷ []) ∷ (0x04 ∷ 0x87 ∷ 0x00 ∷ []) ∷ (0x0d ∷ 0x91 ∷ 0x23 ∷ 0x45 ∷ []) ∷ (0x0d ∷ 0xa1 ∷ 0x00 ∷ 0x11 ∷ 0x23 ∷ 0x45 ∷ []) ∷ []))
     ≡ true
 unfolding
     numberAt walk bits sameList coversAddress patternIn shapeOf endsList sizeOf pairAt pairsFrom leadOf offsetAt prefixEnd bodyEnd

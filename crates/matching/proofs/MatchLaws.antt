@@ -86,10 +86,10 @@ module _ (family : Family) (kind : ℕ) (body : List ℕ) (packet : Packet) wher
 
 -- a type that has no row matches nothing
 pub on-nothing : (family : Family) (kind : ℕ) (body : List ℕ) (packet : Packet) → (kind ≡ 1 → ⊥) → (kind ≡ 2 → ⊥) → (kind ≡ 3 → ⊥) → (kind ≡ 4 → ⊥) → (kind ≡ 5 → ⊥)
-    → (kind ≡ 6 → ⊥) → (kind ≡ 7 → ⊥) → (kind ≡ 8 → ⊥) → (kind ≡ 9 → ⊥) → (kind ≡ 10 → ⊥) → (kind ≡ 11 → ⊥) → (kind ≡ 12 → ⊥)
+    → (kind ≡ 6 → ⊥) → (kind ≡ 7 → ⊥) → (kind ≡ 8 → ⊥) → (kind ≡ 9 → ⊥) → (kind ≡ 10 → ⊥) → (kind ≡ 11 → ⊥) → (kind ≡ 12 → ⊥) → (kind ≡ 13 → ⊥)
     → false ≡ componentMatches family packet (component kind body)
 unfolding componentMatches fieldsFor oneHolds
-on-nothing family kind body packet a b c d e f g h i j k l =
+on-nothing family kind body packet a b c d e f g h i j k l m =
     rw (
       prefix-types family kind,
       ne-eqb kind 1 a,
@@ -104,6 +104,7 @@ on-nothing family kind body packet a b c d e f g h i j k l =
       ne-eqb kind 10 j,
       ne-eqb kind 11 k,
       ne-eqb kind 12 l,
+      ne-eqb kind 13 m,
     )
 
 -- how `matches_rule` goes on and comes to each of its answers

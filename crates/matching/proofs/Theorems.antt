@@ -1,6 +1,6 @@
--- What a reader expects of matching, beside the tables of operators: each list has its fields, a later fragment meets no rule that asks for
--- its transport header, a list of one range is that range, a list's first AND is no matter, and what a one-octet value of TCP flags is
--- judged on. Assumes nothing.
+-- What a reader expects of matching, beside the tables of operators: each list has its fields; a later fragment meets no rule that asks for a
+-- transport header; a packet in which no upper layer is found meets no rule that asks for one; a list of one range is that range; a list's
+-- first AND is no matter; and what a one-octet value of TCP flags is judged on. Assumes nothing.
 use mathlib.Core.Path.{_≡_, refl, ap, _∙_}
 use mathlib.Core.Bool.{Bool, true, false, _&&_, _||_, and-false}
 use mathlib.Core.List.{List, [], _∷_}
@@ -16,6 +16,7 @@ use Rattle.octets.proofs.Cases.{by-test, apart, both}
 use Rattle.octets.proofs.Facts.{Octets, below}
 use Rattle.rule.specs.declared.Family.{Family}
 use Rattle.rule.specs.declared.Shape.{Shape}
+use Rattle.rule.specs.Family.{ipv4, ipv6}
 use Rattle.rule.specs.Shape.{shapeOf}
 use Rattle.rule.specs.Component.{Pair}
 use Rattle.rule.specs.Value.{Component, components}
@@ -25,28 +26,46 @@ use Rattle.rule.proofs.ComponentsLaws.{each-found}
 use Rattle.packet.specs.declared.Packet.{Packet}
 use Rattle.packet.specs.declared.Reading.the-variants.{Usable}
 use Rattle.packet.specs.Header.{fragmentField, fragmentOffset}
-use Rattle.packet.specs.Packet.{packetOf}
+use Rattle.packet.specs.declared.Field.the-variants.{Hidden}
+use Rattle.packet.specs.Header6.{counted}
+use Rattle.packet.specs.Packet.{fieldsOf, packetOf}
 use Rattle.packet.proofs.Theorems.{hidden, usable-fields, later-hidden}
+use Rattle.packet.proofs.Theorems6.{lost-hidden, later-six-hidden}
+use Rattle.extension.specs.Extension.{offsetOfFragment, upperLayer}
 use Rattle.matching.specs.Operator.{bitmaskHolds}
 use Rattle.matching.specs.PairList.{joins, listHolds}
 use Rattle.matching.specs.Match.{holdsFor, pairHolds, fieldMatches, noField, fieldsFor, componentMatches, matches}
 use Rattle.matching.proofs.OperatorLaws.{numeric-row}
 use Rattle.matching.proofs.PairListLaws.{from-first}
 
--- in a family of the types 1 to 12 no component of a value comes to `noField`: each type above 2 has its fields
-pub has-field : (family : Family) (value : List ℕ) (packet : Packet) → family .highest ≤ 12
+-- in a family of the types 1 to 13 no component of a value comes to `noField`: each type above 2 has its fields
+pub has-field : (family : Family) (value : List ℕ) (packet : Packet) → family .highest ≤ 13
     → Each (λ component. 2 < component .kind → fieldsFor (component .kind) packet ≡ noField → ⊥) (components family value)
 unfolding fieldsFor
 has-field family value packet types =
     each-found family value (λ component. 2 < component .kind → fieldsFor (component .kind) packet ≡ noField → ⊥)
     (λ at previous kind next found list none.
     let had = found .had in
-    let row = below 13 (λ n. leb n 2 || ltb 0 (length (fieldsFor n packet))) refl kind (omega arith) in
+    let row = below 14 (λ n. leb n 2 || ltb 0 (length (fieldsFor n packet))) refl kind (omega arith) in
     apart (cc (rw (lt-leb kind 2 list, none) at row)))
 
 -- whether a component asks for the transport header: port, destination port, source port, ICMP type and code, TCP flags
 abbrev pub asksTransport : Component → Bool
 asksTransport component = leb 4 (component .kind) && leb (component .kind) 9
+
+-- whether it asks for the upper layer: for that, or for its protocol
+abbrev pub asksUpper : Component → Bool
+asksUpper component = eqb (component .kind) 3 || asksTransport component
+
+-- a rule one of whose components passes a test that no matching component passes is not matched
+one-fails : (family : Family) (packet : Packet) (asks : Component → Bool)
+    → ((component : Component) → asks component ≡ true → componentMatches family packet component ≡ false)
+    → (components : List Component) → oneHolds asks components ≡ true → every (componentMatches family packet) components ≡ false
+unfolding every oneHolds
+one-fails family packet asks never [] h = apart (cc)
+one-fails family packet asks never (c ∷ cs) h =
+    by-test (asks c) (λ t. rw (never c t))
+    (λ t. rw (one-fails family packet asks never cs (rw t at h), and-false (componentMatches family packet c)))
 
 -- a component that asks for a hidden transport header never matches
 module _ (family : Family) (packet : Packet) (shows : packet .transport ≡ hidden) where
@@ -71,22 +90,45 @@ module _ (family : Family) (packet : Packet) (shows : packet .transport ≡ hidd
       let nine : kind ≡ 9 = omega arith in
       rw (nine, shows))))))
 
-  one-fails : (components : List Component) → oneHolds asksTransport components ≡ true → every (componentMatches family packet) components ≡ false
-  unfolding every oneHolds
-  one-fails [] h = apart (cc)
-  one-fails (c ∷ cs) h =
-      by-test (asksTransport c) (λ t. rw (never-matches c t))
-      (λ t. rw (one-fails cs (rw t at h), and-false (componentMatches family packet c)))
-
   pub never-met : (value : List ℕ) → oneHolds asksTransport (components family value) ≡ true → matches family value packet ≡ false
   unfolding matches
-  never-met value = one-fails (components family value)
+  never-met value = one-fails family packet asksTransport never-matches (components family value)
+
+  -- the same of the protocol or upper layer and the transport header, where both are hidden
+  module _ (none : packet .protocol ≡ Hidden) where
+    no-upper-matches : (component : Component) → asksUpper component ≡ true → componentMatches family packet component ≡ false
+    unfolding componentMatches shapeOf fieldsFor fieldMatches oneHolds
+    no-upper-matches component asks =
+        by-test (eqb (component .kind) 3) (λ t. rw (eqb-true (component .kind) 3 t, none))
+        (λ t. never-matches component (rw t at asks))
+
+    pub no-upper : (value : List ℕ) → oneHolds asksUpper (components family value) ≡ true → matches family value packet ≡ false
+    unfolding matches
+    no-upper value = one-fails family packet asksUpper no-upper-matches (components family value)
 
 -- a later fragment meets no rule with a port, ICMP or flags component, whatever its operators
-pub later-fragment : (family : Family) (value s : List ℕ) (packet : Packet) → packetOf family s ≡ Usable packet → (fragmentOffset (fragmentField s) ≡ 0 → ⊥)
-    → oneHolds asksTransport (components family value) ≡ true → matches family value packet ≡ false
-later-fragment family value s packet seen later asks =
-    never-met family packet (ap (λ (p : Packet). p .transport) (usable-fields family s packet seen) ∙ later-hidden family s later) value asks
+pub later-fragment : (value s : List ℕ) (packet : Packet) → packetOf ipv4 s ≡ Usable packet → (fragmentOffset (fragmentField s) ≡ 0 → ⊥)
+    → oneHolds asksTransport (components ipv4 value) ≡ true → matches ipv4 value packet ≡ false
+unfolding fieldsOf
+later-fragment value s packet seen later asks =
+    never-met ipv4 packet (ap (λ (p : Packet). p .transport) (usable-fields ipv4 s packet seen) ∙ later-hidden ipv4 s later) value asks
+
+-- the same of IPv6
+pub later-fragment-six : (value s : List ℕ) (packet : Packet) → packetOf ipv6 s ≡ Usable packet
+    → (offsetOfFragment (upperLayer (counted s) .progress .field) ≡ 0 → ⊥)
+    → oneHolds asksTransport (components ipv6 value) ≡ true → matches ipv6 value packet ≡ false
+unfolding fieldsOf
+later-fragment-six value s packet seen later asks =
+    never-met ipv6 packet (ap (λ (p : Packet). p .transport) (usable-fields ipv6 s packet seen) ∙ later-six-hidden ipv6 s later) value asks
+
+-- a packet in which the walk finds no upper layer meets no rule with a component of the types 3 to 9, whatever its operators
+pub lost-walk : (value s : List ℕ) (packet : Packet) → packetOf ipv6 s ≡ Usable packet → upperLayer (counted s) .found ≡ false
+    → oneHolds asksUpper (components ipv6 value) ≡ true → matches ipv6 value packet ≡ false
+unfolding fieldsOf
+lost-walk value s packet seen lost asks =
+    let same = usable-fields ipv6 s packet seen in
+    let none = lost-hidden ipv6 s lost in
+    no-upper ipv6 packet (ap (λ (p : Packet). p .transport) same ∙ none .1) (ap (λ (p : Packet). p .protocol) same ∙ none .0) value asks
 
 -- section 4.2.1.1: the AND bit of the first operator is treated as unset, so pairs that test alike begin a list alike
 pub first-and : (test : Pair → Bool) (p q : Pair) (ps : List Pair) → test p ≡ test q → listHolds test (p ∷ ps) ≡ listHolds test (q ∷ ps)

@@ -39,13 +39,13 @@ unfoldable pub fieldMatches : Shape → List ℕ → Field → Bool
 fieldMatches shape body (Shown «data») = bodyHolds shape body «data»
 fieldMatches shape body Hidden = false
 
--- What a type that has no row here is judged on: no field, so that it matches no packet. No component of an IPv4 rule comes to it; the flow
--- label of RFC 8956 (section 3.7, type 13) needs a row.
+-- What a type that has no row here is judged on: no field, so that it matches no packet. No component of a rule comes to it (`has-field` in
+-- proofs/Theorems.antt).
 abbrev pub noField : List Field
 noField = []
 
--- The fields that a list of the given type is judged on, in the order of sections 4.2.2.3 to 4.2.2.12; one of them must match. 01: "For
--- type 4 the whole list is judged on one port, then on the other."
+-- The fields that a list of the given type is judged on, in the order of sections 4.2.2.3 to 4.2.2.12, and RFC 8956 section 3.7 for the flow
+-- label; one of them must match. 01: "For type 4 the whole list is judged on one port, then on the other."
 unfoldable pub fieldsFor : ℕ → Packet → List Field
 fieldsFor kind packet =
     cond (eqb kind 3) (packet .protocol ∷ [])
@@ -57,7 +57,8 @@ fieldsFor kind packet =
     (cond (eqb kind 9) (packet .transport .flags ∷ [])
     (cond (eqb kind 10) (Shown (packet .length) ∷ [])
     (cond (eqb kind 11) (Shown (packet .dscp) ∷ [])
-    (cond (eqb kind 12) (Shown (packet .fragment) ∷ []) noField)))))))))
+    (cond (eqb kind 12) (Shown (packet .fragment) ∷ [])
+    (cond (eqb kind 13) (packet .label ∷ []) noField))))))))))
 
 -- Whether the prefix that a body spells covers an address.
 unfoldable pub bodyCovers : Family → List ℕ → ℕ → Bool

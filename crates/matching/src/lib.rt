@@ -165,6 +165,7 @@ fn matches_component(family: Family, kind: u8, body: &[u8], packet: Packet) -> b
     let icmp_type = transport.icmp_type;
     let icmp_code = transport.icmp_code;
     let flags = transport.flags;
+    let label = packet.label;
     match kind {
         1 => body_covers(family, body, packet.destination),
         2 => body_covers(family, body, packet.source),
@@ -178,7 +179,8 @@ fn matches_component(family: Family, kind: u8, body: &[u8], packet: Packet) -> b
         10 => list_holds(shape, body, packet.length as u64),
         11 => list_holds(shape, body, packet.dscp as u64),
         12 => list_holds(shape, body, packet.fragment as u64),
-        // No component of an IPv4 rule has another type.
+        13 => field_matches(shape, body, label),
+        // No component of a rule has another type.
         _ => false,
     }
 }

@@ -25,7 +25,7 @@ componentOrder family a b = then (compare (a .kind) (b .kind)) (bodyOrder family
 unfoldable pub componentsOrder : Family → List Component → List Component → Ordering
 componentsOrder family = lex (componentOrder family)
 
--- The octets before the first component of two values, of which IPv4 has none.
+-- The octets before the first component of two values, of which IPv4 and IPv6 have none.
 abbrev pub headsOrder : Family → List ℕ → List ℕ → Ordering
 headsOrder family v w = lex compare (headOf family v) (headOf family w)
 

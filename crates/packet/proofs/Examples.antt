@@ -4,15 +4,21 @@ use mathlib.Core.Path.{_≡_, refl}
 use mathlib.Core.Bool.{true, false}
 use mathlib.Core.List.{List, [], _∷_, _++_, map}
 use Prim.Native.Nat.{ℕ}
+use lib.Dec.{eqb}
 use lib.ListN.{take, replicate}
 use Rattle.octets.specs.Number.{numberAt}
 use Rattle.rule.specs.Family.{ipv4}
-use Rattle.packet.specs.Header.{isUnusable, fragmentData}
+use Rattle.packet.specs.Header.{dontFragment, fragmentOffset, moreFragments, ipv4Unusable}
 use Rattle.packet.specs.Transport.{transportOctets, hasPorts, hasIcmp, hasFlags}
+use Rattle.packet.specs.Packet.{fragmentData}
+
+-- the fragment component's data, from the header's field of three flags and the offset
+abbrev fragmentIn : ℕ → ℕ
+fragmentIn field = fragmentData (dontFragment field) (eqb (fragmentOffset field) 0) (moreFragments field)
 
 -- RFC 791's flags and offset: a whole datagram, one with DF, a first, a middle and a last fragment, a first with DF, a middle and a last
 -- with every bit of the offset, and the bit that RFC 791 reserves
-pub fragments : map fragmentData (0x0000 ∷ 0x4000 ∷ 0x2000 ∷ 0x2001 ∷ 0x00b9 ∷ 0x6000 ∷ 0x3fff ∷ 0x1fff ∷ 0x8000 ∷ [])
+pub fragments : map fragmentIn (0x0000 ∷ 0x4000 ∷ 0x2000 ∷ 0x2001 ∷ 0x00b9 ∷ 0x6000 ∷ 0x3fff ∷ 0x1fff ∷ 0x8000 ∷ [])
     ≡ 0x00 ∷ 0x01 ∷ 0x04 ∷ 0x02 ∷ 0x0a ∷ 0x05 ∷ 0x02 ∷ 0x0a ∷ 0x00 ∷ []
 unfolding fragmentData
 fragments = refl
@@ -39,12 +45,12 @@ header first service total high low protocol =
 
 -- a packet is usable with just its header, with headers of six and of fifteen words where its length has room for them, and where it is
 -- longer than what is lent; it is not with 19 octets lent, of another version, with four words, or with a length below its header's
-pub usable : map (isUnusable ipv4)
+pub usable : map (ipv4Unusable ipv4)
     (header 0x45 0 20 0 0 6 ∷ header 0x46 0 24 0 0 6 ∷ header 0x4f 0 60 0 0 6 ∷ header 0x45 0 255 0 0 6
     ∷ take 19 (header 0x45 0 20 0 0 6) ∷ header 0x65 0 20 0 0 6 ∷ header 0x35 0 20 0 0 6 ∷ header 0x44 0 20 0 0 6 ∷ header 0x45 0 19 0 0 6 ∷ header 0x46 0 23 0 0 6
     ∷ [])
     ≡ false ∷ false ∷ false ∷ false ∷ true ∷ true ∷ true ∷ true ∷ true ∷ true ∷ []
-unfolding isUnusable numberAt
+unfolding ipv4Unusable numberAt
 usable = refl
 
 -- four octets behind a header and so many octets of options

@@ -19,9 +19,9 @@ use Rattle.octets.proofs.Cases.{by-test}
 use Rattle.octets.proofs.NumberLaws.{number-octets, length-octetsOf}
 use Rattle.rule.specs.declared.Family.{Family}
 use Rattle.packet.specs.declared.Field.the-variants.{Shown, Hidden}
-use Rattle.packet.specs.Header.{version, headerWords, dscp, totalLength, fragmentField, dontFragment, moreFragments, fragmentOffset, protocol, source, destination, isUnusable, fragmentData}
+use Rattle.packet.specs.Header.{version, headerWords, dscp, totalLength, fragmentField, dontFragment, moreFragments, fragmentOffset, protocol, source, destination, ipv4Unusable}
 use Rattle.packet.specs.Transport.{hasPorts, hasIcmp, hasFlags, transportOctets, transportFields}
-use Rattle.packet.specs.Packet.{oneWord, fieldsOf}
+use Rattle.packet.specs.Packet.{fragmentData, oneWord, ipv4Fields}
 use Rattle.packet.proofs.Examples.{header}
 use Rattle.packet.proofs.HeaderLaws.{too-few}
 use Rattle.packet.proofs.Theorems.{behind-header}
@@ -110,7 +110,7 @@ unfolding octetsOf
 example-octets = refl
 
 -- fewer octets than those of a header are unusable
-pub too-short : (family : Family) (s : List ℕ) → length s < 20 → isUnusable family s ≡ true
+pub too-short : (family : Family) (s : List ℕ) → length s < 20 → ipv4Unusable family s ≡ true
 too-short family s short = sym (too-few family s short)
 
 -- a flag is set where its bit is 1
@@ -162,12 +162,12 @@ module _ (h : Header) (sized : Sized h) (rest : List ℕ) where
 
   -- octets with a whole header are unusable by their version and their lengths alone
   pub unusable-back : (family : Family)
-      → isUnusable family (laidOut h rest) ≡ (not (eqb (h .version) (family .version)) || ltb (h .words) 5 || ltb (h .total) (4 * h .words))
-  unfolding isUnusable octetsOf
+      → ipv4Unusable family (laidOut h rest) ≡ (not (eqb (h .version) (family .version)) || ltb (h .words) 5 || ltb (h .total) (4 * h .words))
+  unfolding ipv4Unusable octetsOf
   unusable-back family = rw (le-ltb (length (laidOut h rest)) 20 (omega arith), version-back, words-back, total-back)
 
   -- a packet shows the fields of its header as they were laid out
-  pub fields-back : (family : Family) → fieldsOf family (laidOut h rest)
+  pub fields-back : (family : Family) → ipv4Fields family (laidOut h rest)
       ≡ record {
         destination = oneWord (h .destination);
         source = oneWord (h .source);
@@ -178,8 +178,9 @@ module _ (h : Header) (sized : Sized h) (rest : List ℕ) where
             bitIf (eqb (h .dontFragment) 1) 0x01 + bitIf (not (eqb (h .offset) 0)) 0x02 + bitIf (eqb (h .offset) 0 && eqb (h .moreFragments) 1) 0x04
             + bitIf (not (eqb (h .offset) 0) && not (eqb (h .moreFragments) 1)) 0x08;
         transport = transportFields family (h .protocol) (transportOctets (laidOut h rest));
+        label = Hidden;
       }
-  unfolding fieldsOf fragmentData
+  unfolding ipv4Fields fragmentData
   fields-back family =
       rw (destination-back, source-back, protocol-back, total-back, dscp-back, dont-back, more-back, offset-back)
 

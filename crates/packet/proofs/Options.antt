@@ -12,15 +12,15 @@ use borrow.Author.Tests.{ne-eqb}
 use Rattle.octets.proofs.Cases.{by-test, apart}
 use Rattle.rule.specs.declared.Family.{Family}
 use Rattle.rule.specs.Value.{between}
-use Rattle.packet.specs.declared.Field.the-variants.{Shown}
+use Rattle.packet.specs.declared.Field.the-variants.{Shown, Hidden}
 use Rattle.packet.specs.declared.Transport.{Transport}
 use Rattle.packet.specs.declared.Packet.{Packet}
 use Rattle.packet.specs.declared.Reading.{Reading}
 use Rattle.packet.specs.declared.Reading.the-variants.{Usable, Unusable}
-use Rattle.packet.specs.Header.{headerWords, totalLength, fragmentField, fragmentOffset, isUnusable, destination, source, protocol, dscp, fragmentData}
+use Rattle.packet.specs.Header.{headerWords, totalLength, fragmentField, dontFragment, fragmentOffset, moreFragments, ipv4Unusable, destination, source, protocol, dscp}
 use Rattle.packet.specs.Transport.{transportOctets, transportFields}
-use Rattle.packet.specs.Packet.{oneWord, fieldsOf, packetOf}
-use Rattle.packet.proofs.Theorems.{hidden, no-octets}
+use Rattle.packet.specs.Packet.{fragmentData, oneWord, ipv4Fields, packetOf}
+use Rattle.packet.proofs.Theorems.{four-read, hidden, no-octets}
 
 -- 01 before 2026-02: transport octets "are found only if header length is 5 words and fragment offset 0"
 abbrev octetsBefore : List ℕ → List ℕ
@@ -36,13 +36,14 @@ fieldsBefore family s =
       protocol = Shown (protocol s);
       length = totalLength s;
       dscp = dscp s;
-      fragment = fragmentData (fragmentField s);
+      fragment = fragmentData (dontFragment (fragmentField s)) (eqb (fragmentOffset (fragmentField s)) 0) (moreFragments (fragmentField s));
       transport = transportFields family (protocol s) (octetsBefore s);
+      label = Hidden;
     }
 
 -- what octets showed as a packet
 abbrev pub packetBefore : Family → List ℕ → Reading
-packetBefore family s = cond (isUnusable family s) Unusable (Usable (fieldsBefore family s))
+packetBefore family s = cond (ipv4Unusable family s) Unusable (Usable (fieldsBefore family s))
 
 -- a packet with another transport header
 abbrev pub withTransport : Packet → Transport → Packet
@@ -55,32 +56,34 @@ withTransport packet transport =
       dscp = packet .dscp;
       fragment = packet .fragment;
       transport = transport;
+      label = packet .label;
     }
 
-module _ (family : Family) (s : List ℕ) where
+module _ (family : Family) (four : family .version ≡ 4) (s : List ℕ) where
   -- octets are unusable as a packet where they were
   pub as-unusable : (packetBefore family s ≡ Unusable) ↔ (packetOf family s ≡ Unusable)
-  unfolding packetOf
   as-unusable =
-      by-test (isUnusable family s)
+      rw (four-read family s four)
+      (by-test (ipv4Unusable family s)
       (λ t. (λ e. rw t, λ e. rw t))
       (λ t. (
         λ e. let z : Usable (fieldsBefore family s) ≡ Unusable = rw t at e in apart (cc),
-        λ e. let z : Usable (fieldsOf family s) ≡ Unusable = rw t at e in apart (cc),
-      ))
+        λ e. let z : Usable (ipv4Fields family s) ≡ Unusable = rw t at e in apart (cc),
+      )))
 
   -- every field but those of the transport header is as it was
-  pub other-fields : (transport : Transport) → withTransport (fieldsBefore family s) transport ≡ withTransport (fieldsOf family s) transport
-  unfolding fieldsOf
+  pub other-fields : (transport : Transport) → withTransport (fieldsBefore family s) transport ≡ withTransport (ipv4Fields family s) transport
+  unfolding ipv4Fields
   other-fields transport = refl
 
   -- where the transport octets are as they were, so is all that is shown
   same-octets : octetsBefore s ≡ transportOctets s → packetBefore family s ≡ packetOf family s
-  unfolding packetOf fieldsOf
+  unfolding ipv4Fields
   same-octets e =
-      ap
-      (λ (t : List ℕ). cond (isUnusable family s) Unusable (Usable (withTransport (fieldsBefore family s) (transportFields family (protocol s) t))))
-      e
+      rw (four-read family s four)
+      (ap
+      (λ (t : List ℕ). cond (ipv4Unusable family s) Unusable (Usable (withTransport (fieldsBefore family s) (transportFields family (protocol s) t))))
+      e)
 
   -- a packet with a header of five words shows what it showed
   pub five-words : headerWords s ≡ 5 → packetBefore family s ≡ packetOf family s

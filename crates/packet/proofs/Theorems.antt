@@ -1,7 +1,7 @@
 -- What a reader expects of a packet's fields: 12 is answered exactly where octets are unusable, a usable packet shows the fields of its octets,
 -- a later fragment shows no transport header, nor does a packet that ends with its header, and in any other one the transport octets are
 -- those behind the options. Assumes nothing.
-use mathlib.Core.Path.{_≡_, sym, _∙_}
+use mathlib.Core.Path.{_≡_, refl, sym, _∙_}
 use mathlib.Core.Bool.{true, and-false}
 use mathlib.Core.List.{List, [], _++_}
 use mathlib.Core.Logic.{_↔_}
@@ -12,14 +12,17 @@ use lib.ListN.{length, take, drop, length-append, List·getD-append}
 use lib.Seq.{take-all, take-length, drop-append-seam}
 use Rattle.octets.proofs.Cases.{by-test, apart}
 use Rattle.octets.proofs.NumberLaws.{number-before}
+use borrow.Author.Tests.{eq-eqb}
 use Rattle.rule.specs.declared.Family.{Family}
+use Rattle.rule.specs.Family.{ipv6}
 use Rattle.packet.specs.declared.Field.the-variants.{Hidden}
 use Rattle.packet.specs.declared.Transport.{Transport}
 use Rattle.packet.specs.declared.Packet.{Packet}
 use Rattle.packet.specs.declared.Reading.the-variants.{Usable, Unusable}
-use Rattle.packet.specs.Header.{headerWords, totalLength, fragmentField, fragmentOffset, isUnusable, protocol}
+use Rattle.packet.specs.Header.{headerWords, totalLength, fragmentField, fragmentOffset, ipv4Unusable, protocol}
+use Rattle.packet.specs.Header6.{ipv6Unusable}
 use Rattle.packet.specs.Transport.{transportFound, transportOctets, transportFields}
-use Rattle.packet.specs.Packet.{fieldsOf, packetOf}
+use Rattle.packet.specs.Packet.{ipv4Fields, ipv6Fields, readingOf, isUnusable, fieldsOf, packetOf}
 use Rattle.packet.proofs.TransportLaws.{later-not-found, empty}
 
 -- a transport header of which nothing is shown
@@ -45,9 +48,18 @@ unfolding packetOf
 unusable-exactly family s =
     by-test (isUnusable family s) (λ t. (λ e. t, λ u. rw t)) (λ t. (λ e. let z : Usable (fieldsOf family s) ≡ Unusable = rw t at e in apart (cc), λ u. apart (cc)))
 
+-- packets of IPv4 are read by the header of RFC 791, and those of IPv6 by that of RFC 8200
+pub four-read : (family : Family) (s : List ℕ) → family .version ≡ 4 → packetOf family s ≡ readingOf (ipv4Unusable family s) (ipv4Fields family s)
+unfolding packetOf isUnusable fieldsOf
+four-read family s four = rw (eq-eqb (family .version) 4 four)
+
+pub six-read : (s : List ℕ) → packetOf ipv6 s ≡ readingOf (ipv6Unusable ipv6 s) (ipv6Fields ipv6 s)
+unfolding packetOf isUnusable fieldsOf
+six-read s = refl
+
 -- a later fragment shows no transport header
-pub later-hidden : (family : Family) (s : List ℕ) → (fragmentOffset (fragmentField s) ≡ 0 → ⊥) → fieldsOf family s .transport ≡ hidden
-unfolding fieldsOf transportOctets
+pub later-hidden : (family : Family) (s : List ℕ) → (fragmentOffset (fragmentField s) ≡ 0 → ⊥) → ipv4Fields family s .transport ≡ hidden
+unfolding ipv4Fields transportOctets
 later-hidden family s later = rw (later-not-found (fragmentOffset (fragmentField s)) later) (no-octets family (protocol s))
 
 -- up to the smaller of both ends is up to the total length, since no octet stands behind the last
@@ -76,8 +88,8 @@ behind-header h rest enough whole found =
     (as-far rest (length h) (totalLength h))
 
 -- a packet whose lent octets or whose total length end with the header, or inside it, shows no transport header
-pub ended-hidden : (family : Family) (s : List ℕ) → min (length s) (totalLength s) ≤ 4 * headerWords s → fieldsOf family s .transport ≡ hidden
-unfolding fieldsOf transportOctets
+pub ended-hidden : (family : Family) (s : List ℕ) → min (length s) (totalLength s) ≤ 4 * headerWords s → ipv4Fields family s .transport ≡ hidden
+unfolding ipv4Fields transportOctets
 ended-hidden family s ends =
     let none : take (min (length s) (totalLength s) - 4 * headerWords s) (drop (4 * headerWords s) s) ≡ [] = empty s (4 * headerWords s) (min (length s) (totalLength s)) ends in
     rw none (by-test (transportFound (fragmentOffset (fragmentField s))) (λ t. rw t (no-octets family (protocol s))) (λ t. rw t (no-octets family (protocol s))))

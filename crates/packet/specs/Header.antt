@@ -1,17 +1,16 @@
--- The IPv4 header (RFC 791) at the front of a packet's octets: the fields that rules and 01 speak of, when octets are unusable as a
--- packet, and the fragment component's data. An octet that is not there counts as 0. Of the family only the version counts here: a family
--- whose packets have another header needs definitions of its own.
-use Prim.Native.Nat.{ℕ, _+_, _*_, _/_}
-use mathlib.Core.Bool.{Bool, not, _&&_, _||_}
+-- The IPv4 header (RFC 791) at the front of a packet's octets: the fields that rules and 01 speak of, and when octets are unusable as a
+-- packet. An octet that is not there counts as 0. The header of IPv6 is in Header6.antt.
+use Prim.Native.Nat.{ℕ, _*_, _/_}
+use mathlib.Core.Bool.{Bool, not, _||_}
 use mathlib.Core.List.{List}
 use lib.Bits.{bitAnd}
 use lib.Dec.{ltb, eqb}
 use lib.ListN.{length, getD}
 use Rattle.octets.specs.Number.{numberAt}
-use Rattle.octets.specs.Bit.{has, bitIf}
+use Rattle.octets.specs.Bit.{has}
 use Rattle.rule.specs.declared.Family.{Family}
 
--- The version of IP.
+-- The version of IP, which stands at the same place in both headers.
 abbrev pub version : List ℕ → ℕ
 version s = getD s 0 0 / 16
 
@@ -57,15 +56,6 @@ destination s = numberAt 4 s 16
 
 -- 01: "A packet is 12 if under 20 octets are lent, version is not 4, header length is not 5 to 15 words, or total length is below the
 -- header length."
-unfoldable pub isUnusable : Family → List ℕ → Bool
-isUnusable family s =
+unfoldable pub ipv4Unusable : Family → List ℕ → Bool
+ipv4Unusable family s =
     ltb (length s) 20 || not (eqb (version s) (family .version)) || ltb (headerWords s) 5 || ltb (totalLength s) (4 * headerWords s)
-
--- Section 4.2.2.12, and 01: "0x01 DF, 0x02 offset not 0, 0x04 offset 0 and MF, 0x08 offset not 0 and MF clear".
-unfoldable pub fragmentData : ℕ → ℕ
-fragmentData field =
-    let first = eqb (fragmentOffset field) 0 in
-    bitIf (dontFragment field) 0x01
-    + bitIf (not first) 0x02
-    + bitIf (first && moreFragments field) 0x04
-    + bitIf (not first && not (moreFragments field)) 0x08

@@ -1,5 +1,5 @@
--- The transport header behind the IPv4 header (RFC 8955 sections 4.2.2.4 to 4.2.2.9): which of its octets are there, and what they
--- show. What they do not show is hidden, and a component that asks for it never matches.
+-- The transport header (RFC 8955 sections 4.2.2.4 to 4.2.2.9): which of its octets are there behind an IPv4 header, and what transport
+-- octets show in either family. What they do not show is hidden, and a component that asks for it never matches.
 use Prim.Native.Nat.{ℕ, _*_, min}
 use mathlib.Core.Bool.{Bool, cond, _&&_, _||_}
 use mathlib.Core.List.{List, []}
@@ -28,7 +28,7 @@ transportOctets s =
 abbrev pub hasPorts : ℕ → ℕ → Bool
 hasPorts protocol there = (eqb protocol 6 || eqb protocol 17) && leb 4 there
 
--- 01: "ICMP needs protocol 1 and 2 octets"; 1 is ICMP's number in IPv4.
+-- 01: "ICMP needs protocol 1 and 2 octets"; 1 is ICMP's number in IPv4, and 58 ICMPv6's (RFC 8956 section 3.4).
 abbrev pub hasIcmp : Family → ℕ → ℕ → Bool
 hasIcmp family protocol there = eqb protocol (family .icmp) && leb 2 there
 

@@ -1,9 +1,13 @@
-// What an IPv4 packet shows (RFC 8955 section 4.2.2), or that octets are unusable as one. `packet_of` alone reads the packet's octets;
-// what asks a packet goes by what it found. It answers whatever octets it is lent.
+// What a packet shows (RFC 8955 section 4.2.2, RFC 8956 section 3), or that octets are unusable as one. `packet_of` alone reads the
+// packet's octets; what asks a packet goes by what it found. It answers whatever octets it is lent.
 ghost use mathlib.Core.Path.{_≡_};
-ghost use Rattle.packet.specs.Header.{isUnusable, fragmentData};
+ghost use Prim.Native.Nat.{_≤_};
+ghost use lib.ListN.{length};
+ghost use Rattle.packet.specs.Header.{ipv4Unusable};
+ghost use Rattle.packet.specs.Header6.{trafficClass, flowLabel, addressAt, ipv6Unusable, counted, upperOctets};
 ghost use Rattle.packet.specs.Transport.{transportOctets, shownIf, hasPorts, hasIcmp, hasFlags, transportFields};
-ghost use Rattle.packet.specs.Packet.{packetOf};
+ghost use Rattle.packet.specs.Packet.{fragmentData, ipv4Fields, ipv6Fields, readingOf, packetOf};
+use extension::Ended;
 use octets::bit_if;
 use octets::least;
 use octets::number_at;
@@ -37,6 +41,7 @@ pub struct Packet {
     pub dscp: u8,
     pub fragment: u8,
     pub transport: Transport,
+    pub label: Field,
 }
 
 // What is seen in octets: a packet, or that they are unusable as one.
@@ -45,59 +50,17 @@ pub enum Reading {
     Unusable,
 }
 
-// ---- What a packet shows (section 4.2.2) ----
+// ---- What is shown in either family ----
 
-// Whether octets are unusable as a packet: too few, another version, or lengths that do not agree.
-fn is_unusable(family: Family, octets: &[u8]) -> bool
-    ensures { λ r. ⌜ r ≡ isUnusable family (now (octets .entry)) ⌝ }
+// The fragment component's data: whether DF is set, whether the fragment offset is 0, and whether more fragments follow.
+fn fragment_data(dont: bool, first: bool, more: bool) -> u8
+    ensures { λ r. ⌜ r ≡ fragmentData dont first more ⌝ }
 {
-    if octets.len() < 20 {
-        return true;
-    }
-    let first = octets[0];
-    let version = first >> 4;
-    if version != family.version {
-        return true;
-    }
-    let words = first & 0x0f;
-    if words < 5 {
-        return true;
-    }
-    let total = number_at(2, octets, 2);
-    let header = 4 * words as u64;
-    total < header
-}
-
-// The fragment component's data, from the header's field of three flags and the fragment offset.
-fn fragment_data(field: u64) -> u8
-    ensures { λ r. ⌜ r ≡ fragmentData field ⌝ }
-{
-    let first = field & 0x1fff == 0;
-    let whole = bit_if(field & 0x4000 != 0, 0x01);
+    let whole = bit_if(dont, 0x01);
     let later = bit_if(!first, 0x02);
-    let more = field & 0x2000 != 0;
     let begins = bit_if(first & more, 0x04);
     let ends = bit_if(!first & !more, 0x08);
     whole + later + begins + ends
-}
-
-// The octets behind the header and its options, up to the smaller of the lent and the total length; none in a later fragment.
-fn transport_octets(octets: &[u8]) -> &[u8]
-    ensures { λ r. ⌜ now r ≡ transportOctets (now (octets .entry)) ⌝ }
-{
-    let words = octet_at(octets, 0) & 0x0f;
-    let field = number_at(2, octets, 6);
-    let offset = field & 0x1fff;
-    let total = number_at(2, octets, 2);
-    let start = 4 * words as usize;
-    let end = least(octets.len(), total as usize);
-    if offset != 0 {
-        return &octets[end..end];
-    }
-    if end < start {
-        return &octets[end..end];
-    }
-    &octets[start..end]
 }
 
 // A field that is shown where a test holds.
@@ -108,6 +71,13 @@ fn shown_if(holds: bool, number: u32) -> Field
         return Field::Shown(number);
     }
     Field::Hidden
+}
+
+// An octet that is shown where a test holds.
+fn shown_octet(holds: bool, octet: u8) -> Field
+    ensures { λ r. ⌜ r ≡ shownIf holds octet ⌝ }
+{
+    shown_if(holds, octet as u32)
 }
 
 // Whether ports are shown, by the protocol and how many transport octets are there.
@@ -148,15 +118,59 @@ fn transport_fields(family: Family, protocol: u8, octets: &[u8]) -> Transport
     }
 }
 
-// What octets show as a packet.
-pub fn packet_of(family: Family, octets: &[u8]) -> Reading
-    ensures { λ r. ⌜ r ≡ packetOf family (now (octets .entry)) ⌝ }
+// ---- IPv4 ----
+
+// Whether octets are unusable as an IPv4 packet: too few, another version, or lengths that do not agree.
+fn is_unusable_ipv4(family: Family, octets: &[u8]) -> bool
+    ensures { λ r. ⌜ r ≡ ipv4Unusable family (now (octets .entry)) ⌝ }
 {
-    if is_unusable(family, octets) {
+    if octets.len() < 20 {
+        return true;
+    }
+    let first = octets[0];
+    let version = first >> 4;
+    if version != family.version {
+        return true;
+    }
+    let words = first & 0x0f;
+    if words < 5 {
+        return true;
+    }
+    let total = number_at(2, octets, 2);
+    let header = 4 * words as u64;
+    total < header
+}
+
+// The octets behind the header and its options, up to the smaller of the lent and the total length; none in a later fragment.
+fn transport_octets(octets: &[u8]) -> &[u8]
+    ensures { λ r. ⌜ now r ≡ transportOctets (now (octets .entry)) ⌝ }
+{
+    let words = octet_at(octets, 0) & 0x0f;
+    let field = number_at(2, octets, 6);
+    let offset = field & 0x1fff;
+    let total = number_at(2, octets, 2);
+    let start = 4 * words as usize;
+    let end = least(octets.len(), total as usize);
+    if offset != 0 {
+        return &octets[end..end];
+    }
+    if end < start {
+        return &octets[end..end];
+    }
+    &octets[start..end]
+}
+
+// What octets show as an IPv4 packet.
+fn ipv4_packet(family: Family, octets: &[u8]) -> Reading
+    ensures { λ r. ⌜ r ≡ readingOf (ipv4Unusable family (now (octets .entry))) (ipv4Fields family (now (octets .entry))) ⌝ }
+{
+    if is_unusable_ipv4(family, octets) {
         return Reading::Unusable;
     }
     let protocol = octet_at(octets, 9);
     let transport = transport_fields(family, protocol, transport_octets(octets));
+    let field = number_at(2, octets, 6);
+    let first = field & 0x1fff == 0;
     Reading::Usable(Packet {
         destination: Address {
             high: 0,
@@ -169,7 +183,106 @@ pub fn packet_of(family: Family, octets: &[u8]) -> Reading
         protocol: Field::Shown(protocol as u32),
         length: number_at(2, octets, 2) as u32,
         dscp: octet_at(octets, 1) >> 2,
-        fragment: fragment_data(number_at(2, octets, 6)),
+        fragment: fragment_data(field & 0x4000 != 0, first, field & 0x2000 != 0),
         transport,
+        label: Field::Hidden,
     })
+}
+
+// ---- IPv6 ----
+
+// Whether octets are unusable as an IPv6 packet: too few, or another version.
+fn is_unusable_ipv6(family: Family, octets: &[u8]) -> bool
+    ensures { λ r. ⌜ r ≡ ipv6Unusable family (now (octets .entry)) ⌝ }
+{
+    if octets.len() < 40 {
+        return true;
+    }
+    octets[0] >> 4 != family.version
+}
+
+// The traffic class.
+fn traffic_class(octets: &[u8]) -> u8
+    ensures { λ r. ⌜ r ≡ trafficClass (now (octets .entry)) ⌝ }
+{
+    let front = number_at(2, octets, 0);
+    (front >> 4 & 0xff) as u8
+}
+
+// The flow label.
+fn flow_label(octets: &[u8]) -> u32
+    ensures { λ r. ⌜ r ≡ flowLabel (now (octets .entry)) ⌝ }
+{
+    let front = number_at(4, octets, 0);
+    (front & 0xfffff) as u32
+}
+
+// The octets that count: those lent, up to the packet's length.
+fn counted_octets(octets: &[u8]) -> &[u8]
+    ensures { λ r. ⌜ now r ≡ counted (now (octets .entry)) ⌝ }
+{
+    let length = number_at(2, octets, 4) as usize + 40;
+    let end = least(octets.len(), length);
+    &octets[0..end]
+}
+
+// The octets from the upper layer's first one on; none where it is not found or behind a fragment offset that is not 0.
+fn upper_octets(octets: &[u8], upper: Ended) -> &[u8]
+    requires { ⌜ upper .progress .at ≤ length (now octets) ⌝ }
+    ensures { λ r. ⌜ now r ≡ upperOctets (now (octets .entry)) upper ⌝ }
+{
+    let end = octets.len();
+    if upper.found & (upper.progress.field >> 3 == 0) {
+        let from = upper.progress.at;
+        return &octets[from..end];
+    }
+    &octets[end..end]
+}
+
+// An address of 128 bits that begins at a place.
+fn address_at(octets: &[u8], at: usize) -> Address
+    requires { ⌜ at ≤ 40 ⌝ }
+    ensures { λ r. ⌜ r ≡ addressAt (now (octets .entry)) at ⌝ }
+{
+    Address {
+        high: number_at(8, octets, at),
+        low: number_at(8, octets, at + 8),
+    }
+}
+
+// What octets show as an IPv6 packet.
+fn ipv6_packet(family: Family, octets: &[u8]) -> Reading
+    ensures { λ r. ⌜ r ≡ readingOf (ipv6Unusable family (now (octets .entry))) (ipv6Fields family (now (octets .entry))) ⌝ }
+{
+    if is_unusable_ipv6(family, octets) {
+        return Reading::Unusable;
+    }
+    let counted = counted_octets(octets);
+    let upper = extension::upper_layer(counted);
+    let kind = upper.progress.kind;
+    let field = upper.progress.field;
+    let first = field >> 3 == 0;
+    let transport = transport_fields(family, kind, upper_octets(counted, upper));
+    Reading::Usable(Packet {
+        destination: address_at(octets, 24),
+        source: address_at(octets, 8),
+        protocol: shown_octet(upper.found, kind),
+        length: number_at(2, octets, 4) as u32 + 40,
+        dscp: traffic_class(octets) >> 2,
+        fragment: fragment_data(false, first, field & 1 != 0),
+        transport,
+        label: Field::Shown(flow_label(octets)),
+    })
+}
+
+// ---- Either ----
+
+// What octets show as a packet of a family.
+pub fn packet_of(family: Family, octets: &[u8]) -> Reading
+    ensures { λ r. ⌜ r ≡ packetOf family (now (octets .entry)) ⌝ }
+{
+    if family.version == 4 {
+        return ipv4_packet(family, octets);
+    }
+    ipv6_packet(family, octets)
 }

@@ -16,9 +16,9 @@ use Rattle.rule.specs.Reading.{fieldSize, fieldLength, firstRule, oneRule}
 use Rattle.spelling.specs.Writing.{lengthField}
 use Rattle.order.specs.Precedence.{bodyOrder, componentOrder, componentsOrder, plainOrder, precedence}
 use Rattle.rate.specs.Rate.{scaled, numberFor, numberOfParts, rateOfParts, rateOf}
-use Rattle.packet.specs.Header.{isUnusable, fragmentData}
+use Rattle.packet.specs.Header.{ipv4Unusable}
 use Rattle.packet.specs.Transport.{transportOctets, transportFields}
-use Rattle.packet.specs.Packet.{fieldsOf, packetOf}
+use Rattle.packet.specs.Packet.{fragmentData, ipv4Fields, isUnusable, fieldsOf, packetOf}
 use Rattle.matching.specs.Operator.{numericHolds}
 use Rattle.matching.specs.PairList.{groupsFrom, groups, listHolds}
 use Rattle.matching.specs.Match.{holdsFor, bodyHolds, fieldMatches, fieldsFor, bodyCovers, componentMatches, matches}
@@ -28,7 +28,7 @@ pub marked : map (λ (e : Example). answerTo (e .asks)) examples ≡ map (λ (e 
 unfolding
     answerTo numberAt walk bits sameList coversAddress contains prefixOrder patternIn endsList sizeOf shapeOf leadOf offsetAt pairAt pairsFrom prefixEnd bodyEnd componentAt
     componentsFrom components checkValue expectedAtStart bodyOf patternAfter operandAfter after withoutReserved plainOperator plainOperand plainPattern clearedOctet plainFrom plain fieldSize fieldLength lengthField
-    bodyOrder componentOrder componentsOrder plainOrder precedence scaled numberFor numberOfParts rateOfParts rateOf isUnusable fragmentData transportOctets transportFields fieldsOf packetOf
+    bodyOrder componentOrder componentsOrder plainOrder precedence scaled numberFor numberOfParts rateOfParts rateOf isUnusable ipv4Unusable fragmentData ipv4Fields transportOctets transportFields fieldsOf packetOf
     numericHolds every oneHolds groupsFrom groups listHolds holdsFor bodyHolds fieldMatches fieldsFor bodyCovers componentMatches matches
 marked = refl
 

@@ -18,7 +18,7 @@ use Rattle.rule.specs.Value.{checkValue}
 use Rattle.rule.specs.Reading.{checkRule}
 use Rattle.rule.proofs.RefusalsLaws.{Numbered, value-numbered, rule-numbered}
 use Rattle.action.specs.declared.Reading.{Reading as ActionsReading}
-use Rattle.packet.specs.Header.{isUnusable}
+use Rattle.packet.specs.Packet.{isUnusable}
 use Rattle.order.specs.declared.Comparison.{Comparison}
 use Rattle.flowspec.specs.declared.Feasibility.{Feasibility}
 use Rattle.flowspec.specs.declared.Change.{Change}

@@ -1,4 +1,4 @@
--- **Whom request 2026-02, on IP options, leaves as they were.** A packet that shows what it showed before (packet/proofs/Options.antt) is
+-- **Whom request 2026-02, on IP options, leaves as they were.** A packet of IPv4 that shows what it showed before (packet/proofs/Options.antt) is
 -- answered by every table as it was: so a packet with a header of five words, and a later fragment. Assumes nothing.
 use mathlib.Core.Path.{_≡_}
 use mathlib.Core.Bool.{cond}
@@ -14,7 +14,7 @@ use Rattle.lookup.specs.declared.Opening.the-variants.{Refused as NotOpened}
 use Rattle.lookup.specs.Opening.{openingOf, opening}
 use Rattle.flowspec.specs.Look.{lookedUp, lookingUp, firstIn, firstMatch}
 
-module _ (family : Family) (t octets : List ℕ) where
+module _ (family : Family) (four : family .version ≡ 4) (t octets : List ℕ) where
   -- what a lookup began with before the request, by what octets showed then
   abbrev openingBefore : Opening
   openingBefore = cond (soundTable family t) (openingOf (packetBefore family octets)) (NotOpened 10)
@@ -29,8 +29,8 @@ module _ (family : Family) (t octets : List ℕ) where
 
   -- a packet with a header of five words
   pub five-words-judged : headerWords octets ≡ 5 → JudgedAsBefore
-  five-words-judged h = same-shown (five-words family octets h)
+  five-words-judged h = same-shown (five-words family four octets h)
 
   -- a later fragment, with options too
   pub later-judged : (fragmentOffset (fragmentField octets) ≡ 0 → ⊥) → JudgedAsBefore
-  later-judged h = same-shown (later-same family octets h)
+  later-judged h = same-shown (later-same family four octets h)

@@ -19,7 +19,7 @@ use Rattle.spelling.specs.Writing.{ruleFor}
 use Rattle.order.specs.Key.{keysOf}
 use Rattle.route.specs.Route.{soundRoutes}
 use Rattle.action.specs.Actions.{actionsOf}
-use Rattle.packet.specs.Header.{isUnusable}
+use Rattle.packet.specs.Packet.{isUnusable}
 use Rattle.table.specs.Sound.{soundTable}
 use Rattle.table.specs.Change.{holds, hasRoom}
 use Rattle.request.specs.Input.{Announcement, Policy}

@@ -53,7 +53,11 @@ unfolding fieldsFor
 returns-12 c = on-number _ _ _ _ 12 (c .before .before .match .keys12) refl _ (search needs) _ _ refl (c .list-holds3 .ensures)
 
 returns-13 : tie.Need-returns-13
-returns-13 c = search (on-nothing, needs)
+unfolding fieldsFor
+returns-13 c = on-field _ _ _ _ 13 (c .before .match .keys13) refl _ (search needs) _ _ refl (c .field-matches9 .ensures)
+
+returns-14 : tie.Need-returns-14
+returns-14 c = search (on-nothing, needs)
 
 pub matches-component-spec : {M : Type 1} → statement M
 matches-component-spec =
@@ -76,6 +80,7 @@ matches-component-spec =
     (λ c κs. search needs)
     (λ c. search needs)
     (λ c κs. search needs)
+    (λ c κs. search needs)
     returns
     returns-2
     returns-3
@@ -88,4 +93,5 @@ matches-component-spec =
     returns-10
     returns-11
     returns-12
-    returns-13)
+    returns-13
+    returns-14)

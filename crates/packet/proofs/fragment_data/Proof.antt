@@ -1,6 +1,6 @@
 -- Each bit is what its call answers.
 use borrow.Author.Needs.{needs}
-use Rattle.packet.specs.Header.{fragmentData}
+use Rattle.packet.specs.Packet.{fragmentData}
 use Rattle.packet.proofs.fragment_data.Statement.{statement}
 use Rattle.packet.proofs.fragment_data.Tie as tie
 

@@ -1,14 +1,14 @@
--- The fields are what the calls answer.
-use Rattle.packet.proofs.PacketLaws.{not-usable, usable}
+-- One law for each version of IP.
+use Rattle.packet.proofs.PacketLaws.{four-packet, six-packet}
 use borrow.Author.Needs.{needs}
 use Rattle.packet.proofs.packet_of.Statement.{statement}
 use Rattle.packet.proofs.packet_of.Tie as tie
 
 returns : tie.Need-returns
-returns c = search (not-usable, needs)
+returns c = search (four-packet, needs)
 
 returns-2 : tie.Need-returns-2
-returns-2 c = search (usable, needs)
+returns-2 c = search (six-packet, needs)
 
 pub packet-of-spec : {M : Type 1} → statement M
 packet-of-spec =
@@ -16,15 +16,5 @@ packet-of-spec =
     (tie.spec
     (λ c κs. search needs)
     returns
-    (λ c κs. search needs)
-    (λ c κs. search needs)
-    (λ c κs. search needs)
-    (λ c κs. search needs)
-    (λ c κs. search needs)
-    (λ c. search needs)
-    (λ c κs. search needs)
-    (λ c. search needs)
-    (λ c κs. search needs)
-    (λ c κs. search needs)
     (λ c κs. search needs)
     returns-2)

@@ -2,8 +2,8 @@
 use native.Mathlib.Omega.{arith}
 use Rattle.packet.proofs.HeaderLaws.{words-bounded, too-few, other-version, short-header, by-total}
 use borrow.Author.Needs.{needs}
-use Rattle.packet.proofs.is_unusable.Statement.{statement}
-use Rattle.packet.proofs.is_unusable.Tie as tie
+use Rattle.packet.proofs.is_unusable_ipv4.Statement.{statement}
+use Rattle.packet.proofs.is_unusable_ipv4.Tie as tie
 
 returns : tie.Need-returns
 returns c = search (too-few, needs)
@@ -27,8 +27,8 @@ mul-header c = omega (arith, words-bounded (start c .args .octets .now))
 returns-4 : tie.Need-returns-4
 returns-4 c = search (by-total, needs)
 
-pub is-unusable-spec : {M : Type 1} → statement M
-is-unusable-spec =
+pub is-unusable-ipv4-spec : {M : Type 1} → statement M
+is-unusable-ipv4-spec =
     tie.close
     (tie.spec
     returns
