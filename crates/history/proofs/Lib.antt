@@ -6,3 +6,4 @@ pub mod AttributeLaws
 pub mod AttributesHappen
 pub mod OperatorTheorems
 pub mod Worked
+pub mod Worked6

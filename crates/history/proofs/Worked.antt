@@ -34,10 +34,10 @@ use Rattle.action.specs.Actions.{communitiesAt, actionsOf, flagsOf, ofType, sma
 use Rattle.action.specs.Given.{smallerOf, firstOf, allowed}
 use Rattle.action.specs.Merging.{merged}
 use Rattle.action.specs.Possible.{couldBe}
-use Rattle.packet.specs.Header.{isUnusable, fragmentData}
+use Rattle.packet.specs.Header.{ipv4Unusable}
 use Rattle.matching.specs.Match.{holdsFor, bodyHolds, fieldMatches, componentMatches, matches, fieldsFor, bodyCovers}
 use Rattle.matching.specs.Operator.{numericHolds, bitmaskHolds}
-use Rattle.packet.specs.Packet.{fieldsOf, packetOf}
+use Rattle.packet.specs.Packet.{fragmentData, ipv4Fields, isUnusable, fieldsOf, packetOf}
 use Rattle.matching.specs.PairList.{groupsFrom, groups, listHolds}
 use Rattle.packet.specs.Transport.{transportOctets, transportFields}
 use Rattle.entry.specs.Entry.{plainValue, possible, Entry, entryKey}
@@ -74,7 +74,7 @@ use Rattle.history.proofs.AttributeLaws.{singles-from-empty, events-ali
 use Rattle.history.proofs.AttributesHappen.{left-promised}
 
 -- octets, by a test
-octets-each : (s : List ℕ) → every (λ x. ltb x 256) s ≡ true → Octets s
+pub octets-each : (s : List ℕ) → every (λ x. ltb x 256) s ≡ true → Octets s
 unfolding every
 octets-each [] e = λ i. omega arith
 octets-each (x ∷ s) e =
@@ -125,7 +125,7 @@ unfolding
     plainOperator plainOperand plainPattern clearedOctet plainFrom plain fieldSize fieldLength firstRule oneRule componentsFrom
     components checkValue bodyKey keyOf keysOf destinationFor destinationAmong destinationOf coveredBy moreSpecific longer matched bestMatch
     undisputed judged feasible numberInWords routeAt routesFrom routesOf plainPrefix rises rising soundRoutes ofType smallest first
-    ruleActions communitiesAt actionsOf flagsOf firstOf smallerOf allowed merged couldBe isUnusable fragmentData holdsFor bodyHolds
+    ruleActions communitiesAt actionsOf flagsOf firstOf smallerOf allowed merged couldBe isUnusable ipv4Unusable fragmentData ipv4Fields holdsFor bodyHolds
     fieldMatches fieldsFor bodyCovers componentMatches matches numericHolds bitmaskHolds fieldsOf packetOf groupsFrom groups listHolds
     transportOctets transportFields plainValue possible writtenFields readFields headNumbers recordOf actionsIn entryOf goodRecord holds
     removed inserted hasRoom withdrawn collected mergedOnto verdictOf verdictFor firstPlace recordsOf tableOf soundTable soundness recordAt

@@ -2,3 +2,4 @@
 pub mod History
 pub mod Attributes
 pub mod Worked
+pub mod Worked6
