@@ -1,121 +1,40 @@
-// The public calls for C and Rust: numbers and slices only. A slice is a pointer and a length, and `&mut [u64; 2]` is a `uint64_t out[2]`.
-// Each call returns one word (specs/Word.antt), has no `requires`, and promises in specs/Promise.antt what the door's call does.
-ghost use mathlib.Core.Path.{_≡_};
+// The public calls for C and Rust. A slice is a pointer and a length, and `&mut [u64; 2]` is a `uint64_t out[2]`. Each function is the call in
+// words of its name (crate calls) for the family of its number, 4 for IPv4 and 6 for IPv6, and promises what that call does.
 ghost use mathlib.Core.List.{[], _∷_};
-ghost use Prim.Native.Nat.{_≤_};
-ghost use Rattle.rule.specs.Value.{mostValue};
+ghost use Rattle.rule.specs.Family.{ipv4, ipv6};
 ghost use Rattle.request.specs.Input.{announcementOf, policyOf};
-ghost use Rattle.flowspec.specs.Told.{changeTold, verdictTold};
 ghost use Rattle.update.specs.Singles.{reachOf};
-ghost use Rattle.c_api.specs.Word.{word, wordOf, isOn};
-ghost use Rattle.c_api.specs.Promise.{ReadCall, WriteCall, CompareCall, FeasibleCall, ActionsCall, AnnounceCall, WithdrawCall, ReachCall, UnreachCall, LookupCall, FirstMatchCall};
-use flowspec::Change;
-use flowspec::Feasibility;
-use flowspec::Looked;
-use lookup::Verdict;
-use order::Comparison;
+ghost use Rattle.calls.specs.Word.{isOn};
+ghost use Rattle.calls.specs.Promise.{ReadCall, WriteCall, CompareCall, FeasibleCall, ActionsCall, AnnounceCall, WithdrawCall, ReachCall, UnreachCall, LookupCall, FirstMatchCall};
 use rule::AddressFamily;
-use rule::Reading;
-use spelling::Writing;
-use update::Applied;
 
-// The word of a refusal: its number in the low 32 bits, its place in the high 32.
-fn word_of(number: u8, place: usize) -> u64
-    requires { ⌜ place ≤ mostValue ⌝ }
-    ensures { λ r. ⌜ r ≡ word number place ⌝ }
-{
-    number as u64 + place as u64 * 0x1_0000_0000
-}
+// ---- IPv4 (RFC 8955) ----
 
-// The word of a change: its refusal's, and 0 where it is done.
-fn change_word(change: Change) -> u64
-    requires { ⌜ changeTold change .place ≤ mostValue ⌝ }
-    ensures { λ r. ⌜ r ≡ wordOf (changeTold change) ⌝ }
-{
-    match change {
-        Change::Refused { number, place } => word_of(number, place),
-        Change::Done => 0,
-    }
-}
-
-// Whether the header's `allow_no_destination` is on: 0 is off and any other number on.
-fn is_on(allow: u32) -> bool
-    ensures { λ r. ⌜ r ≡ isOn allow ⌝ }
-{
-    allow != 0
-}
-
-// The words of a verdict: the count and the merged actions' values, all 0 where no rule matches.
-fn words_of(verdict: Verdict) -> [u64; 6]
-    ensures { λ r. ⌜ r ≡ verdictTold verdict .values ⌝ }
-{
-    match verdict {
-        Verdict::Unmatched => [0; 6],
-        Verdict::Matched { actions, count } => {
-            let values = entry::values_of(actions);
-            [
-                count as u64,
-                values[0],
-                values[1],
-                values[2],
-                values[3],
-                values[4],
-            ]
-        }
-    }
-}
-
-// Reads one rule. out: where its value starts, and its length.
+// Reads one rule.
 #[no_mangle]
 pub extern "C" fn flowspec4_read(rule: &[u8], out: &mut [u64; 2]) -> u64
-    ensures { λ r. ⌜ ReadCall (now (rule .entry)) (now (out .entry)) r (now (out .exit)) (now (rule .exit) ∷ []) ⌝ }
+    ensures { λ r. ⌜ ReadCall ipv4 (now (rule .entry)) (now (out .entry)) r (now (out .exit)) (now (rule .exit) ∷ []) ⌝ }
 {
-    match flowspec::read_rule(AddressFamily::Ipv4, rule) {
-        Reading::Refused { number, place } => word_of(number, place),
-        Reading::Rule { start, size } => {
-            *out = [start as u64, size as u64];
-            0
-        }
-    }
+    calls::read(AddressFamily::Ipv4, rule, out)
 }
 
-// Writes one rule from its value to the front of a buffer. out: how many octets were written.
+// Writes one rule from its value to the front of a buffer.
 #[no_mangle]
 pub extern "C" fn flowspec4_write(value: &[u8], buffer: &mut [u8], out: &mut [u64; 1]) -> u64
-    ensures { λ r. ⌜ WriteCall (now (value .entry)) (now (buffer .entry)) (now (out .entry)) r (now (buffer .exit)) (now (out .exit)) (now (value .exit) ∷ []) ⌝ }
+    ensures { λ r. ⌜ WriteCall ipv4 (now (value .entry)) (now (buffer .entry)) (now (out .entry)) r (now (buffer .exit)) (now (out .exit)) (now (value .exit) ∷ []) ⌝ }
 {
-    match flowspec::write_rule(AddressFamily::Ipv4, value, buffer) {
-        Writing::Refused { number, place } => word_of(number, place),
-        Writing::Written(octets) => {
-            *out = [octets as u64];
-            0
-        }
-    }
+    calls::write(AddressFamily::Ipv4, value, buffer, out)
 }
 
-// Compares two rules by their precedence. out: 1 where the first comes first, 2 where the second does, 3 where they are the same rule.
+// Compares two rules by their precedence.
 #[no_mangle]
 pub extern "C" fn flowspec4_compare(first: &[u8], second: &[u8], out: &mut [u64; 1]) -> u64
-    ensures { λ r. ⌜ CompareCall (now (first .entry)) (now (second .entry)) (now (out .entry)) r (now (out .exit)) (now (first .exit) ∷ now (second .exit) ∷ []) ⌝ }
+    ensures { λ r. ⌜ CompareCall ipv4 (now (first .entry)) (now (second .entry)) (now (out .entry)) r (now (out .exit)) (now (first .exit) ∷ now (second .exit) ∷ []) ⌝ }
 {
-    match flowspec::compare_rules(AddressFamily::Ipv4, first, second) {
-        Comparison::Refused { number, place } => word_of(number, place),
-        Comparison::First => {
-            *out = [1];
-            0
-        }
-        Comparison::Second => {
-            *out = [2];
-            0
-        }
-        Comparison::Same => {
-            *out = [3];
-            0
-        }
-    }
+    calls::compare(AddressFamily::Ipv4, first, second, out)
 }
 
-// Judges whether a rule is feasible for an originator by the lent routes; `allow_no_destination` is on where it is not 0.
+// Judges whether a rule is feasible for an originator by the lent routes.
 #[no_mangle]
 pub extern "C" fn flowspec4_feasible(
     routes: &[u32],
@@ -123,30 +42,26 @@ pub extern "C" fn flowspec4_feasible(
     rule: &[u8],
     originator: u32,
 ) -> u64
-    ensures { λ r. ⌜ FeasibleCall (policyOf (now (routes .entry)) (isOn «allow_no_destination»)) (now (rule .entry)) originator r (now (routes .exit) ∷ now (rule .exit) ∷ []) ⌝ }
+    ensures { λ r. ⌜ FeasibleCall ipv4 (policyOf (now (routes .entry)) (isOn «allow_no_destination»)) (now (rule .entry)) originator r (now (routes .exit) ∷ now (rule .exit) ∷ []) ⌝ }
 {
-    let on = is_on(allow_no_destination);
-    match flowspec::judge_rule(AddressFamily::Ipv4, on, routes, rule, originator) {
-        Feasibility::Refused { number, place } => word_of(number, place),
-        Feasibility::Feasible => 0,
-    }
+    calls::feasible(
+        AddressFamily::Ipv4,
+        routes,
+        allow_no_destination,
+        rule,
+        originator,
+    )
 }
 
-// Reads the filtering actions of a rule's communities. out: flags, DSCP, byte rate, packet rate, redirect.
+// Reads the filtering actions of a rule's communities, whatever the rule's family.
 #[no_mangle]
 pub extern "C" fn flowspec4_actions(communities: &[u8], out: &mut [u64; 5]) -> u64
     ensures { λ r. ⌜ ActionsCall (now (communities .entry)) (now (out .entry)) r (now (out .exit)) (now (communities .exit) ∷ []) ⌝ }
 {
-    match flowspec::read_actions(communities) {
-        action::Reading::Unsound => word_of(13, 0),
-        action::Reading::Read(actions) => {
-            *out = entry::values_of(actions);
-            0
-        }
-    }
+    calls::actions(communities, out)
 }
 
-// Announces a rule with its actions to a table; `allow_no_destination` is on where it is not 0.
+// Announces a rule with its actions to a table.
 #[no_mangle]
 pub extern "C" fn flowspec4_announce(
     table: &mut [u8],
@@ -156,32 +71,28 @@ pub extern "C" fn flowspec4_announce(
     originator: u32,
     communities: &[u8],
 ) -> u64
-    ensures { λ r. ⌜ AnnounceCall (now (table .entry)) (policyOf (now (routes .entry)) (isOn «allow_no_destination»)) (announcementOf (now (rule .entry)) originator (now (communities .entry))) r (now (table .exit)) (now (routes .exit) ∷ now (rule .exit) ∷ now (communities .exit) ∷ []) ⌝ }
+    ensures { λ r. ⌜ AnnounceCall ipv4 (now (table .entry)) (policyOf (now (routes .entry)) (isOn «allow_no_destination»)) (announcementOf (now (rule .entry)) originator (now (communities .entry))) r (now (table .exit)) (now (routes .exit) ∷ now (rule .exit) ∷ now (communities .exit) ∷ []) ⌝ }
 {
-    let on = is_on(allow_no_destination);
-    let change = flowspec::announce(
+    calls::announce(
         AddressFamily::Ipv4,
         table,
-        on,
         routes,
+        allow_no_destination,
         rule,
         originator,
         communities,
-    );
-    change_word(change)
+    )
 }
 
 // Withdraws a rule from a table.
 #[no_mangle]
 pub extern "C" fn flowspec4_withdraw(table: &mut [u8], rule: &[u8]) -> u64
-    ensures { λ r. ⌜ WithdrawCall (now (table .entry)) (now (rule .entry)) r (now (table .exit)) (now (rule .exit) ∷ []) ⌝ }
+    ensures { λ r. ⌜ WithdrawCall ipv4 (now (table .entry)) (now (rule .entry)) r (now (table .exit)) (now (rule .exit) ∷ []) ⌝ }
 {
-    let change = flowspec::withdraw(AddressFamily::Ipv4, table, rule);
-    change_word(change)
+    calls::withdraw(AddressFamily::Ipv4, table, rule)
 }
 
-// Announces the rules of an MP_REACH_NLRI attribute to a table; `allow_no_destination` is on where it is not 0. answers: a number for each
-// rule. out: how many rules there are.
+// Announces the rules of an MP_REACH_NLRI attribute to a table.
 #[no_mangle]
 pub extern "C" fn flowspec4_reach(
     table: &mut [u8],
@@ -193,28 +104,22 @@ pub extern "C" fn flowspec4_reach(
     answers: &mut [u32],
     out: &mut [u64; 1],
 ) -> u64
-    ensures { λ r. ⌜ ReachCall (now (table .entry)) (policyOf (now (routes .entry)) (isOn «allow_no_destination»)) (reachOf (now (attribute .entry)) originator (now (communities .entry))) (now (answers .entry)) (now (out .entry)) r (now (table .exit)) (now (answers .exit)) (now (out .exit)) (now (routes .exit) ∷ now (attribute .exit) ∷ now (communities .exit) ∷ []) ⌝ }
+    ensures { λ r. ⌜ ReachCall ipv4 (now (table .entry)) (policyOf (now (routes .entry)) (isOn «allow_no_destination»)) (reachOf (now (attribute .entry)) originator (now (communities .entry))) (now (answers .entry)) (now (out .entry)) r (now (table .exit)) (now (answers .exit)) (now (out .exit)) (now (routes .exit) ∷ now (attribute .exit) ∷ now (communities .exit) ∷ []) ⌝ }
 {
-    let on = is_on(allow_no_destination);
-    match update::reach(
+    calls::reach(
         AddressFamily::Ipv4,
         table,
-        on,
         routes,
+        allow_no_destination,
         attribute,
         originator,
         communities,
         answers,
-    ) {
-        Applied::Refused { number, place } => word_of(number, place),
-        Applied::Done(count) => {
-            *out = [count as u64];
-            0
-        }
-    }
+        out,
+    )
 }
 
-// Withdraws the rules of an MP_UNREACH_NLRI attribute from a table. answers: a number for each rule. out: how many rules there are.
+// Withdraws the rules of an MP_UNREACH_NLRI attribute from a table.
 #[no_mangle]
 pub extern "C" fn flowspec4_unreach(
     table: &mut [u8],
@@ -222,41 +127,155 @@ pub extern "C" fn flowspec4_unreach(
     answers: &mut [u32],
     out: &mut [u64; 1],
 ) -> u64
-    ensures { λ r. ⌜ UnreachCall (now (table .entry)) (now (attribute .entry)) (now (answers .entry)) (now (out .entry)) r (now (table .exit)) (now (answers .exit)) (now (out .exit)) (now (attribute .exit) ∷ []) ⌝ }
+    ensures { λ r. ⌜ UnreachCall ipv4 (now (table .entry)) (now (attribute .entry)) (now (answers .entry)) (now (out .entry)) r (now (table .exit)) (now (answers .exit)) (now (out .exit)) (now (attribute .exit) ∷ []) ⌝ }
 {
-    match update::unreach(AddressFamily::Ipv4, table, attribute, answers) {
-        Applied::Refused { number, place } => word_of(number, place),
-        Applied::Done(count) => {
-            *out = [count as u64];
-            0
-        }
-    }
+    calls::unreach(AddressFamily::Ipv4, table, attribute, answers, out)
 }
 
-// Looks a packet up in a table. out: the count, 0 where unmatched, and the merged actions' values, 0 where unmatched.
+// Looks a packet up in a table.
 #[no_mangle]
 pub extern "C" fn flowspec4_lookup(table: &[u8], packet: &[u8], out: &mut [u64; 6]) -> u64
-    ensures { λ r. ⌜ LookupCall (now (table .entry)) (now (packet .entry)) (now (out .entry)) r (now (out .exit)) (now (table .exit) ∷ now (packet .exit) ∷ []) ⌝ }
+    ensures { λ r. ⌜ LookupCall ipv4 (now (table .entry)) (now (packet .entry)) (now (out .entry)) r (now (out .exit)) (now (table .exit) ∷ now (packet .exit) ∷ []) ⌝ }
 {
-    match flowspec::lookup(AddressFamily::Ipv4, table, packet) {
-        Looked::Refused { number, place } => word_of(number, place),
-        Looked::Answered(verdict) => {
-            *out = words_of(verdict);
-            0
-        }
-    }
+    calls::lookup(AddressFamily::Ipv4, table, packet, out)
 }
 
-// Locates the first match's record. out: its start in the table and its length, 0 and 0 where nothing matches.
+// Locates the first match's record in a table.
 #[no_mangle]
 pub extern "C" fn flowspec4_first_match(table: &[u8], packet: &[u8], out: &mut [u64; 2]) -> u64
-    ensures { λ r. ⌜ FirstMatchCall (now (table .entry)) (now (packet .entry)) (now (out .entry)) r (now (out .exit)) (now (table .exit) ∷ now (packet .exit) ∷ []) ⌝ }
+    ensures { λ r. ⌜ FirstMatchCall ipv4 (now (table .entry)) (now (packet .entry)) (now (out .entry)) r (now (out .exit)) (now (table .exit) ∷ now (packet .exit) ∷ []) ⌝ }
 {
-    let found = flowspec::first_match_place(AddressFamily::Ipv4, table, packet);
-    if found.number != 0 {
-        return word_of(found.number, 0);
-    }
-    let size = found.end - found.start;
-    *out = [found.start as u64, size as u64];
-    0
+    calls::first_match(AddressFamily::Ipv4, table, packet, out)
+}
+
+// ---- IPv6 (RFC 8956) ----
+
+// Reads one rule.
+#[no_mangle]
+pub extern "C" fn flowspec6_read(rule: &[u8], out: &mut [u64; 2]) -> u64
+    ensures { λ r. ⌜ ReadCall ipv6 (now (rule .entry)) (now (out .entry)) r (now (out .exit)) (now (rule .exit) ∷ []) ⌝ }
+{
+    calls::read(AddressFamily::Ipv6, rule, out)
+}
+
+// Writes one rule from its value to the front of a buffer.
+#[no_mangle]
+pub extern "C" fn flowspec6_write(value: &[u8], buffer: &mut [u8], out: &mut [u64; 1]) -> u64
+    ensures { λ r. ⌜ WriteCall ipv6 (now (value .entry)) (now (buffer .entry)) (now (out .entry)) r (now (buffer .exit)) (now (out .exit)) (now (value .exit) ∷ []) ⌝ }
+{
+    calls::write(AddressFamily::Ipv6, value, buffer, out)
+}
+
+// Compares two rules by their precedence.
+#[no_mangle]
+pub extern "C" fn flowspec6_compare(first: &[u8], second: &[u8], out: &mut [u64; 1]) -> u64
+    ensures { λ r. ⌜ CompareCall ipv6 (now (first .entry)) (now (second .entry)) (now (out .entry)) r (now (out .exit)) (now (first .exit) ∷ now (second .exit) ∷ []) ⌝ }
+{
+    calls::compare(AddressFamily::Ipv6, first, second, out)
+}
+
+// Judges whether a rule is feasible for an originator by the lent routes.
+#[no_mangle]
+pub extern "C" fn flowspec6_feasible(
+    routes: &[u32],
+    allow_no_destination: u32,
+    rule: &[u8],
+    originator: u32,
+) -> u64
+    ensures { λ r. ⌜ FeasibleCall ipv6 (policyOf (now (routes .entry)) (isOn «allow_no_destination»)) (now (rule .entry)) originator r (now (routes .exit) ∷ now (rule .exit) ∷ []) ⌝ }
+{
+    calls::feasible(
+        AddressFamily::Ipv6,
+        routes,
+        allow_no_destination,
+        rule,
+        originator,
+    )
+}
+
+// Announces a rule with its actions to a table.
+#[no_mangle]
+pub extern "C" fn flowspec6_announce(
+    table: &mut [u8],
+    routes: &[u32],
+    allow_no_destination: u32,
+    rule: &[u8],
+    originator: u32,
+    communities: &[u8],
+) -> u64
+    ensures { λ r. ⌜ AnnounceCall ipv6 (now (table .entry)) (policyOf (now (routes .entry)) (isOn «allow_no_destination»)) (announcementOf (now (rule .entry)) originator (now (communities .entry))) r (now (table .exit)) (now (routes .exit) ∷ now (rule .exit) ∷ now (communities .exit) ∷ []) ⌝ }
+{
+    calls::announce(
+        AddressFamily::Ipv6,
+        table,
+        routes,
+        allow_no_destination,
+        rule,
+        originator,
+        communities,
+    )
+}
+
+// Withdraws a rule from a table.
+#[no_mangle]
+pub extern "C" fn flowspec6_withdraw(table: &mut [u8], rule: &[u8]) -> u64
+    ensures { λ r. ⌜ WithdrawCall ipv6 (now (table .entry)) (now (rule .entry)) r (now (table .exit)) (now (rule .exit) ∷ []) ⌝ }
+{
+    calls::withdraw(AddressFamily::Ipv6, table, rule)
+}
+
+// Announces the rules of an MP_REACH_NLRI attribute to a table.
+#[no_mangle]
+pub extern "C" fn flowspec6_reach(
+    table: &mut [u8],
+    routes: &[u32],
+    allow_no_destination: u32,
+    attribute: &[u8],
+    originator: u32,
+    communities: &[u8],
+    answers: &mut [u32],
+    out: &mut [u64; 1],
+) -> u64
+    ensures { λ r. ⌜ ReachCall ipv6 (now (table .entry)) (policyOf (now (routes .entry)) (isOn «allow_no_destination»)) (reachOf (now (attribute .entry)) originator (now (communities .entry))) (now (answers .entry)) (now (out .entry)) r (now (table .exit)) (now (answers .exit)) (now (out .exit)) (now (routes .exit) ∷ now (attribute .exit) ∷ now (communities .exit) ∷ []) ⌝ }
+{
+    calls::reach(
+        AddressFamily::Ipv6,
+        table,
+        routes,
+        allow_no_destination,
+        attribute,
+        originator,
+        communities,
+        answers,
+        out,
+    )
+}
+
+// Withdraws the rules of an MP_UNREACH_NLRI attribute from a table.
+#[no_mangle]
+pub extern "C" fn flowspec6_unreach(
+    table: &mut [u8],
+    attribute: &[u8],
+    answers: &mut [u32],
+    out: &mut [u64; 1],
+) -> u64
+    ensures { λ r. ⌜ UnreachCall ipv6 (now (table .entry)) (now (attribute .entry)) (now (answers .entry)) (now (out .entry)) r (now (table .exit)) (now (answers .exit)) (now (out .exit)) (now (attribute .exit) ∷ []) ⌝ }
+{
+    calls::unreach(AddressFamily::Ipv6, table, attribute, answers, out)
+}
+
+// Looks a packet up in a table.
+#[no_mangle]
+pub extern "C" fn flowspec6_lookup(table: &[u8], packet: &[u8], out: &mut [u64; 6]) -> u64
+    ensures { λ r. ⌜ LookupCall ipv6 (now (table .entry)) (now (packet .entry)) (now (out .entry)) r (now (out .exit)) (now (table .exit) ∷ now (packet .exit) ∷ []) ⌝ }
+{
+    calls::lookup(AddressFamily::Ipv6, table, packet, out)
+}
+
+// Locates the first match's record in a table.
+#[no_mangle]
+pub extern "C" fn flowspec6_first_match(table: &[u8], packet: &[u8], out: &mut [u64; 2]) -> u64
+    ensures { λ r. ⌜ FirstMatchCall ipv6 (now (table .entry)) (now (packet .entry)) (now (out .entry)) r (now (out .exit)) (now (table .exit) ∷ now (packet .exit) ∷ []) ⌝ }
+{
+    calls::first_match(AddressFamily::Ipv6, table, packet, out)
 }

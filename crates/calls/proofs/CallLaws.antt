@@ -1,0 +1,91 @@
+-- How a call comes to its word and to what it leaves in `out`: done, or refused. Assumes nothing.
+use mathlib.Core.Path.{_≡_, refl, sym, subst, _∙_}
+use mathlib.Core.List.{List, [], _∷_}
+use Prim.Native.Nat.{ℕ, _-_, _≤_}
+use native.Mathlib.Omega.{arith}
+use lib.ListN.{getD}
+use borrow.Author.Tests.{eq-eqb, ne-eqb}
+use Rattle.rule.specs.declared.Family.{Family}
+use Rattle.rule.specs.declared.Reading.{Reading}
+use Rattle.rule.specs.declared.Reading.the-variants.{Rule, Refused as NotRead}
+use Rattle.rule.specs.Reading.{oneRule}
+use Rattle.rule.proofs.ReadingLaws.{one-refused}
+use Rattle.rule.proofs.Refusal.{Refusal, placeless}
+use Rattle.action.specs.declared.Actions.{Actions}
+use Rattle.action.specs.declared.Reading.the-variants.{Read, Unsound}
+use Rattle.action.specs.Actions.{valuesOf}
+use Rattle.lookup.specs.declared.Verdict.{Verdict}
+use Rattle.lookup.specs.declared.Verdict.the-variants.{Unmatched, Matched}
+use Rattle.rule.specs.Value.{mostValue}
+use Rattle.flowspec.specs.declared.Looked.the-variants.{Answered}
+use Rattle.flowspec.specs.declared.MatchPlace.{MatchPlace}
+use Rattle.flowspec.specs.Told.{Told, readingTold, actionsTold, verdictTold, lookupTold, matchPlaceTold}
+use Rattle.flowspec.specs.Look.{matchPlace}
+use Rattle.flowspec.specs.Promise.{ReadsOne, LocatesFirst}
+use Rattle.calls.specs.Word.{word, wordOf}
+use Rattle.calls.specs.Promise.{Returns}
+
+-- refused: `out` stays as it was
+pub refused : (number place : ℕ) (values entry : List ℕ) → Refusal number place → (result : ℕ) → result ≡ word number place
+    → Returns (record { number = number; place = place; values = values }) entry result entry
+refused number place values entry h result e =
+    let n : number ≡ 0 → ⊥ = λ z. omega arith in
+    record { is = e; out = rw (ne-eqb number 0 n) }
+
+-- done: `out` has the values
+pub done : (values entry : List ℕ) → Returns (record { number = 0; place = 0; values = values }) entry 0 values
+done values entry = record { is = refl; out = refl }
+
+-- the door's answer x is what its definition d says, and it was found to be y
+module _ {X : Type 0} (answerOf : X → Told) (d x : X) (is : x ≡ d) (y : X) (e : x ≡ y) where
+  pub answered : (entry : List ℕ) (result : ℕ) (exit : List ℕ) → Returns (answerOf y) entry result exit → Returns (answerOf d) entry result exit
+  answered entry result exit h = subst (λ z. Returns (answerOf z) entry result exit) (sym e ∙ is) h
+
+  pub word-is : (result : ℕ) → result ≡ wordOf (answerOf y) → result ≡ wordOf (answerOf d)
+  word-is result h = subst (λ z. result ≡ wordOf (answerOf z)) (sym e ∙ is) h
+
+-- reading one rule
+module _ (family : Family) (rule : List ℕ) (r : Reading) (lent : List (List ℕ)) (kept : ReadsOne family rule r lent) where
+  pub read-refusal : (number place : ℕ) → r ≡ NotRead number place → Refusal number place
+  read-refusal number place e = one-refused family rule number place (sym (kept .is) ∙ e)
+
+  pub read-near : (number place : ℕ) → r ≡ NotRead number place → place ≤ mostValue
+  read-near number place e = read-refusal number place e .near
+
+  pub read-refused : (entry : List ℕ) (number place result : ℕ) → r ≡ NotRead number place → result ≡ word number place
+      → Returns (readingTold (oneRule family rule)) entry result entry
+  read-refused entry number place result e h =
+      answered readingTold (oneRule family rule) r (kept .is) (NotRead number place) e entry result entry
+      (refused number place (0 ∷ 0 ∷ []) entry (read-refusal number place e) result h)
+
+  pub read-done : (entry : List ℕ) (start size : ℕ) → r ≡ Rule start size → Returns (readingTold (oneRule family rule)) entry 0 (start ∷ size ∷ [])
+  read-done entry start size e =
+      answered readingTold (oneRule family rule) r (kept .is) (Rule start size) e entry 0 (start ∷ size ∷ []) (done (start ∷ size ∷ []) entry)
+
+-- reading actions: unsound ones, and those that are read
+pub actions-refused : (entry : List ℕ) (result : ℕ) → result ≡ word 13 0 → Returns (actionsTold Unsound) entry result entry
+actions-refused entry result h = refused 13 0 _ entry (placeless 13 (omega arith) (omega arith)) result h
+
+pub actions-done : (actions : Actions) (values entry : List ℕ) → values ≡ valuesOf actions → Returns (actionsTold (Read actions)) entry 0 values
+actions-done actions values entry h = rw h (done (valuesOf actions) entry)
+
+-- looking up: a packet that is judged
+pub lookup-done : (verdict : Verdict) (values entry : List ℕ) → values ≡ verdictTold verdict .values → Returns (lookupTold (Answered verdict)) entry 0 values
+lookup-done Unmatched values entry h = rw h (done (verdictTold Unmatched .values) entry)
+lookup-done (Matched actions count) values entry h = rw h (done (verdictTold (Matched actions count) .values) entry)
+
+-- the words of a verdict
+pub unmatched-words : (v : Verdict) → v ≡ Unmatched → 0 ∷ 0 ∷ 0 ∷ 0 ∷ 0 ∷ 0 ∷ [] ≡ verdictTold v .values
+unmatched-words v e = rw e
+
+pub matched-words : (v : Verdict) (actions : Actions) (count : ℕ) (values : List ℕ) → v ≡ Matched actions count → values ≡ valuesOf actions
+    → count ∷ getD values 0 0 ∷ getD values 1 0 ∷ getD values 2 0 ∷ getD values 3 0 ∷ getD values 4 0 ∷ [] ≡ verdictTold v .values
+matched-words v actions count values e h = rw (e, h)
+
+-- the first match, by its place with the lookup's number
+module _ (family : Family) (t octets entry : List ℕ) (place : MatchPlace) (lent : List (List ℕ)) (kept : LocatesFirst family t octets place lent) where
+  pub first-refused : (place .number ≡ 0 → ⊥) → (result : ℕ) → result ≡ word (place .number) 0 → Returns (matchPlaceTold (matchPlace family t octets)) entry result entry
+  first-refused n result h = rw (← kept .is) (record { is = h; out = rw (ne-eqb (place .number) 0 n) })
+
+  pub first-done : place .number ≡ 0 → Returns (matchPlaceTold (matchPlace family t octets)) entry 0 (place .start ∷ (place .end - place .start) ∷ [])
+  first-done z = rw (← kept .is) (record { is = rw z; out = rw (eq-eqb (place .number) 0 z) })

@@ -1,0 +1,41 @@
+-- The answer to a whole attribute as a word and in `out`; a refusal is one of 01's table, as amended.
+use mathlib.Core.Path.{refl, sym, _∙_}
+use Rattle.rule.proofs.Refusal.{Refusal}
+use Rattle.update.specs.Apply.{appliedTold}
+use Rattle.calls.proofs.AttributePlaces.{not-reached}
+use Rattle.calls.proofs.CallLaws.{refused, done, answered}
+use borrow.Author.Needs.{needs}
+use Rattle.calls.proofs.reach.Statement.{statement}
+use Rattle.calls.proofs.reach.Tie as tie
+
+refusal : (c : tie.After-known-told) → Refusal (c .before .number .given .0 .0) (c .before .number .given .0 .1 .0)
+refusal c = not-reached _ _ _ _ _ _ _ (sym (c .before .before .before .before .before .before .before .reach .ensures .is) ∙ c .before .number .given .1)
+
+word-of-requires : tie.Need-word-of-requires
+word-of-requires c κs = refusal c .near
+
+returns : tie.Need-returns
+returns c =
+    let kept = rw (c .before .before .before .before .before .before .before .before .before .before .before .is-on .ensures) at (c .before .before .before .before .before .before .before .before .reach .ensures) in
+    record { returns = answered appliedTold _ _ (kept .is) _ (c .before .before .number .given .1) _ _ _ (refused _ _ _ _ (refusal (c .before)) _ (c .word-of .ensures)); leaves = kept .leaves; lists = kept .lists; keeps = refl }
+
+returns-2 : tie.Need-returns-2
+returns-2 c =
+    let kept = rw (c .before .before .before .before .before .before .before .before .before .before .before .is-on .ensures) at (c .before .before .before .before .before .before .before .before .reach .ensures) in
+    record { returns = answered appliedTold _ _ (kept .is) _ (c .before .before .count .given .1) _ _ _ (done _ _); leaves = kept .leaves; lists = kept .lists; keeps = refl }
+
+pub reach-spec : {M : Type 1} → statement M
+reach-spec =
+    tie.close
+    (tie.spec
+    (λ c κs. search needs)
+    (λ c κs. search needs)
+    (λ c. search needs)
+    word-of-requires
+    (λ c. search needs)
+    (λ c. search needs)
+    (λ c. search needs)
+    returns
+    (λ c. search needs)
+    (λ c. search needs)
+    returns-2)

@@ -1,0 +1,103 @@
+-- Histories of calls in words that change one table, as a caller in C sees them: each call with the word it returned and the octets it left,
+-- and a call with a whole attribute also with `out` and the answer words. They are histories at the door (crate history), with the answers
+-- that the words say; and what is done at the door is such a history.
+use Prim.Native.Nat.{ℕ, _/_, _%_, _^_}
+use mathlib.Core.Bool.{cond}
+use mathlib.Core.List.{List, [], _∷_, map}
+use lib.Dec.{eqb}
+use lib.ListN.{getD}
+use Rattle.rule.specs.declared.Family.{Family}
+use Rattle.flowspec.specs.declared.Change.{Change}
+use Rattle.flowspec.specs.declared.Change.the-variants.{Done, Refused}
+use Rattle.flowspec.specs.Told.{changeTold}
+use Rattle.request.specs.Input.{Policy}
+use Rattle.update.specs.declared.Applied.{Applied}
+use Rattle.update.specs.declared.Applied.the-variants.{Done as AllDone, Refused as NotApplied}
+use Rattle.update.specs.Apply.{appliedTold}
+use Rattle.history.specs.History.{Call, announcement, withdrawal, Made}
+use Rattle.history.specs.Attributes.{Attribute, reach, unreach, Event, single, whole, Asked, eventsOf}
+use Rattle.calls.specs.Word.{wordOf, outAfter}
+use Rattle.calls.specs.Promise.{AnnounceCall, WithdrawCall, ReachCall, UnreachCall}
+
+-- A call as it was made: what it was given, the word that it returned, and the table's octets after it.
+pub record Called : Type 0 where
+  pub call : Call
+  pub result : ℕ
+  pub left : List ℕ
+
+-- The answer that a word says: done, or the refusal whose number stands in the low 32 bits and whose place in the high 32.
+abbrev pub answerIn : ℕ → Change
+answerIn result = cond (eqb (result % 2 ^ 32) 0) Done (Refused (result % 2 ^ 32) (result / 2 ^ 32))
+
+-- A call with a whole attribute as it was made: what it was given, the answer words and `out` that it was lent, the word that it returned,
+-- and `out`, the answer words and the table's octets after it.
+pub record WholeCalled : Type 0 where
+  pub attribute : Attribute
+  pub lent : List ℕ
+  pub entry : List ℕ
+  pub result : ℕ
+  pub exit : List ℕ
+  pub words : List ℕ
+  pub left : List ℕ
+
+-- The answer that its word says, and `out` where that is 0: so many rules.
+abbrev pub appliedIn : ℕ → List ℕ → Applied
+appliedIn result out = cond (eqb (result % 2 ^ 32) 0) (AllDone (getD out 0 0)) (NotApplied (result % 2 ^ 32) (result / 2 ^ 32))
+
+-- A call in words that changes a table.
+pub data CalledEvent : Type 0 where
+  one : Called → CalledEvent
+  all : WholeCalled → CalledEvent
+
+-- A call with the answer that its word says.
+abbrev pub answeredOne : Called → Made
+answeredOne m = record { call = m .call; answer = answerIn (m .result); left = m .left }
+
+-- The same of a call with a whole attribute.
+abbrev pub answeredEvent : CalledEvent → Event
+answeredEvent (one m) = single (answeredOne m)
+answeredEvent (all w) =
+    whole (record { attribute = w .attribute; lent = w .lent; answer = appliedIn (w .result) (w .exit); words = w .words; left = w .left })
+
+-- The calls with the answers that their words say.
+abbrev pub answered : List CalledEvent → List Event
+answered h = map answeredEvent h
+
+-- The table's octets after a call.
+abbrev pub leftIn : CalledEvent → List ℕ
+leftIn (one m) = m .left
+leftIn (all w) = w .left
+
+-- What was done at the door, as a call in words does it that is lent this `out`.
+abbrev pub asCalled : List ℕ → Event → CalledEvent
+asCalled out (single m) = one (record { call = m .call; result = wordOf (changeTold (m .answer)); left = m .left })
+asCalled out (whole w) =
+    let told = appliedTold (w .answer) in
+    all (record { attribute = w .attribute; lent = w .lent; entry = out; result = wordOf told; exit = outAfter told out; words = w .words; left = w .left })
+
+module _ (family : Family) (policy : Policy) where
+  -- A call's promise, with a table at entry.
+  abbrev pub Returned : Call → List ℕ → ℕ → List ℕ → Type 0
+  Returned (announcement a) table result left = AnnounceCall family table policy a result left (policy .routes ∷ a .rule ∷ a .communities ∷ [])
+  Returned (withdrawal rule) table result left = WithdrawCall family table rule result left (rule ∷ [])
+
+  -- The promise of a call with a whole attribute.
+  abbrev pub WholeReturned : Attribute → List ℕ → WholeCalled → Type 0
+  WholeReturned (reach r) table w =
+      ReachCall family table policy r (w .lent) (w .entry) (w .result) (w .left) (w .words) (w .exit) (policy .routes ∷ r .attribute ∷ r .communities ∷ [])
+  WholeReturned (unreach attribute) table w =
+      UnreachCall family table attribute (w .lent) (w .entry) (w .result) (w .left) (w .words) (w .exit) (attribute ∷ [])
+
+  -- The promise of either.
+  abbrev pub EventReturned : List ℕ → CalledEvent → Type 0
+  EventReturned table (one m) = Returned (m .call) table (m .result) (m .left)
+  EventReturned table (all w) = WholeReturned (w .attribute) table w
+
+  -- A history from a table on, the oldest call first: each call keeps its promise on the table that the call before it left.
+  abbrev pub AllReturned : List ℕ → List CalledEvent → Type 0
+  AllReturned table [] = Unit {0}
+  AllReturned table (e ∷ h) = EventReturned table e × AllReturned (leftIn e) h
+
+  -- The history of what is asked in words one after the other, from a table on, each call with a whole attribute lent this `out`.
+  abbrev pub calledOf : List ℕ → List ℕ → List Asked → List CalledEvent
+  calledOf out table asks = map (asCalled out) (eventsOf family policy table asks)

@@ -1,0 +1,248 @@
+// The public calls in words, for C and Rust and for every family of addresses: numbers and slices only. Each call returns one word
+// (specs/Word.antt), has no `requires`, and promises in specs/Promise.antt what the door's call does.
+ghost use mathlib.Core.Path.{_≡_};
+ghost use mathlib.Core.List.{[], _∷_};
+ghost use Prim.Native.Nat.{_≤_};
+ghost use Rattle.rule.specs.Family.{familyOf};
+ghost use Rattle.rule.specs.Value.{mostValue};
+ghost use Rattle.request.specs.Input.{announcementOf, policyOf};
+ghost use Rattle.flowspec.specs.Told.{changeTold, verdictTold};
+ghost use Rattle.update.specs.Singles.{reachOf};
+ghost use Rattle.calls.specs.Word.{word, wordOf, isOn};
+ghost use Rattle.calls.specs.Promise.{ReadCall, WriteCall, CompareCall, FeasibleCall, ActionsCall, AnnounceCall, WithdrawCall, ReachCall, UnreachCall, LookupCall, FirstMatchCall};
+use flowspec::Change;
+use flowspec::Feasibility;
+use flowspec::Looked;
+use lookup::Verdict;
+use order::Comparison;
+use rule::AddressFamily;
+use rule::Reading;
+use spelling::Writing;
+use update::Applied;
+
+// The word of a refusal: its number in the low 32 bits, its place in the high 32.
+fn word_of(number: u8, place: usize) -> u64
+    requires { ⌜ place ≤ mostValue ⌝ }
+    ensures { λ r. ⌜ r ≡ word number place ⌝ }
+{
+    number as u64 + place as u64 * 0x1_0000_0000
+}
+
+// The word of a change: its refusal's, and 0 where it is done.
+fn change_word(change: Change) -> u64
+    requires { ⌜ changeTold change .place ≤ mostValue ⌝ }
+    ensures { λ r. ⌜ r ≡ wordOf (changeTold change) ⌝ }
+{
+    match change {
+        Change::Refused { number, place } => word_of(number, place),
+        Change::Done => 0,
+    }
+}
+
+// Whether the header's `allow_no_destination` is on: 0 is off and any other number on.
+fn is_on(allow: u32) -> bool
+    ensures { λ r. ⌜ r ≡ isOn allow ⌝ }
+{
+    allow != 0
+}
+
+// The words of a verdict: the count and the merged actions' values, all 0 where no rule matches.
+fn words_of(verdict: Verdict) -> [u64; 6]
+    ensures { λ r. ⌜ r ≡ verdictTold verdict .values ⌝ }
+{
+    match verdict {
+        Verdict::Unmatched => [0; 6],
+        Verdict::Matched { actions, count } => {
+            let values = entry::values_of(actions);
+            [
+                count as u64,
+                values[0],
+                values[1],
+                values[2],
+                values[3],
+                values[4],
+            ]
+        }
+    }
+}
+
+// Reads one rule. out: where its value starts, and its length.
+pub fn read(family: AddressFamily, rule: &[u8], out: &mut [u64; 2]) -> u64
+    ensures { λ r. ⌜ ReadCall (familyOf family) (now (rule .entry)) (now (out .entry)) r (now (out .exit)) (now (rule .exit) ∷ []) ⌝ }
+{
+    match flowspec::read_rule(family, rule) {
+        Reading::Refused { number, place } => word_of(number, place),
+        Reading::Rule { start, size } => {
+            *out = [start as u64, size as u64];
+            0
+        }
+    }
+}
+
+// Writes one rule from its value to the front of a buffer. out: how many octets were written.
+pub fn write(family: AddressFamily, value: &[u8], buffer: &mut [u8], out: &mut [u64; 1]) -> u64
+    ensures { λ r. ⌜ WriteCall (familyOf family) (now (value .entry)) (now (buffer .entry)) (now (out .entry)) r (now (buffer .exit)) (now (out .exit)) (now (value .exit) ∷ []) ⌝ }
+{
+    match flowspec::write_rule(family, value, buffer) {
+        Writing::Refused { number, place } => word_of(number, place),
+        Writing::Written(octets) => {
+            *out = [octets as u64];
+            0
+        }
+    }
+}
+
+// Compares two rules by their precedence. out: 1 where the first comes first, 2 where the second does, 3 where they are the same rule.
+pub fn compare(family: AddressFamily, first: &[u8], second: &[u8], out: &mut [u64; 1]) -> u64
+    ensures { λ r. ⌜ CompareCall (familyOf family) (now (first .entry)) (now (second .entry)) (now (out .entry)) r (now (out .exit)) (now (first .exit) ∷ now (second .exit) ∷ []) ⌝ }
+{
+    match flowspec::compare_rules(family, first, second) {
+        Comparison::Refused { number, place } => word_of(number, place),
+        Comparison::First => {
+            *out = [1];
+            0
+        }
+        Comparison::Second => {
+            *out = [2];
+            0
+        }
+        Comparison::Same => {
+            *out = [3];
+            0
+        }
+    }
+}
+
+// Judges whether a rule is feasible for an originator by the lent routes; `allow_no_destination` is on where it is not 0.
+pub fn feasible(
+    family: AddressFamily,
+    routes: &[u32],
+    allow_no_destination: u32,
+    rule: &[u8],
+    originator: u32,
+) -> u64
+    ensures { λ r. ⌜ FeasibleCall (familyOf family) (policyOf (now (routes .entry)) (isOn «allow_no_destination»)) (now (rule .entry)) originator r (now (routes .exit) ∷ now (rule .exit) ∷ []) ⌝ }
+{
+    let on = is_on(allow_no_destination);
+    match flowspec::judge_rule(family, on, routes, rule, originator) {
+        Feasibility::Refused { number, place } => word_of(number, place),
+        Feasibility::Feasible => 0,
+    }
+}
+
+// Reads the filtering actions of a rule's communities. out: flags, DSCP, byte rate, packet rate, redirect.
+pub fn actions(communities: &[u8], out: &mut [u64; 5]) -> u64
+    ensures { λ r. ⌜ ActionsCall (now (communities .entry)) (now (out .entry)) r (now (out .exit)) (now (communities .exit) ∷ []) ⌝ }
+{
+    match flowspec::read_actions(communities) {
+        action::Reading::Unsound => word_of(13, 0),
+        action::Reading::Read(actions) => {
+            *out = entry::values_of(actions);
+            0
+        }
+    }
+}
+
+// Announces a rule with its actions to a table; `allow_no_destination` is on where it is not 0.
+pub fn announce(
+    family: AddressFamily,
+    table: &mut [u8],
+    routes: &[u32],
+    allow_no_destination: u32,
+    rule: &[u8],
+    originator: u32,
+    communities: &[u8],
+) -> u64
+    ensures { λ r. ⌜ AnnounceCall (familyOf family) (now (table .entry)) (policyOf (now (routes .entry)) (isOn «allow_no_destination»)) (announcementOf (now (rule .entry)) originator (now (communities .entry))) r (now (table .exit)) (now (routes .exit) ∷ now (rule .exit) ∷ now (communities .exit) ∷ []) ⌝ }
+{
+    let on = is_on(allow_no_destination);
+    let change = flowspec::announce(family, table, on, routes, rule, originator, communities);
+    change_word(change)
+}
+
+// Withdraws a rule from a table.
+pub fn withdraw(family: AddressFamily, table: &mut [u8], rule: &[u8]) -> u64
+    ensures { λ r. ⌜ WithdrawCall (familyOf family) (now (table .entry)) (now (rule .entry)) r (now (table .exit)) (now (rule .exit) ∷ []) ⌝ }
+{
+    let change = flowspec::withdraw(family, table, rule);
+    change_word(change)
+}
+
+// Announces the rules of an MP_REACH_NLRI attribute to a table; `allow_no_destination` is on where it is not 0. answers: a number for each
+// rule. out: how many rules there are.
+pub fn reach(
+    family: AddressFamily,
+    table: &mut [u8],
+    routes: &[u32],
+    allow_no_destination: u32,
+    attribute: &[u8],
+    originator: u32,
+    communities: &[u8],
+    answers: &mut [u32],
+    out: &mut [u64; 1],
+) -> u64
+    ensures { λ r. ⌜ ReachCall (familyOf family) (now (table .entry)) (policyOf (now (routes .entry)) (isOn «allow_no_destination»)) (reachOf (now (attribute .entry)) originator (now (communities .entry))) (now (answers .entry)) (now (out .entry)) r (now (table .exit)) (now (answers .exit)) (now (out .exit)) (now (routes .exit) ∷ now (attribute .exit) ∷ now (communities .exit) ∷ []) ⌝ }
+{
+    let on = is_on(allow_no_destination);
+    match update::reach(
+        family,
+        table,
+        on,
+        routes,
+        attribute,
+        originator,
+        communities,
+        answers,
+    ) {
+        Applied::Refused { number, place } => word_of(number, place),
+        Applied::Done(count) => {
+            *out = [count as u64];
+            0
+        }
+    }
+}
+
+// Withdraws the rules of an MP_UNREACH_NLRI attribute from a table. answers: a number for each rule. out: how many rules there are.
+pub fn unreach(
+    family: AddressFamily,
+    table: &mut [u8],
+    attribute: &[u8],
+    answers: &mut [u32],
+    out: &mut [u64; 1],
+) -> u64
+    ensures { λ r. ⌜ UnreachCall (familyOf family) (now (table .entry)) (now (attribute .entry)) (now (answers .entry)) (now (out .entry)) r (now (table .exit)) (now (answers .exit)) (now (out .exit)) (now (attribute .exit) ∷ []) ⌝ }
+{
+    match update::unreach(family, table, attribute, answers) {
+        Applied::Refused { number, place } => word_of(number, place),
+        Applied::Done(count) => {
+            *out = [count as u64];
+            0
+        }
+    }
+}
+
+// Looks a packet up in a table. out: the count, 0 where unmatched, and the merged actions' values, 0 where unmatched.
+pub fn lookup(family: AddressFamily, table: &[u8], packet: &[u8], out: &mut [u64; 6]) -> u64
+    ensures { λ r. ⌜ LookupCall (familyOf family) (now (table .entry)) (now (packet .entry)) (now (out .entry)) r (now (out .exit)) (now (table .exit) ∷ now (packet .exit) ∷ []) ⌝ }
+{
+    match flowspec::lookup(family, table, packet) {
+        Looked::Refused { number, place } => word_of(number, place),
+        Looked::Answered(verdict) => {
+            *out = words_of(verdict);
+            0
+        }
+    }
+}
+
+// Locates the first match's record. out: its start in the table and its length, 0 and 0 where nothing matches.
+pub fn first_match(family: AddressFamily, table: &[u8], packet: &[u8], out: &mut [u64; 2]) -> u64
+    ensures { λ r. ⌜ FirstMatchCall (familyOf family) (now (table .entry)) (now (packet .entry)) (now (out .entry)) r (now (out .exit)) (now (table .exit) ∷ now (packet .exit) ∷ []) ⌝ }
+{
+    let found = flowspec::first_match_place(family, table, packet);
+    if found.number != 0 {
+        return word_of(found.number, 0);
+    }
+    let size = found.end - found.start;
+    *out = [found.start as u64, size as u64];
+    0
+}
