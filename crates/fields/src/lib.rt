@@ -13,7 +13,7 @@ use text::field_end;
 use text::place_of;
 
 // How many octets the lines may have together.
-pub const INPUT: usize = 2000000;
+pub const INPUT: usize = 4000000;
 
 // How many octets a field may hold.
 pub const FIELD: usize = 70000;
@@ -22,7 +22,7 @@ pub const FIELD: usize = 70000;
 pub const FIELDS: usize = 350000;
 
 // How many words a field may hold.
-pub const WORDS: usize = 17500;
+pub const WORDS: usize = 30000;
 
 // ---- Lines ----
 
@@ -148,6 +148,13 @@ pub fn put_two(line: &[u8], first: usize, second: usize, room: &mut [u8]) -> Two
 // The number in a line's field of four octets.
 pub fn number_of(line: &[u8], number: usize) -> u32 {
     text::word_in(field_of(line, number))
+}
+
+// The first octet of a line's field, 0 where it has none.
+pub fn octet_of(line: &[u8], number: usize) -> u8 {
+    let mut room = [0u8; 1];
+    put_octets(line, number, &mut room);
+    room[0]
 }
 
 // Fills the front of words with the numbers in octets, four each, as far as they reach: how many there are.

@@ -1,5 +1,6 @@
 // Runs the vectors (crate `fields` says what a line is): each call has a function of its own and an arm in `answer_call`. A table stands
-// until the next line that sets one, and each call on a table is made on it as the calls before left it.
+// until the next line that sets one, and each call on a table is made on it as the calls before left it. Calls are made for
+// IPv4 until a line `family` sets another family of addresses. Neither line prints anything.
 ghost use Prim.Native.Nat.{_≤_};
 ghost use lib.ListN.{length};
 ghost use Rattle.io.specs.Counts.{Counts};
@@ -27,12 +28,14 @@ use rule::Checked;
 use rule::Reading;
 use spelling::Writing;
 
-// A call's name by its first two letters: `ac`, `an`, `co`, `fe`, `fi`, `lo`, `ma`, `re`, `ta`, `wi`, `wr`.
+// A call's name by its first two letters: `ac`, `an`, `co`, `fa`, `fe`, `fi`, `lo`, `ma`, `re`, `ta`, `wi`, `wr`.
 const ACTIONS: u64 = 0x6163;
 
 const ANNOUNCE: u64 = 0x616e;
 
 const COMPARE: u64 = 0x636f;
+
+const FAMILY: u64 = 0x6661;
 
 const FEASIBLE: u64 = 0x6665;
 
@@ -53,9 +56,9 @@ const WRITE: u64 = 0x7772;
 // ---- Reading, writing and comparing ----
 
 // read RULE.
-fn answer_read(line: &[u8], octets: &mut [u8]) {
+fn answer_read(family: AddressFamily, line: &[u8], octets: &mut [u8]) {
     let end = put_octets(line, 1, octets);
-    match flowspec::read_rule(AddressFamily::Ipv4, &octets[..end]) {
+    match flowspec::read_rule(family, &octets[..end]) {
         Reading::Rule { start, size } => print_reading(0, 0, start, size),
         Reading::Refused { number, place } => print_reading(number, place, 0, 0),
     }
@@ -69,17 +72,17 @@ fn print_reading(number: u8, place: usize, start: usize, size: usize) {
 }
 
 // write VALUE BUFFER: the answer, then the buffer at exit.
-fn answer_write(line: &[u8], octets: &mut [u8]) {
+fn answer_write(family: AddressFamily, line: &[u8], octets: &mut [u8]) {
     let mut buffer = io::large_buffer();
     let end = put_octets(line, 1, octets);
     let room = put_octets(line, 2, &mut buffer);
-    write_and_print(&octets[..end], &mut buffer[..room]);
+    write_and_print(family, &octets[..end], &mut buffer[..room]);
     print_end();
 }
 
 // Writes a rule to a buffer, and prints the answer and the buffer.
-fn write_and_print(value: &[u8], buffer: &mut [u8]) {
-    match flowspec::write_rule(AddressFamily::Ipv4, value, buffer) {
+fn write_and_print(family: AddressFamily, value: &[u8], buffer: &mut [u8]) {
+    match flowspec::write_rule(family, value, buffer) {
         Writing::Written(octets) => print_valued(0, 0, octets),
         Writing::Refused { number, place } => print_valued(number, place, 0),
     }
@@ -87,21 +90,17 @@ fn write_and_print(value: &[u8], buffer: &mut [u8]) {
 }
 
 // compare RULE RULE.
-fn answer_compare(line: &[u8], octets: &mut [u8]) {
+fn answer_compare(family: AddressFamily, line: &[u8], octets: &mut [u8]) {
     let rules = fields::put_two(line, 1, 2, octets);
-    compare_and_print(octets, rules.middle, rules.end);
+    compare_and_print(family, octets, rules.middle, rules.end);
     print_end();
 }
 
 // Compares the rules that stand before and behind a place, and prints the answer.
-fn compare_and_print(octets: &[u8], middle: usize, end: usize)
+fn compare_and_print(family: AddressFamily, octets: &[u8], middle: usize, end: usize)
     requires { ⌜ (middle ≤ end) × (end ≤ length (now octets)) ⌝ }
 {
-    match flowspec::compare_rules(
-        AddressFamily::Ipv4,
-        &octets[0..middle],
-        &octets[middle..end],
-    ) {
+    match flowspec::compare_rules(family, &octets[0..middle], &octets[middle..end]) {
         Comparison::First => print_valued(0, 0, 1),
         Comparison::Second => print_valued(0, 0, 2),
         Comparison::Same => print_valued(0, 0, 3),
@@ -129,14 +128,14 @@ fn answer_actions(line: &[u8], octets: &mut [u8]) {
 
 // ---- Feasibility ----
 
-// feasible SETTING ROUTES RULE ORIGINATOR: the setting is 00 or 01, and a route is four words.
-fn answer_feasible(line: &[u8], octets: &mut [u8], words: &mut [u32]) {
+// feasible SETTING ROUTES RULE ORIGINATOR: the setting is 00 or 01, and a route is four words, of IPv6 seven.
+fn answer_feasible(family: AddressFamily, line: &[u8], octets: &mut [u8], words: &mut [u32]) {
     let allows_no_destination = fields::number_of(line, 1) != 0;
     let count = fields::put_words(line, 2, octets, words);
     let end = put_octets(line, 3, octets);
     let originator = fields::number_of(line, 4);
     match flowspec::judge_rule(
-        AddressFamily::Ipv4,
+        family,
         allows_no_destination,
         &words[..count],
         &octets[..end],
@@ -151,28 +150,32 @@ fn answer_feasible(line: &[u8], octets: &mut [u8], words: &mut [u32]) {
 // ---- Matching ----
 
 // match VALUE PACKET.
-fn answer_match(line: &[u8], octets: &mut [u8]) {
+fn answer_match(family: AddressFamily, line: &[u8], octets: &mut [u8]) {
     let both = fields::put_two(line, 1, 2, octets);
-    check_and_match(octets, both.middle, both.end);
+    check_and_match(family, octets, both.middle, both.end);
     print_end();
 }
 
 // Prints why the value that stands before a place is refused, or whether it matches the packet that stands behind it.
-fn check_and_match(octets: &[u8], middle: usize, end: usize)
+fn check_and_match(family: AddressFamily, octets: &[u8], middle: usize, end: usize)
     requires { ⌜ (middle ≤ end) × (end ≤ length (now octets)) ⌝ }
 {
-    match rule::check_value(rule::family_of(AddressFamily::Ipv4), &octets[0..middle]) {
+    match rule::check_value(rule::family_of(family), &octets[0..middle]) {
         Checked::Refused { number, place } => {
             io::write_all(STDOUT_FILENO, b"value\t");
             print_refusal(number, place);
         }
-        Checked::Accepted => print_first(verdict_of(&octets[0..middle], &octets[middle..end])),
+        Checked::Accepted => print_first(verdict_of(
+            family,
+            &octets[0..middle],
+            &octets[middle..end],
+        )),
     }
 }
 
 // 1 where an accepted value matches a packet, 0 where it does not, and 12 where the packet is unusable.
-fn verdict_of(value: &[u8], packet: &[u8]) -> u64 {
-    let family = rule::family_of(AddressFamily::Ipv4);
+fn verdict_of(family: AddressFamily, value: &[u8], packet: &[u8]) -> u64 {
+    let family = rule::family_of(family);
     match packet::packet_of(family, packet) {
         packet::Reading::Unusable => 12,
         packet::Reading::Usable(opening) => matching::matches_rule(family, value, opening) as u64,
@@ -201,21 +204,43 @@ fn print_change(change: Change, table: &[u8]) {
     print_end();
 }
 
-// announce SETTING ROUTES RULE ORIGINATOR COMMUNITIES: the setting is 00 or 01, and a route is four words.
-fn answer_announce(line: &[u8], octets: &mut [u8], words: &mut [u32], table: &mut [u8]) {
+// announce SETTING ROUTES RULE ORIGINATOR COMMUNITIES: the setting is 00 or 01, and a route is four words, of IPv6 seven.
+fn answer_announce(
+    family: AddressFamily,
+    line: &[u8],
+    octets: &mut [u8],
+    words: &mut [u32],
+    table: &mut [u8],
+) {
     let count = fields::put_words(line, 2, octets, words);
     let both = fields::put_two(line, 3, 5, octets);
-    announce(line, &words[..count], octets, both.middle, both.end, table);
+    announce(
+        family,
+        line,
+        &words[..count],
+        octets,
+        both.middle,
+        both.end,
+        table,
+    );
 }
 
 // Announces the rule that stands before a place with the communities that stand behind it, and prints the answer.
-fn announce(line: &[u8], routes: &[u32], octets: &[u8], middle: usize, end: usize, table: &mut [u8])
+fn announce(
+    family: AddressFamily,
+    line: &[u8],
+    routes: &[u32],
+    octets: &[u8],
+    middle: usize,
+    end: usize,
+    table: &mut [u8],
+)
     requires { ⌜ (middle ≤ end) × (end ≤ length (now octets)) ⌝ }
 {
     let allows_no_destination = fields::number_of(line, 1) != 0;
     let originator = fields::number_of(line, 4);
     let change = flowspec::announce(
-        AddressFamily::Ipv4,
+        family,
         table,
         allows_no_destination,
         routes,
@@ -227,9 +252,9 @@ fn announce(line: &[u8], routes: &[u32], octets: &[u8], middle: usize, end: usiz
 }
 
 // withdraw RULE.
-fn answer_withdraw(line: &[u8], octets: &mut [u8], table: &mut [u8]) {
+fn answer_withdraw(family: AddressFamily, line: &[u8], octets: &mut [u8], table: &mut [u8]) {
     let end = put_octets(line, 1, octets);
-    let change = flowspec::withdraw(AddressFamily::Ipv4, table, &octets[..end]);
+    let change = flowspec::withdraw(family, table, &octets[..end]);
     print_change(change, table);
 }
 
@@ -251,9 +276,9 @@ fn print_verdict(verdict: Verdict) {
 }
 
 // lookup PACKET.
-fn answer_lookup(line: &[u8], octets: &mut [u8], table: &[u8]) {
+fn answer_lookup(family: AddressFamily, line: &[u8], octets: &mut [u8], table: &[u8]) {
     let end = put_octets(line, 1, octets);
-    match flowspec::lookup(AddressFamily::Ipv4, table, &octets[..end]) {
+    match flowspec::lookup(family, table, &octets[..end]) {
         Looked::Answered(verdict) => print_verdict(verdict),
         Looked::Refused { number, place } => {
             print_lookup(number, place, 0, action::no_actions());
@@ -262,9 +287,9 @@ fn answer_lookup(line: &[u8], octets: &mut [u8], table: &[u8]) {
 }
 
 // first PACKET: how many octets the first match's record has, and the record.
-fn answer_first(line: &[u8], octets: &mut [u8], table: &[u8]) {
+fn answer_first(family: AddressFamily, line: &[u8], octets: &mut [u8], table: &[u8]) {
     let end = put_octets(line, 1, octets);
-    let part = flowspec::first_match(AddressFamily::Ipv4, table, &octets[..end]);
+    let part = flowspec::first_match(family, table, &octets[..end]);
     print_first(part.len() as u64);
     print_octets(part);
     print_end();
@@ -273,24 +298,42 @@ fn answer_first(line: &[u8], octets: &mut [u8], table: &[u8]) {
 // ---- Lines ----
 
 // Answers a call, the last ones on a table: an arm for each.
-fn answer_call(line: &[u8], octets: &mut [u8], words: &mut [u32], table: &mut [u8]) {
+fn answer_call(
+    family: AddressFamily,
+    line: &[u8],
+    octets: &mut [u8],
+    words: &mut [u32],
+    table: &mut [u8],
+) {
     match fields::name_of(line) {
-        READ => answer_read(line, octets),
-        WRITE => answer_write(line, octets),
-        COMPARE => answer_compare(line, octets),
+        READ => answer_read(family, line, octets),
+        WRITE => answer_write(family, line, octets),
+        COMPARE => answer_compare(family, line, octets),
         ACTIONS => answer_actions(line, octets),
-        FEASIBLE => answer_feasible(line, octets, words),
-        MATCH => answer_match(line, octets),
-        ANNOUNCE => answer_announce(line, octets, words, table),
-        WITHDRAW => answer_withdraw(line, octets, table),
-        LOOKUP => answer_lookup(line, octets, table),
-        FIRST => answer_first(line, octets, table),
+        FEASIBLE => answer_feasible(family, line, octets, words),
+        MATCH => answer_match(family, line, octets),
+        ANNOUNCE => answer_announce(family, line, octets, words, table),
+        WITHDRAW => answer_withdraw(family, line, octets, table),
+        LOOKUP => answer_lookup(family, line, octets, table),
+        FIRST => answer_first(family, line, octets, table),
         _ => return,
     }
 }
 
+// The family of addresses from a line on, which the line `family OCTET` sets: 06 is IPv6, and any other octet IPv4.
+fn family_after(line: &[u8], family: AddressFamily) -> AddressFamily {
+    if fields::name_of(line) != FAMILY {
+        return family;
+    }
+    if fields::octet_of(line, 1) == 6 {
+        return AddressFamily::Ipv6;
+    }
+    AddressFamily::Ipv4
+}
+
 // Answers a line on the table in the first octets of a buffer, which the line `table OCTETS` sets: how many they are then.
 fn answer(
+    family: AddressFamily,
     line: &[u8],
     octets: &mut [u8],
     words: &mut [u32],
@@ -303,7 +346,7 @@ fn answer(
     if fields::name_of(line) == TABLE {
         return put_octets(line, 1, buffer);
     }
-    answer_call(line, octets, words, &mut buffer[..size]);
+    answer_call(family, line, octets, words, &mut buffer[..size]);
     size
 }
 
@@ -311,8 +354,11 @@ fn answer(
 fn answer_all(input: &[u8], octets: &mut [u8], words: &mut [u32], buffer: &mut [u8]) {
     let mut at = 0;
     let mut size = 0;
+    let mut family = AddressFamily::Ipv4;
     while at < input.len() {
-        size = answer(fields::call_at(input, at), octets, words, buffer, size);
+        let line = fields::call_at(input, at);
+        family = family_after(line, family);
+        size = answer(family, line, octets, words, buffer, size);
         at = fields::line_after(input, at);
     }
 }
