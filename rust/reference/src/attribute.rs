@@ -2,30 +2,29 @@
 //! to or withdrawn from a table in their order.
 
 use crate::action;
-use crate::route;
+use crate::route::Routes;
 use crate::rule::{self, WORKING_ARRAY};
 use crate::table::{Announcement, SoundTable};
-use crate::Refusal;
-
-/// The second octet of AFI 1; the first is 0.
-const AFI: u8 = 1;
+use crate::{Family, Refusal};
 
 /// The SAFI of flow rules.
 const SAFI: u8 = 133;
 
-/// The octets of the rules behind the head of an MP_REACH_NLRI value: AFI, SAFI, next-hop length
-/// 0 and a reserved octet; refusal 19.
-fn reach_rules(attribute: &[u8]) -> Result<&[u8], Refusal> {
+/// The octets behind the AFI and the SAFI of a family's attribute; refusal 19.
+fn behind_family(family: Family, attribute: &[u8]) -> Result<&[u8], Refusal> {
     match attribute {
-        [0, AFI, SAFI, 0, _, rules @ ..] if !rules.is_empty() => Ok(rules),
+        &[high, low, SAFI, ref rest @ ..] if u16::from_be_bytes([high, low]) == family.afi() => {
+            Ok(rest)
+        }
         _ => Err(Refusal::new(19)),
     }
 }
 
-/// The octets of the rules behind the head of an MP_UNREACH_NLRI value: AFI and SAFI; refusal 19.
-fn unreach_rules(attribute: &[u8]) -> Result<&[u8], Refusal> {
-    match attribute {
-        [0, AFI, SAFI, rules @ ..] => Ok(rules),
+/// The octets of the rules behind the head of an MP_REACH_NLRI value: AFI, SAFI, next-hop length
+/// 0 and a reserved octet; refusal 19.
+fn reach_rules(family: Family, attribute: &[u8]) -> Result<&[u8], Refusal> {
+    match behind_family(family, attribute)? {
+        [0, _, rules @ ..] if !rules.is_empty() => Ok(rules),
         _ => Err(Refusal::new(19)),
     }
 }
@@ -37,20 +36,23 @@ fn front(answers: &mut [u32], count: usize) -> Result<&mut [u32], Refusal> {
 
 /// Does the same with the plain spelling of each value, in order, and lists the numbers answered.
 fn one_by_one(
+    family: Family,
     values: &[&[u8]],
     answers: &mut [u32],
     mut call: impl FnMut(&[u8]) -> Result<(), Refusal>,
 ) {
     let mut array = WORKING_ARRAY;
     for (value, answer) in values.iter().zip(answers) {
-        let refused = call(rule::plain_spelling(value, &mut array)).err();
+        let refused = call(rule::plain_spelling(family, value, &mut array)).err();
         *answer = refused.map_or(0, |refusal| refusal.number);
     }
 }
 
 /// Announces the rules of an MP_REACH_NLRI value in order, each with the same actions, and gives
 /// their count; the front of the answers lists the number of each (2026-01).
+#[allow(clippy::too_many_arguments)]
 pub fn reach(
+    family: Family,
     table: &mut [u8],
     routes: &[u32],
     allow_no_destination: bool,
@@ -59,9 +61,9 @@ pub fn reach(
     communities: &[u8],
     answers: &mut [u32],
 ) -> Result<usize, Refusal> {
-    let mut table = SoundTable::new(table)?;
-    let routes = route::check(routes)?;
-    let values = rule::values(reach_rules(attribute)?)?;
+    let mut table = SoundTable::new(family, table)?;
+    let routes = Routes::new(family, routes)?;
+    let values = rule::values(family, reach_rules(family, attribute)?)?;
     let announcement = Announcement {
         routes,
         allow_no_destination,
@@ -69,7 +71,7 @@ pub fn reach(
         actions: action::actions(communities)?,
     };
     let answers = front(answers, values.len())?;
-    one_by_one(&values, answers, |value| {
+    one_by_one(family, &values, answers, |value| {
         table.announce(value, &announcement)
     });
     Ok(values.len())
@@ -77,19 +79,25 @@ pub fn reach(
 
 /// Withdraws the rules of an MP_UNREACH_NLRI value in order, and gives their count; the front of
 /// the answers lists the number of each (2026-01).
-pub fn unreach(table: &mut [u8], attribute: &[u8], answers: &mut [u32]) -> Result<usize, Refusal> {
-    let mut table = SoundTable::new(table)?;
-    let values = rule::values(unreach_rules(attribute)?)?;
+pub fn unreach(
+    family: Family,
+    table: &mut [u8],
+    attribute: &[u8],
+    answers: &mut [u32],
+) -> Result<usize, Refusal> {
+    let mut table = SoundTable::new(family, table)?;
+    let values = rule::values(family, behind_family(family, attribute)?)?;
     let answers = front(answers, values.len())?;
-    one_by_one(&values, answers, |value| table.withdraw(value));
+    one_by_one(family, &values, answers, |value| table.withdraw(value));
     Ok(values.len())
 }
 
 #[cfg(test)]
 mod tests {
     use super::*;
-    use crate::testing::{octets, rule, rule_of, some_value, Sequence};
+    use crate::testing::{octets, rule, rule_of, some_value, Sequence, FAMILIES};
     use crate::{announce, withdraw};
+    use Family::{Ipv4, Ipv6};
 
     /// 192.0.2.0/24 from originator 7.
     const ROUTE: [u32; 4] = [0xc000_0200, 24, 7, 64_500];
@@ -132,6 +140,7 @@ mod tests {
     ) -> Left {
         let (mut table, mut answers) = (table.to_vec(), vec![BEFORE; words]);
         let answer = reach(
+            Ipv4,
             &mut table,
             routes,
             false,
@@ -146,7 +155,7 @@ mod tests {
     /// An unreach on a copy of the table.
     fn unreached(table: &[u8], attribute: &[u8], words: usize) -> Left {
         let (mut table, mut answers) = (table.to_vec(), vec![BEFORE; words]);
-        let answer = unreach(&mut table, attribute, &mut answers);
+        let answer = unreach(Ipv4, &mut table, attribute, &mut answers);
         (answer, table, answers)
     }
 
@@ -155,7 +164,7 @@ mod tests {
         let mut table = vec![0; length];
         for rule in rules {
             assert_eq!(
-                announce(&mut table, &ROUTE, false, &octets(rule), 7, &[]),
+                announce(Ipv4, &mut table, &ROUTE, false, &octets(rule), 7, &[]),
                 Ok(())
             );
         }
@@ -326,7 +335,16 @@ mod tests {
         let mut table = table_of(200, &[TCP, MAIL]);
         let attribute = joined(&[REACH, TCP_AGAIN, INFEASIBLE]);
         let mut answers = [BEFORE; 2];
-        let answer = reach(&mut table, &ROUTE, false, &attribute, 8, &[], &mut answers);
+        let answer = reach(
+            Ipv4,
+            &mut table,
+            &ROUTE,
+            false,
+            &attribute,
+            8,
+            &[],
+            &mut answers,
+        );
         assert_eq!((answer, answers), (Ok(2), [8, 8]));
         assert_eq!(table, table_of(200, &[MAIL]));
     }
@@ -422,39 +440,67 @@ mod tests {
         (Ok(rules.len()), table, answers)
     }
 
+    /// Routes of which one covers all, as a family has them.
+    fn routes(family: Family) -> Vec<u32> {
+        match family {
+            Ipv4 => vec![0, 0, 7, 1, 0x0a00_0000, 8, 9, 1, 0xc000_0000, 8, 7, 2],
+            Ipv6 => vec![0, 0, 0, 0, 0, 7, 1, 0x0a00_0000, 0, 0, 0, 8, 9, 1],
+        }
+    }
+
+    /// Gives the rules to a copy of the table by one attribute, which announces or withdraws.
+    fn at_once(family: Family, table: &[u8], rules: &[Vec<u8>], announces: bool) -> Left {
+        let (mut table, mut answers) = (table.to_vec(), vec![BEFORE; rules.len()]);
+        let routes = routes(family);
+        let mut attribute = octets([UNREACH, REACH][usize::from(announces)]);
+        attribute[1] = family.afi() as u8;
+        attribute.extend(rules.concat());
+        let answer = match announces {
+            true => {
+                let answers = &mut answers;
+                reach(
+                    family,
+                    &mut table,
+                    &routes,
+                    true,
+                    &attribute,
+                    7,
+                    &[],
+                    answers,
+                )
+            }
+            false => unreach(family, &mut table, &attribute, &mut answers),
+        };
+        (answer, table, answers)
+    }
+
     #[test]
     fn an_attribute_does_what_the_single_calls_of_its_rules_do() {
-        let mut sequence = Sequence(6);
-        let values: Vec<Vec<u8>> = (0..60).map(|_| some_value(&mut sequence)).collect();
-        let routes = [0, 0, 7, 1, 0x0a00_0000, 8, 9, 1, 0xc000_0000, 8, 7, 2];
-        let mut table = vec![0; 1_500];
-        let mut counts = [0; 17];
-        for _ in 0..2_000 {
-            let rules: Vec<Vec<u8>> = (0..1 + sequence.below(6))
-                .map(|_| rule_of(&values[sequence.below(60) as usize]))
-                .collect();
-            let (head, expected) = match sequence.below(4) {
-                0 => (UNREACH, singly(&table, &rules, withdraw)),
-                _ => (
-                    REACH,
-                    singly(&table, &rules, |table, rule| {
-                        announce(table, &routes, true, rule, 7, &[])
-                    }),
-                ),
-            };
-            let attribute = [octets(head), rules.concat()].concat();
-            let mut answers = vec![BEFORE; rules.len()];
-            let answer = match head {
-                UNREACH => unreach(&mut table, &attribute, &mut answers),
-                _ => reach(&mut table, &routes, true, &attribute, 7, &[], &mut answers),
-            };
-            for number in &answers {
-                counts[*number as usize] += 1;
+        for family in FAMILIES {
+            let mut sequence = Sequence(6);
+            let some_value = |_| some_value(family, &mut sequence);
+            let values: Vec<Vec<u8>> = (0..60).map(some_value).collect();
+            let (mut table, routes) = (vec![0; 1_500], routes(family));
+            let mut counts = [0; 17];
+            for _ in 0..2_000 {
+                let rules: Vec<Vec<u8>> = (0..1 + sequence.below(6))
+                    .map(|_| rule_of(&values[sequence.below(60) as usize]))
+                    .collect();
+                let announces = sequence.below(4) > 0;
+                let left = at_once(family, &table, &rules, announces);
+                let singly = singly(&table, &rules, |table, rule| match announces {
+                    true => announce(family, table, &routes, true, rule, 7, &[]),
+                    false => withdraw(family, table, rule),
+                });
+                assert_eq!(left, singly);
+                table = left.1;
+                for number in &left.2 {
+                    counts[*number as usize] += 1;
+                }
             }
-            assert_eq!((answer, table.clone(), answers), expected);
+            let met = |number: usize| counts[number] > 50;
+            assert!([0, 8, 11, 14].into_iter().all(met), "{counts:?}");
         }
-        let met = |number: usize| counts[number] > 50;
-        assert!([0, 8, 11, 14].into_iter().all(met), "{counts:?}");
     }
 
     #[test]
@@ -467,9 +513,53 @@ mod tests {
         attribute.extend(rules.concat());
         let mut table = vec![0; 3 * 32 + 4_095 + 6];
         let mut answers = [BEFORE; 4];
-        let answer = reach(&mut table, &[], true, &attribute, 7, &[], &mut answers);
+        let answer = reach(
+            Ipv4,
+            &mut table,
+            &[],
+            true,
+            &attribute,
+            7,
+            &[],
+            &mut answers,
+        );
         assert_eq!((answer, answers), (Ok(3), [0, 0, 0, BEFORE]));
         let again = unreached(&table, &[octets(UNREACH), rules.concat()].concat(), 3);
         assert_eq!(again, (Ok(3), vec![0; table.len()], vec![0, 0, 0]));
+    }
+
+    #[test]
+    fn each_family_refuses_the_other_with_19() {
+        let routes = [0x2001_0db8, 0, 0, 0, 32, 7, 64_500];
+        let rule = "07 01200020010db8";
+        let attribute = |family: &str, rest: &str| joined(&[family, rest, rule]);
+        let mut answers = [BEFORE; 1];
+        for afi in 0..=3 {
+            let afi = format!("000{afi} 85");
+            let mut table = vec![0; 100];
+            let reaching = attribute(&afi, "00 00");
+            let answer = reach(
+                Ipv6,
+                &mut table,
+                &routes,
+                false,
+                &reaching,
+                7,
+                &[],
+                &mut answers,
+            );
+            let expected = match afi.as_str() {
+                "0002 85" => Ok(1),
+                _ => Err(Refusal::new(19)),
+            };
+            assert_eq!(answer, expected);
+            assert_eq!(table.iter().all(|octet| *octet == 0), expected.is_err());
+            let withdrawing = attribute(&afi, "");
+            let answer = unreach(Ipv6, &mut table, &withdrawing, &mut answers);
+            assert_eq!(answer, expected);
+            assert_eq!(table, [0; 100]);
+        }
+        let ipv6 = joined(&["0002 85 00 00", TCP]);
+        assert_eq!(reached(&[0; 50], &ipv6, 1).0, Err(Refusal::new(19)));
     }
 }

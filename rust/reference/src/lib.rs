@@ -1,16 +1,19 @@
-//! IPv4 flow rules of RFC 8955, kept in a table that the caller lends as octets.
+//! Flow rules of RFC 8955 (IPv4) and RFC 8956 (IPv6), kept in a table that the caller lends as
+//! octets; the family is a parameter of each call.
 //!
-//! The modules follow the order of the RFC: reading and writing a rule, ordering two, testing
+//! The modules follow the order of the RFCs: reading and writing a rule, ordering two, testing
 //! feasibility against unicast routes, reading filtering actions, matching packets; then the
 //! table that holds rules and actions, whole attributes of rules for it, and the line program
 //! over it.
 //!
 //! In the comments, 01 is the paper "What is required and the exact rules: IPv4 flow rules",
-//! named with its section, 2026-01 the later request "Whole attributes, not single rules", and
-//! 2026-02 the one on IP options; RFC sections are named as such.
+//! named with its section, 2026-01 the later request "Whole attributes, not single rules",
+//! 2026-02 the one on IP options, and 2026-04 the one on IPv6; RFC sections are named as such.
 
 mod action;
 mod attribute;
+mod chain;
+mod family;
 mod lines;
 mod order;
 mod packet;
@@ -20,6 +23,7 @@ mod table;
 
 pub use action::{actions, Actions};
 pub use attribute::{reach, unreach};
+pub use family::Family;
 pub use lines::run_lines;
 pub use order::{compare, Precedence};
 pub use route::feasible;
@@ -54,6 +58,11 @@ impl Refusal {
 /// What the tests of several modules share.
 #[cfg(test)]
 mod testing {
+    use crate::Family;
+
+    /// Both families, for what holds of each.
+    pub(crate) const FAMILIES: [Family; 2] = [Family::Ipv4, Family::Ipv6];
+
     /// The octets that a text of hex digits and spaces stands for.
     pub(crate) fn octets(text: &str) -> Vec<u8> {
         let digits: Vec<u32> = text
@@ -103,14 +112,14 @@ mod testing {
 
     /// A value that is accepted but often not plain, with few distinct octets so that
     /// values share their beginnings.
-    pub(crate) fn some_value(sequence: &mut Sequence) -> Vec<u8> {
+    pub(crate) fn some_value(family: Family, sequence: &mut Sequence) -> Vec<u8> {
         loop {
             let mut value = Vec::new();
-            for kind in 1..=12u8 {
+            for kind in 1..=family.highest_type() {
                 if sequence.below(4) == 0 {
                     value.push(kind);
                     match kind {
-                        1 | 2 => some_prefix(sequence, &mut value),
+                        1 | 2 => some_prefix(family, sequence, &mut value),
                         _ => some_list(sequence, kind, &mut value),
                     }
                 }
@@ -121,11 +130,26 @@ mod testing {
         }
     }
 
-    fn some_prefix(sequence: &mut Sequence, value: &mut Vec<u8>) {
-        let length = sequence.below(33) as u8;
+    fn some_prefix(family: Family, sequence: &mut Sequence, value: &mut Vec<u8>) {
+        let length = sequence.below(u64::from(family.width()) + 1) as u8;
         value.push(length);
-        for _ in 0..length.div_ceil(8) {
+        let offset = match family {
+            Family::Ipv4 => 0,
+            Family::Ipv6 => some_offset(sequence, length),
+        };
+        if family == Family::Ipv6 {
+            value.push(offset);
+        }
+        for _ in 0..(length - offset).div_ceil(8) {
             value.push([10, 11, 192, 255][sequence.below(4) as usize]);
+        }
+    }
+
+    /// An offset below the length, often 0.
+    fn some_offset(sequence: &mut Sequence, length: u8) -> u8 {
+        match sequence.below(2) {
+            0 => 0,
+            _ => sequence.below(u64::from(length.max(1))) as u8,
         }
     }
 

@@ -1,7 +1,10 @@
 //! The line program: routes, announcements and withdrawals as lines of text.
 
 use crate::table::{self, LONGEST_TABLE};
-use crate::{route, Refusal};
+use crate::{route, Family, Refusal};
+
+/// The family of the program's rules.
+const FAMILY: Family = Family::Ipv4;
 
 /// The octets of the longest line, without its LF.
 const LONGEST_LINE: usize = 16_384;
@@ -35,7 +38,7 @@ impl Program {
                 self.announce(&rule, decimal(originator)?, &communities);
             }
             [b"withdraw", rule] => {
-                let answer = table::withdraw(&mut self.table, &rule_octets(rule)?);
+                let answer = table::withdraw(FAMILY, &mut self.table, &rule_octets(rule)?);
                 self.answer(answer);
             }
             [b"list"] => self.list(),
@@ -46,7 +49,7 @@ impl Program {
 
     /// Adds a route to the list; none if the list is full.
     fn add(&mut self, route: [u32; 4]) -> Option<()> {
-        if self.routes.len() / 4 == route::MOST_ROUTES {
+        if self.routes.len() / FAMILY.route_words() == route::MOST_ROUTES {
             return None;
         }
         self.routes.extend(route);
@@ -55,7 +58,15 @@ impl Program {
 
     fn announce(&mut self, rule: &[u8], originator: u32, communities: &[u8]) {
         let table = &mut self.table;
-        let answer = table::announce(table, &self.routes, false, rule, originator, communities);
+        let answer = table::announce(
+            FAMILY,
+            table,
+            &self.routes,
+            false,
+            rule,
+            originator,
+            communities,
+        );
         self.answer(answer);
     }
 

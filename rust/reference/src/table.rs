@@ -4,9 +4,9 @@
 use crate::action::{self, Actions};
 use crate::order::order;
 use crate::packet::Packet;
-use crate::route::{self, Route};
+use crate::route::Routes;
 use crate::rule::{self, Reader, LONGEST_VALUE, WORKING_ARRAY};
-use crate::Refusal;
+use crate::{Family, Refusal};
 use std::cmp::Ordering;
 
 /// The octets of the longest table.
@@ -119,14 +119,14 @@ impl<'a> Record<'a> {
 
     /// Whether the record could have been stored: actions that some communities give and an
     /// accepted plain value.
-    fn is_sound(&self) -> bool {
+    fn is_sound(&self, family: Family) -> bool {
         self.value.len() <= LONGEST_VALUE
             && self.header[6] < 64
             && field_is_sound(self.flag(1), self.byte_rate(), action::is_rate)
             && field_is_sound(self.flag(2), self.packet_rate(), action::is_rate)
             && field_is_sound(self.flag(16), u64::from(self.dscp()), |dscp| dscp < 64)
             && field_is_sound(self.flag(32), self.redirect(), action::is_redirect)
-            && Reader::new(self.value)
+            && Reader::new(family, self.value)
                 .all(|component| component.is_ok_and(|component| component.is_plain()))
     }
 
@@ -168,15 +168,15 @@ impl<'a> Iterator for Records<'a> {
 }
 
 /// The number of octets that the records of a sound table fill: refusal 10.
-fn check(table: &[u8]) -> Result<usize, Refusal> {
+fn check(family: Family, table: &[u8]) -> Result<usize, Refusal> {
     let unsound = Refusal::new(10);
     if table.len() > LONGEST_TABLE {
         return Err(unsound);
     }
     let mut before: Option<Record> = None;
     for record in records(table) {
-        let follows = |before: Record| order(before.value, record.value).is_lt();
-        if !record.is_sound() || !before.is_none_or(follows) {
+        let follows = |before: Record| order(family, before.value, record.value).is_lt();
+        if !record.is_sound(family) || !before.is_none_or(follows) {
             return Err(unsound);
         }
         before = Some(record);
@@ -196,10 +196,10 @@ fn is_zero(octets: &[u8]) -> bool {
 }
 
 /// The place of a plain value among the records of a sound table, and whether it is held there.
-fn find(table: &[u8], value: &[u8]) -> (usize, bool) {
+fn find(family: Family, table: &[u8], value: &[u8]) -> (usize, bool) {
     let mut place = 0;
     for record in records(table) {
-        match order(record.value, value) {
+        match order(family, record.value, value) {
             Ordering::Less => place = record.end(),
             Ordering::Equal => return (record.start, true),
             Ordering::Greater => break,
@@ -223,7 +223,7 @@ fn header(value: &[u8], originator: u32, actions: &Actions) -> Header {
 
 /// What an announcement gives beside its rule, after the checks on it.
 pub(crate) struct Announcement<'a> {
-    pub(crate) routes: &'a [Route],
+    pub(crate) routes: Routes<'a>,
     pub(crate) allow_no_destination: bool,
     pub(crate) originator: u32,
     pub(crate) actions: Actions,
@@ -231,15 +231,20 @@ pub(crate) struct Announcement<'a> {
 
 /// A sound table that is lent to be changed, and the number of octets that its records fill.
 pub(crate) struct SoundTable<'a> {
+    family: Family,
     octets: &'a mut [u8],
     used: usize,
 }
 
 impl<'a> SoundTable<'a> {
     /// The table in lent octets: refusal 10.
-    pub(crate) fn new(octets: &'a mut [u8]) -> Result<SoundTable<'a>, Refusal> {
-        let used = check(octets)?;
-        Ok(SoundTable { octets, used })
+    pub(crate) fn new(family: Family, octets: &'a mut [u8]) -> Result<SoundTable<'a>, Refusal> {
+        let used = check(family, octets)?;
+        Ok(SoundTable {
+            family,
+            octets,
+            used,
+        })
     }
 
     /// Announces the rule of a plain value: refusals 8 and 11.
@@ -254,9 +259,9 @@ impl<'a> SoundTable<'a> {
             originator,
             ref actions,
         } = announcement;
-        let (place, held) = find(&self.octets[..self.used], value);
+        let (place, held) = find(self.family, &self.octets[..self.used], value);
         let cost = HEADER + value.len();
-        let feasible = route::check_feasible(routes, allow_no_destination, value, originator);
+        let feasible = routes.check_feasible(allow_no_destination, value, originator);
         if let Err(infeasible) = feasible {
             if held {
                 self.remove(place, cost);
@@ -277,7 +282,7 @@ impl<'a> SoundTable<'a> {
 
     /// Withdraws the rule of a plain value: refusal 14.
     pub(crate) fn withdraw(&mut self, value: &[u8]) -> Result<(), Refusal> {
-        let (place, held) = find(&self.octets[..self.used], value);
+        let (place, held) = find(self.family, &self.octets[..self.used], value);
         if !held {
             return Err(Refusal::new(14));
         }
@@ -296,6 +301,7 @@ impl<'a> SoundTable<'a> {
 /// Announces a rule with its actions: a feasible one is held from then on in the place of an
 /// equal one, an infeasible one is not held any longer (01, "The table" and "Refusals").
 pub fn announce(
+    family: Family,
     table: &mut [u8],
     routes: &[u32],
     allow_no_destination: bool,
@@ -303,10 +309,10 @@ pub fn announce(
     originator: u32,
     communities: &[u8],
 ) -> Result<(), Refusal> {
-    let mut table = SoundTable::new(table)?;
-    let routes = route::check(routes)?;
+    let mut table = SoundTable::new(family, table)?;
+    let routes = Routes::new(family, routes)?;
     let mut array = WORKING_ARRAY;
-    let value = rule::read_plain(rule, &mut array)?;
+    let value = rule::read_plain(family, rule, &mut array)?;
     let announcement = Announcement {
         routes,
         allow_no_destination,
@@ -317,21 +323,21 @@ pub fn announce(
 }
 
 /// Withdraws a rule that the table holds (01, "The table" and "Refusals").
-pub fn withdraw(table: &mut [u8], rule: &[u8]) -> Result<(), Refusal> {
-    let mut table = SoundTable::new(table)?;
+pub fn withdraw(family: Family, table: &mut [u8], rule: &[u8]) -> Result<(), Refusal> {
+    let mut table = SoundTable::new(family, table)?;
     let mut array = WORKING_ARRAY;
-    let value = rule::read_plain(rule, &mut array)?;
+    let value = rule::read_plain(family, rule, &mut array)?;
     table.withdraw(value)
 }
 
 /// Looks a packet up: goes down the table, collects the matching rules and stops after one
 /// without T (01, "Matching and lookup").
-pub fn lookup(table: &[u8], packet: &[u8]) -> Result<Verdict, Refusal> {
-    let used = check(table)?;
-    let packet = Packet::read(packet)?;
+pub fn lookup(family: Family, table: &[u8], packet: &[u8]) -> Result<Verdict, Refusal> {
+    let used = check(family, table)?;
+    let packet = Packet::read(family, packet)?;
     let mut verdict = Verdict::Unmatched;
     for record in records(&table[..used]) {
-        if packet.matches(record.value) {
+        if packet.matches(family, record.value) {
             let actions = record.actions();
             verdict = verdict.collect(actions);
             if !actions.go_on {
@@ -344,18 +350,19 @@ pub fn lookup(table: &[u8], packet: &[u8]) -> Result<Verdict, Refusal> {
 
 /// The start and length in the table of the first matching rule's record, 0 and 0 if no rule
 /// matches (01, "Matching and lookup").
-pub fn first_match(table: &[u8], packet: &[u8]) -> Result<(usize, usize), Refusal> {
-    let used = check(table)?;
-    let packet = Packet::read(packet)?;
+pub fn first_match(family: Family, table: &[u8], packet: &[u8]) -> Result<(usize, usize), Refusal> {
+    let used = check(family, table)?;
+    let packet = Packet::read(family, packet)?;
     Ok(records(&table[..used])
-        .find(|record| packet.matches(record.value))
+        .find(|record| packet.matches(family, record.value))
         .map_or((0, 0), |record| (record.start, record.cost())))
 }
 
 #[cfg(test)]
 mod tests {
     use super::*;
-    use crate::testing::{octets, rule, rule_of, some_value, Sequence};
+    use crate::testing::{octets, rule, rule_of, some_value, Sequence, FAMILIES};
+    use Family::{Ipv4, Ipv6};
 
     const ROUTE: [u32; 4] = [0xc000_0200, 24, 7, 64_500];
     const EXAMPLE: &str = "0118c00002038106048119";
@@ -369,7 +376,15 @@ mod tests {
     /// Announces from originator 7 where every rule is feasible.
     fn hold(table: &mut [u8], value: &str, communities: &str) -> Result<(), Refusal> {
         let routes = [0, 0, 7, 64_500];
-        announce(table, &routes, true, &rule(value), 7, &octets(communities))
+        announce(
+            Ipv4,
+            table,
+            &routes,
+            true,
+            &rule(value),
+            7,
+            &octets(communities),
+        )
     }
 
     /// A table of the given length that holds the rules.
@@ -401,7 +416,7 @@ mod tests {
         let mut table = vec![0; 50];
         let example = rule(EXAMPLE);
         assert_eq!(
-            announce(&mut table, &ROUTE, false, &example, 7, &octets(DROP)),
+            announce(Ipv4, &mut table, &ROUTE, false, &example, 7, &octets(DROP)),
             Ok(())
         );
         let mut expected = octets("000b0000000701");
@@ -433,17 +448,17 @@ mod tests {
         let without = table_of(200, &[("0118c00002", DROP)]);
         let other_spelling = rule("0119c000027f");
         assert_eq!(
-            announce(&mut table, &ROUTE, false, &other_spelling, 8, &[]),
+            announce(Ipv4, &mut table, &ROUTE, false, &other_spelling, 8, &[]),
             refused(8)
         );
         assert_eq!(table, without);
         assert_eq!(
-            announce(&mut table, &ROUTE, false, &other_spelling, 8, &[]),
+            announce(Ipv4, &mut table, &ROUTE, false, &other_spelling, 8, &[]),
             refused(8)
         );
         assert_eq!(table, without);
         assert_eq!(
-            announce(&mut table, &[], true, &rule("0118c00002"), 7, &[]),
+            announce(Ipv4, &mut table, &[], true, &rule("0118c00002"), 7, &[]),
             refused(8)
         );
         assert_eq!(table, [0; 200]);
@@ -451,7 +466,7 @@ mod tests {
 
     #[test]
     fn refusal_9_before_the_rule() {
-        let answer = announce(&mut [0; 100], &ROUTE[..3], false, &[], 7, &[1]);
+        let answer = announce(Ipv4, &mut [0; 100], &ROUTE[..3], false, &[], 7, &[1]);
         assert_eq!(answer, refused(9));
     }
 
@@ -523,10 +538,13 @@ mod tests {
         let tables = [misplaced_records(), wrong_values(), wrong_actions()];
         for mut table in tables.concat() {
             let before = table.clone();
-            assert_eq!(announce(&mut table, &[1], false, &[], 7, &[1]), refused(10));
-            assert_eq!(withdraw(&mut table, &[]), refused(10));
-            assert_eq!(lookup(&table, &[]), Err(Refusal::new(10)));
-            assert_eq!(first_match(&table, &packet()), Err(Refusal::new(10)));
+            assert_eq!(
+                announce(Ipv4, &mut table, &[1], false, &[], 7, &[1]),
+                refused(10)
+            );
+            assert_eq!(withdraw(Ipv4, &mut table, &[]), refused(10));
+            assert_eq!(lookup(Ipv4, &table, &[]), Err(Refusal::new(10)));
+            assert_eq!(first_match(Ipv4, &table, &packet()), Err(Refusal::new(10)));
             assert_eq!(table, before);
         }
     }
@@ -534,19 +552,19 @@ mod tests {
     #[test]
     fn sound_tables_at_the_edges() {
         for length in [0, 1, 31, 32, 33, LONGEST_TABLE] {
-            assert_eq!(check(&vec![0; length]), Ok(0));
+            assert_eq!(check(Ipv4, &vec![0; length]), Ok(0));
         }
         let edges = "ffffffff 3f 3f 8000000000000000 0000000000ffffff 8208ffffffffffff";
-        assert_eq!(check(&record("038106", edges)), Ok(35));
+        assert_eq!(check(Ipv4, &record("038106", edges)), Ok(35));
         let mut longest = vec![3];
         longest.extend([1, 6].repeat(2_046));
         longest.extend([0x81, 6]);
         let mut table = vec![0; HEADER + 4_095];
         assert_eq!(
-            announce(&mut table, &[], true, &rule_of(&longest), 0, &[]),
+            announce(Ipv4, &mut table, &[], true, &rule_of(&longest), 0, &[]),
             Ok(())
         );
-        assert_eq!(check(&table), Ok(HEADER + 4_095));
+        assert_eq!(check(Ipv4, &table), Ok(HEADER + 4_095));
     }
 
     #[test]
@@ -565,21 +583,21 @@ mod tests {
     #[test]
     fn refusal_12_from_a_lookup() {
         let table = table_of(100, &[("0100", "")]);
-        assert_eq!(lookup(&table, &packet()[..19]), Err(Refusal::new(12)));
-        assert_eq!(first_match(&table, &[]), Err(Refusal::new(12)));
+        assert_eq!(lookup(Ipv4, &table, &packet()[..19]), Err(Refusal::new(12)));
+        assert_eq!(first_match(Ipv4, &table, &[]), Err(Refusal::new(12)));
     }
 
     #[test]
     fn refusal_14_not_held() {
         let mut table = table_of(100, &[("0118c00002", ""), ("038106", "")]);
         let before = table.clone();
-        assert_eq!(withdraw(&mut table, &rule("0117c00002")), refused(14));
-        assert_eq!(withdraw(&mut table, &rule("038107")), refused(14));
+        assert_eq!(withdraw(Ipv4, &mut table, &rule("0117c00002")), refused(14));
+        assert_eq!(withdraw(Ipv4, &mut table, &rule("038107")), refused(14));
         assert_eq!(table, before);
-        assert_eq!(withdraw(&mut table, &rule("03c906")), Ok(()));
+        assert_eq!(withdraw(Ipv4, &mut table, &rule("03c906")), Ok(()));
         assert_eq!(table, table_of(100, &[("0118c00002", "")]));
-        assert_eq!(withdraw(&mut table, &rule("038106")), refused(14));
-        assert_eq!(withdraw(&mut table, &rule("0118c00002")), Ok(()));
+        assert_eq!(withdraw(Ipv4, &mut table, &rule("038106")), refused(14));
+        assert_eq!(withdraw(Ipv4, &mut table, &rule("0118c00002")), Ok(()));
         assert_eq!(table, [0; 100]);
     }
 
@@ -598,23 +616,31 @@ mod tests {
         for (number, octet, routes, rule, communities) in cases {
             let mut table = [octet];
             let communities = vec![0; communities];
-            let answer = announce(&mut table, routes, false, &octets(rule), 7, &communities);
+            let answer = announce(
+                Ipv4,
+                &mut table,
+                routes,
+                false,
+                &octets(rule),
+                7,
+                &communities,
+            );
             assert_eq!(answer, refused(number));
             assert_eq!(table, [octet]);
         }
         let default_route = [0, 0, 7, 1];
-        let answer = announce(&mut [0], &default_route, false, &rule("0100"), 7, &[]);
+        let answer = announce(Ipv4, &mut [0], &default_route, false, &rule("0100"), 7, &[]);
         assert_eq!(answer, refused(11));
     }
 
     #[test]
     fn the_order_of_a_withdrawal_s_refusals() {
-        assert_eq!(withdraw(&mut [1], &[]), refused(10));
-        assert_eq!(withdraw(&mut [0], &[]), refused(1));
-        assert_eq!(withdraw(&mut [0], &[0, 0]), refused(2));
-        assert_eq!(withdraw(&mut [0], &[1, 0, 0]), refused(3));
-        assert_eq!(withdraw(&mut [0], &[2, 1, 0, 0]), refused(15));
-        assert_eq!(withdraw(&mut [0], &[2, 1, 0]), refused(14));
+        assert_eq!(withdraw(Ipv4, &mut [1], &[]), refused(10));
+        assert_eq!(withdraw(Ipv4, &mut [0], &[]), refused(1));
+        assert_eq!(withdraw(Ipv4, &mut [0], &[0, 0]), refused(2));
+        assert_eq!(withdraw(Ipv4, &mut [0], &[1, 0, 0]), refused(3));
+        assert_eq!(withdraw(Ipv4, &mut [0], &[2, 1, 0, 0]), refused(15));
+        assert_eq!(withdraw(Ipv4, &mut [0], &[2, 1, 0]), refused(14));
     }
 
     #[test]
@@ -623,7 +649,7 @@ mod tests {
         let before = table.clone();
         let rule = rule("0118c00002");
         assert_eq!(
-            announce(&mut table, &[], false, &rule, 8, &[0]),
+            announce(Ipv4, &mut table, &[], false, &rule, 8, &[0]),
             refused(13)
         );
         assert_eq!(table, before);
@@ -631,8 +657,8 @@ mod tests {
 
     /// The count of a lookup and the start of its first match.
     fn found(table: &[u8]) -> (u64, usize) {
-        let (start, length) = first_match(table, &packet()).unwrap();
-        match lookup(table, &packet()).unwrap() {
+        let (start, length) = first_match(Ipv4, table, &packet()).unwrap();
+        match lookup(Ipv4, table, &packet()).unwrap() {
             Verdict::Unmatched => {
                 assert_eq!((start, length), (0, 0));
                 (0, 0)
@@ -663,14 +689,14 @@ mod tests {
         assert_eq!(found(&table), (2, 38));
         assert_eq!(hold(&mut table, "0120c0000209", DROP), Ok(()));
         assert_eq!(found(&table), (1, 38));
-        assert_eq!(withdraw(&mut table, &rule("0120c0000209")), Ok(()));
+        assert_eq!(withdraw(Ipv4, &mut table, &rule("0120c0000209")), Ok(()));
         assert_eq!(found(&table), (1, 38));
         for value in ["0118c00002", "038106", "048119"] {
             assert_eq!(hold(&mut table, value, GO_ON), Ok(()));
         }
         assert_eq!(found(&table), (3, 38));
         for value in ["0118c00002", "038106", "048119"] {
-            assert_eq!(withdraw(&mut table, &rule(value)), Ok(()));
+            assert_eq!(withdraw(Ipv4, &mut table, &rule(value)), Ok(()));
         }
         assert_eq!(found(&table), (0, 0));
         assert_eq!(found(&[]), (0, 0));
@@ -702,7 +728,7 @@ mod tests {
             redirect: Some(0x8008_0000_0000_0001),
         };
         assert_eq!(
-            lookup(&table, &packet()),
+            lookup(Ipv4, &table, &packet()),
             Ok(Verdict::Matched { actions, count: 3 })
         );
     }
@@ -714,10 +740,10 @@ mod tests {
             actions: Actions::default(),
             count: 1,
         };
-        assert_eq!(lookup(&table, &packet()), Ok(verdict));
-        assert_eq!(first_match(&table, &packet()), Ok((0, 34)));
+        assert_eq!(lookup(Ipv4, &table, &packet()), Ok(verdict));
+        assert_eq!(first_match(Ipv4, &table, &packet()), Ok((0, 34)));
         let other = table_of(64, &[("02080b", "")]);
-        assert_eq!(lookup(&other, &packet()), Ok(Verdict::Unmatched));
+        assert_eq!(lookup(Ipv4, &other, &packet()), Ok(Verdict::Unmatched));
     }
 
     /// Some communities, at times unsound.
@@ -735,14 +761,24 @@ mod tests {
 
     /// What a table should hold: plain value, originator and actions of each rule.
     struct Model {
+        family: Family,
         rules: Vec<(Vec<u8>, u32, Actions)>,
         length: usize,
     }
 
     impl Model {
+        fn new(family: Family, length: usize) -> Model {
+            Model {
+                family,
+                rules: Vec::new(),
+                length,
+            }
+        }
+
         fn spell(&mut self) -> Vec<u8> {
+            let family = self.family;
             self.rules
-                .sort_by(|first, second| order(&first.0, &second.0));
+                .sort_by(|first, second| order(family, &first.0, &second.0));
             let mut table = Vec::new();
             for (value, originator, actions) in &self.rules {
                 table.extend(header(value, *originator, actions));
@@ -759,6 +795,17 @@ mod tests {
             self.rules.len() < before
         }
 
+        fn used(&self) -> usize {
+            self.rules.iter().map(|rule| HEADER + rule.0.len()).sum()
+        }
+
+        fn hold_if_room(&mut self, value: &[u8], actions: Actions) {
+            self.take_out(value);
+            if self.used() + HEADER + value.len() <= self.length {
+                self.rules.push((value.to_vec(), 1, actions));
+            }
+        }
+
         fn withdraw(&mut self, value: &[u8]) -> u32 {
             match self.take_out(value) {
                 true => 0,
@@ -770,9 +817,10 @@ mod tests {
             let Ok(actions) = action::actions(communities) else {
                 return 13;
             };
-            let used: usize = self.rules.iter().map(|rule| HEADER + rule.0.len()).sum();
+            let used = self.used();
             let held = self.take_out(value);
-            if originator != 1 && value[0] == 1 {
+            let has_offset = self.family == Ipv6 && value[2] != 0;
+            if value[0] == 1 && (originator != 1 || has_offset) {
                 return 8;
             }
             if !held && used + HEADER + value.len() > self.length {
@@ -783,47 +831,55 @@ mod tests {
         }
     }
 
-    #[test]
-    fn any_history_holds_exactly_what_was_announced() {
-        let mut sequence = Sequence(4);
-        let mut table = vec![0; 2_500];
-        let mut model = Model {
-            rules: Vec::new(),
-            length: table.len(),
-        };
-        let values: Vec<Vec<u8>> = (0..120).map(|_| some_value(&mut sequence)).collect();
-        let mut counts = [0; 17];
-        for _ in 0..6_000 {
-            let rule = rule_of(&values[sequence.below(120) as usize]);
-            let mut array = WORKING_ARRAY;
-            let value = rule::read_plain(&rule, &mut array).unwrap();
-            let originator = sequence.below(4).min(1) as u32;
-            let communities = some_communities(&mut sequence);
-            let (answer, expected) = match sequence.below(5) {
-                0 => (withdraw(&mut table, &rule), model.withdraw(value)),
-                _ => (
-                    announce(
-                        &mut table,
-                        &[0, 0, 1, 1],
-                        true,
-                        &rule,
-                        originator,
-                        &communities,
-                    ),
-                    model.announce(value, originator, &communities),
-                ),
-            };
-            assert_eq!(answer.err().map_or(0, |refusal| refusal.number), expected);
-            assert_eq!(table, model.spell());
-            counts[expected as usize] += 1;
-        }
-        let met = |number: usize| counts[number] > 50;
-        assert!([0, 8, 11, 13, 14].into_iter().all(met), "{counts:?}");
+    /// The route that covers all of a family, from an originator.
+    fn covering_all(family: Family, originator: u32) -> Vec<u32> {
+        let mut words = vec![0; family.address_words()];
+        words.extend([0, originator, 1]);
+        words
     }
 
-    /// The table that announcing what the records say gives.
-    fn rebuilt(table: &[u8]) -> Vec<u8> {
-        let mut fresh = vec![0; table.len()];
+    #[test]
+    fn any_history_holds_exactly_what_was_announced() {
+        for family in FAMILIES {
+            let mut sequence = Sequence(4);
+            let mut table = vec![0; 2_500];
+            let mut model = Model::new(family, table.len());
+            let some_value = |_| some_value(family, &mut sequence);
+            let values: Vec<Vec<u8>> = (0..120).map(some_value).collect();
+            let mut counts = [0; 17];
+            for _ in 0..6_000 {
+                let rule = rule_of(&values[sequence.below(120) as usize]);
+                let expected = step(&mut table, &mut model, &rule, &mut sequence);
+                assert_eq!(table, model.spell());
+                counts[expected as usize] += 1;
+            }
+            let met = |number: usize| counts[number] > 50;
+            assert!([0, 8, 11, 13, 14].into_iter().all(met), "{counts:?}");
+        }
+    }
+
+    /// Announces or withdraws a rule, and gives the number that the model expects.
+    fn step(table: &mut [u8], model: &mut Model, rule: &[u8], sequence: &mut Sequence) -> u32 {
+        let family = model.family;
+        let mut array = WORKING_ARRAY;
+        let value = rule::read_plain(family, rule, &mut array).unwrap();
+        let originator = sequence.below(4).min(1) as u32;
+        let communities = some_communities(sequence);
+        let routes = covering_all(family, 1);
+        let (answer, expected) = match sequence.below(5) {
+            0 => (withdraw(family, table, rule), model.withdraw(value)),
+            _ => (
+                announce(family, table, &routes, true, rule, originator, &communities),
+                model.announce(value, originator, &communities),
+            ),
+        };
+        assert_eq!(answer.err().map_or(0, |refusal| refusal.number), expected);
+        expected
+    }
+
+    /// The table that accepted rules with the actions that the records say give.
+    fn rebuilt(family: Family, table: &[u8]) -> Vec<u8> {
+        let mut model = Model::new(family, table.len());
         for record in records(table) {
             let actions = record.actions();
             let single = |rate: u64| (rate as f32).to_bits().to_be_bytes();
@@ -844,33 +900,100 @@ mod tests {
             }
             let originator = u32::from_be_bytes(record.header[2..6].try_into().unwrap());
             let rule = rule_of(&record.value[..record.value.len().min(LONGEST_VALUE)]);
-            let routes = [0, 0, originator, 1];
-            let _ = announce(&mut fresh, &routes, true, &rule, originator, &communities);
+            let mut array = WORKING_ARRAY;
+            let value = rule::read_plain(family, &rule, &mut array);
+            if let (Ok(value), Ok(actions)) = (value, action::actions(&communities)) {
+                model.take_out(value);
+                model.rules.push((value.to_vec(), originator, actions));
+            }
         }
-        fresh
+        model.spell()
     }
 
     #[test]
-    fn sound_is_exactly_what_announcements_give() {
-        let mut sequence = Sequence(5);
-        let mut counts = [0, 0];
-        for _ in 0..3_000 {
-            let mut table = vec![0; 400];
-            for _ in 0..1 + sequence.below(5) {
-                let rule = rule_of(&some_value(&mut sequence));
-                let communities = some_communities(&mut sequence);
-                let _ = announce(&mut table, &[0, 0, 1, 1], true, &rule, 1, &communities);
+    fn sound_is_exactly_what_accepted_rules_and_actions_give() {
+        for family in FAMILIES {
+            let mut sequence = Sequence(5);
+            let mut counts = [0, 0];
+            for _ in 0..3_000 {
+                let table = some_table(family, &mut sequence);
+                let sound = check(family, &table).is_ok();
+                assert_eq!(sound, rebuilt(family, &table) == table);
+                counts[usize::from(sound)] += 1;
+                let _ = lookup(family, &table, &packet());
             }
-            for _ in 0..sequence.below(3) {
-                let used = check(&table).unwrap_or(399);
-                let changed = sequence.below(used as u64 + 1) as usize;
-                table[changed] ^= 1 << sequence.below(8);
-            }
-            let sound = check(&table).is_ok();
-            assert_eq!(sound, rebuilt(&table) == table);
-            counts[usize::from(sound)] += 1;
-            let _ = lookup(&table, &packet());
+            assert!(counts.iter().all(|&count| count > 500), "{counts:?}");
         }
-        assert!(counts.iter().all(|&count| count > 500), "{counts:?}");
+    }
+
+    /// A table of some records, in any of which the destination may have an offset, with a bit or
+    /// two turned over or none.
+    fn some_table(family: Family, sequence: &mut Sequence) -> Vec<u8> {
+        let mut model = Model::new(family, 400);
+        for _ in 0..1 + sequence.below(5) {
+            let rule = rule_of(&some_value(family, sequence));
+            let mut array = WORKING_ARRAY;
+            let value = rule::read_plain(family, &rule, &mut array).unwrap();
+            if let Ok(actions) = action::actions(&some_communities(sequence)) {
+                model.hold_if_room(value, actions);
+            }
+        }
+        let mut table = model.spell();
+        for _ in 0..sequence.below(3) {
+            let used = check(family, &table).unwrap_or(399);
+            let changed = sequence.below(used as u64 + 1) as usize;
+            table[changed] ^= 1 << sequence.below(8);
+        }
+        table
+    }
+
+    /// A TCP packet from 2001:db8:: to 2001:db8::9, port 25, with a destination options header.
+    fn ipv6_packet() -> Vec<u8> {
+        octets(
+            "60000000 001c 3c 40 20010db8000000000000000000000000 \
+             20010db8000000000000000000000009 0600000000000000 \
+             04000019 00000000 00000000 50020000 00000000",
+        )
+    }
+
+    #[test]
+    fn an_ipv6_rule_is_announced_found_and_withdrawn() {
+        let routes = [0x2001_0db8, 0, 0, 0, 32, 7, 64_500];
+        let rule = rule("01200020010db8 038106 048119");
+        let mut table = vec![0; 50];
+        let answer = announce(Ipv6, &mut table, &routes, false, &rule, 7, &octets(DROP));
+        assert_eq!(answer, Ok(()));
+        let mut expected = octets("000d0000000701");
+        expected.extend([0; 25]);
+        expected.extend(&rule[1..]);
+        expected.resize(50, 0);
+        assert_eq!(table, expected);
+        let actions = action::actions(&octets(DROP)).unwrap();
+        let verdict = Verdict::Matched { actions, count: 1 };
+        assert_eq!(lookup(Ipv6, &table, &ipv6_packet()), Ok(verdict));
+        assert_eq!(first_match(Ipv6, &table, &ipv6_packet()), Ok((0, 45)));
+        assert_eq!(
+            lookup(Ipv6, &table, &packet()),
+            Err(Refusal::new(12)),
+            "a packet of the other family"
+        );
+        assert_eq!(withdraw(Ipv6, &mut table, &rule), Ok(()));
+        assert_eq!(table, [0; 50]);
+        assert_eq!(withdraw(Ipv6, &mut table, &rule), refused(14));
+    }
+
+    #[test]
+    fn a_record_whose_destination_has_an_offset_is_sound_and_matches() {
+        let fields = format!("00000007 {}", "00".repeat(26));
+        let mut table = record("012820 00", &fields);
+        table.extend([0; 40]);
+        assert_eq!(lookup(Ipv4, &table, &packet()), Err(Refusal::new(10)));
+        let matched = lookup(Ipv6, &table, &ipv6_packet());
+        assert!(matches!(matched, Ok(Verdict::Matched { count: 1, .. })));
+        let rule = rule("012820 00");
+        let routes = covering_all(Ipv6, 7);
+        let answer = announce(Ipv6, &mut table, &routes, true, &rule, 7, &[]);
+        assert_eq!(answer, refused(8));
+        assert!(is_zero(&table));
     }
 }
