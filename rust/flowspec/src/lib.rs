@@ -1,12 +1,18 @@
-//! IPv4 flow rules (RFC 8955) over a library whose calls are proved: what each answers and what it
-//! leaves in each lent buffer, for all inputs, malformed ones included.
+//! Flow rules of IPv4 (RFC 8955) and IPv6 (RFC 8956) over a library whose calls are proved: what
+//! each answers and what it leaves in each lent buffer, for all inputs, malformed ones included.
 //!
-//! Reading one rule ([`read`]), writing one ([`write()`]), ordering two ([`compare`]), feasibility
-//! ([`feasible`]), filtering actions ([`actions()`]), and a [`Table`] to announce to, withdraw from
-//! and look packets up in, by single rules or by whole attributes ([`Table::reach`],
-//! [`Table::unreach`]). Nothing here allocates but [`Table::new`]; a table is octets that the
-//! caller owns or lends. A refusal is an [`Error`] with a number and, for malformed values, a
-//! place.
+//! Reading one rule ([`Family::read`]), writing one ([`Family::write`]), ordering two
+//! ([`Family::compare`]), feasibility ([`Family::feasible`]), filtering actions ([`actions()`]), and
+//! a [`Table`] to announce to, withdraw from and look packets up in, by single rules or by whole
+//! attributes ([`Table::reach`], [`Table::unreach`]). Nothing here allocates but [`Table::new`] and
+//! [`Routes`]; a table is octets that the caller owns or lends. A refusal is an [`Error`] with a
+//! number and, for malformed values, a place.
+//!
+//! The family is a type, [`Ipv4`] or [`Ipv6`]: `Ipv6::read(&octets)` reads a rule of IPv6, and
+//! `Table::of(Ipv6, octets)` is a table for such rules. Where none is named ([`read`], [`write()`],
+//! [`compare`], [`feasible`], [`Table::new`], [`Table::over`]) it is IPv4. Rules and routes are lent
+//! as octets and words, or as a [`Rule`] and [`Routes`], which a call of another family does not
+//! take.
 //!
 //! ```
 //! use flowspec::{Table, Verdict};
@@ -43,12 +49,16 @@
 
 mod actions;
 mod error;
+mod family;
 #[allow(unsafe_code)]
 pub mod ffi;
+mod route;
 mod rule;
 mod table;
 
 pub use actions::{actions, Actions};
 pub use error::Error;
-pub use rule::{compare, feasible, read, write, Precedence};
+pub use family::{Family, Ipv4, Ipv6, Lent};
+pub use route::{Route, Routes};
+pub use rule::{compare, feasible, read, write, Precedence, Prefix, Rule};
 pub use table::{listed, Record, Records, Table, Verdict};

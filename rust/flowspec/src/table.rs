@@ -2,17 +2,44 @@
 
 use crate::actions::Actions;
 use crate::error::{done, Error};
-use crate::ffi;
+use crate::family::{Family, Ipv4, Lent};
 
 /// The refusal of an unsound table.
 const TABLE_UNSOUND: u32 = 10;
 
-/// A table over octets of its own (`Vec<u8>`) or lent (`&mut [u8]`; `&[u8]` to look up alone).
+/// A table for the rules of one family, over octets of its own (`Vec<u8>`) or lent (`&mut [u8]`;
+/// `&[u8]` to look up alone).
 ///
 /// It may be made over any octets: a call answers 10 if no list of accepted rules could be these.
+///
+/// ```
+/// use flowspec::{Ipv6, Route, Routes, Rule, Table, Verdict};
+///
+/// let routes: Routes<Ipv6> = Routes::from_iter([Route {
+///     address: "2001:db8::".parse()?,
+///     length: 32,
+///     originator: 7,
+///     neighbour: 64500,
+/// }]);
+/// // To 2001:db8::/32, protocol 58, ICMPv6 type 128.
+/// let rule = [13, 0x01, 32, 0, 0x20, 0x01, 0x0d, 0xb8, 0x03, 0x81, 58, 0x07, 0x81, 128];
+/// let rule = Rule::<Ipv6>::read(&rule)?;
+///
+/// let mut table = Table::of(Ipv6, vec![0; Table::LONGEST]);
+/// table.announce(&routes, false, &rule, 7, &[])?;
+///
+/// // An echo request to 2001:db8::1, behind a hop-by-hop options header of eight octets.
+/// let mut packet = [0; 56];
+/// (packet[0], packet[5], packet[6]) = (0x60, 16, 0);
+/// packet[24..28].copy_from_slice(&[0x20, 0x01, 0x0d, 0xb8]);
+/// (packet[39], packet[40], packet[48]) = (1, 58, 128);
+/// assert!(matches!(table.lookup(&packet)?, Verdict::Matched { count: 1, .. }));
+/// # Ok::<(), Box<dyn std::error::Error>>(())
+/// ```
 #[derive(Clone, Debug, PartialEq, Eq)]
-pub struct Table<B> {
+pub struct Table<B, F = Ipv4> {
     octets: B,
+    family: F,
 }
 
 /// What a packet meets in a table.
@@ -44,16 +71,24 @@ impl Table<Vec<u8>> {
     /// The most octets that a table may have.
     pub const LONGEST: usize = 65_536;
 
-    /// An empty table of this many octets; a rule costs [`Record::HEAD`] plus its value's length.
+    /// An empty table of this many octets for IPv4; a rule costs [`Record::HEAD`] plus its value's
+    /// length.
     pub fn new(length: usize) -> Self {
         Table::over(vec![0; length])
     }
 }
 
 impl<B: AsRef<[u8]>> Table<B> {
-    /// A table over the given octets; octets that are all zero are an empty table.
+    /// A table over the given octets for IPv4.
     pub fn over(octets: B) -> Self {
-        Table { octets }
+        Table::of(Ipv4, octets)
+    }
+}
+
+impl<B: AsRef<[u8]>, F: Family> Table<B, F> {
+    /// A table of a family over the given octets; octets that are all zero are an empty table.
+    pub fn of(family: F, octets: B) -> Self {
+        Table { octets, family }
     }
 
     /// The table's octets.
@@ -66,12 +101,13 @@ impl<B: AsRef<[u8]>> Table<B> {
         self.octets
     }
 
-    /// Looks a packet up, lent from its IPv4 header on; refused with 10 or 12. Ports, ICMP type and
-    /// code, and TCP flags are looked for behind the IPv4 header, options included, up to the
-    /// smaller of the lent and the total length, and not in a later fragment.
+    /// Looks a packet up, lent from its IP header on; refused with 10 or 12. Ports, ICMP type and
+    /// code, and TCP flags are looked for behind the IPv4 header, options included, or behind the
+    /// extension headers 0, 43, 60 and the first 44 of IPv6, up to the smaller of the lent and the
+    /// packet's length, and not in a later fragment.
     pub fn lookup(&self, packet: &[u8]) -> Result<Verdict, Error> {
         let mut out = [0; 6];
-        done(ffi::lookup(self.octets(), packet, &mut out))?;
+        done((F::CALLS.lookup)(self.octets(), packet, &mut out))?;
         let [count, words @ ..] = out;
         Ok(match count {
             0 => Verdict::Unmatched,
@@ -86,7 +122,7 @@ impl<B: AsRef<[u8]>> Table<B> {
     /// refused with 10 or 12.
     pub fn first_match(&self, packet: &[u8]) -> Result<Option<Record<'_>>, Error> {
         let mut out = [0; 2];
-        done(ffi::first_match(self.octets(), packet, &mut out))?;
+        done((F::CALLS.first_match)(self.octets(), packet, &mut out))?;
         let [start, length] = out.map(|word| word as usize);
         Ok(Record::split(&self.octets()[start..start + length]).map(|(record, _)| record))
     }
@@ -103,36 +139,35 @@ impl<B: AsRef<[u8]>> Table<B> {
     }
 }
 
-impl<B: AsRef<[u8]> + AsMut<[u8]>> Table<B> {
+impl<B: AsRef<[u8]> + AsMut<[u8]>, F: Family> Table<B, F> {
     /// Announces a rule with its actions; refused with 10, 9, 1 to 7, 15, 13, 8 or 11.
     ///
-    /// A refusal changes nothing, except that 8 removes a held equal rule. Routes are four words
-    /// each: address, length, originator, neighbour AS.
+    /// A refusal changes nothing, except that 8 removes a held equal rule.
     pub fn announce(
         &mut self,
-        routes: &[u32],
+        routes: &(impl Lent<F, u32> + ?Sized),
         allow_no_destination: bool,
-        rule: &[u8],
+        rule: &(impl Lent<F, u8> + ?Sized),
         originator: u32,
         communities: &[u8],
     ) -> Result<(), Error> {
-        done(ffi::announce(
+        done((F::CALLS.announce)(
             self.octets.as_mut(),
-            routes,
+            routes.lent(),
             u32::from(allow_no_destination),
-            rule,
+            rule.lent(),
             originator,
             communities,
         ))
     }
 
     /// Withdraws a rule; refused with 10, 1 to 7, 15 or 14.
-    pub fn withdraw(&mut self, rule: &[u8]) -> Result<(), Error> {
-        done(ffi::withdraw(self.octets.as_mut(), rule))
+    pub fn withdraw(&mut self, rule: &(impl Lent<F, u8> + ?Sized)) -> Result<(), Error> {
+        done((F::CALLS.withdraw)(self.octets.as_mut(), rule.lent()))
     }
 
-    /// Announces each rule of an MP_REACH_NLRI value (AFI 1, SAFI 133) in order, with the same
-    /// actions, and gives their count; refused with 10, 9, 19, 1 to 7, 13 or 16.
+    /// Announces each rule of an MP_REACH_NLRI value (the family's AFI, SAFI 133) in order, with
+    /// the same actions, and gives their count; refused with 10, 9, 19, 1 to 7, 13 or 16.
     ///
     /// The front of `answers` then lists a number for each rule, 0, 8 or 11, as [`Table::announce`]
     /// would answer; [`listed`] types them. A refused attribute changes nothing: every held rule
@@ -156,7 +191,7 @@ impl<B: AsRef<[u8]> + AsMut<[u8]>> Table<B> {
     /// ```
     pub fn reach(
         &mut self,
-        routes: &[u32],
+        routes: &(impl Lent<F, u32> + ?Sized),
         allow_no_destination: bool,
         attribute: &[u8],
         originator: u32,
@@ -164,9 +199,9 @@ impl<B: AsRef<[u8]> + AsMut<[u8]>> Table<B> {
         answers: &mut [u32],
     ) -> Result<usize, Error> {
         let mut out = [0];
-        done(ffi::reach(
+        done((F::CALLS.reach)(
             self.octets.as_mut(),
-            routes,
+            routes.lent(),
             u32::from(allow_no_destination),
             attribute,
             originator,
@@ -177,8 +212,8 @@ impl<B: AsRef<[u8]> + AsMut<[u8]>> Table<B> {
         Ok(out[0] as usize)
     }
 
-    /// Withdraws each rule of an MP_UNREACH_NLRI value (AFI 1, SAFI 133) in order and gives their
-    /// count, which may be 0; refused with 10, 19, 1 to 7 or 16.
+    /// Withdraws each rule of an MP_UNREACH_NLRI value (the family's AFI, SAFI 133) in order and
+    /// gives their count, which may be 0; refused with 10, 19, 1 to 7 or 16.
     ///
     /// The front of `answers` then lists a number for each rule, 0 or 14, as [`Table::withdraw`]
     /// would answer. A refused attribute changes nothing.
@@ -194,7 +229,7 @@ impl<B: AsRef<[u8]> + AsMut<[u8]>> Table<B> {
     pub fn unreach(&mut self, attribute: &[u8], answers: &mut [u32]) -> Result<usize, Error> {
         let mut out = [0];
         let table = self.octets.as_mut();
-        done(ffi::unreach(table, attribute, answers, &mut out))?;
+        done((F::CALLS.unreach)(table, attribute, answers, &mut out))?;
         Ok(out[0] as usize)
     }
 }
