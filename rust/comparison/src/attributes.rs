@@ -8,9 +8,18 @@ use crate::rules::{self, Component};
 use crate::tables::{self, Held};
 use crate::world;
 use flowspec::{Record, Table};
+use reference::Family;
 
-/// The AFI and the SAFI of IPv4 flow rules.
-const FAMILY: [u8; 3] = [0, 1, 133];
+/// The SAFI of flow rules.
+const SAFI: u8 = 133;
+
+/// The second octet of a family's AFI; the first is 0.
+fn afi(family: Family) -> u8 {
+    match family {
+        Family::Ipv4 => 1,
+        Family::Ipv6 => 2,
+    }
+}
 
 /// Which attribute it is.
 #[derive(Clone, Copy, PartialEq, Eq)]
@@ -26,8 +35,8 @@ impl Kind {
     }
 
     /// A head of this kind, a reach's with any reserved octet.
-    pub fn head(self, random: &mut Random) -> Vec<u8> {
-        let mut head = FAMILY.to_vec();
+    pub fn head(self, random: &mut Random, family: Family) -> Vec<u8> {
+        let mut head = vec![0, afi(family), SAFI];
         if self == Kind::Reach {
             let reserved = random.octet();
             head.extend([0, random.pick(&[0, reserved])]);
@@ -78,7 +87,7 @@ fn near(random: &mut Random, held: &Held, before: &[Vec<Component>]) -> Vec<Comp
         _ => &[],
     };
     match pool.is_empty() {
-        true => rules::components(random),
+        true => rules::components(random, held.family),
         false => pool[random.below(pool.len())].clone(),
     }
 }
@@ -90,7 +99,7 @@ fn some_rules(random: &mut Random, held: &Held, count: usize) -> Vec<Vec<u8>> {
         let components = match random.one_in(400) {
             true => {
                 let length = random.pick(&[239, 240, 256, 4_095]);
-                rules::components_of_length(random, length)
+                rules::components_of_length(random, held.family, length)
             }
             false => near(random, held, &found),
         };
@@ -98,7 +107,7 @@ fn some_rules(random: &mut Random, held: &Held, count: usize) -> Vec<Vec<u8>> {
     }
     let spell = |mut components: Vec<Component>| {
         if random.one_in(2) {
-            rules::respell(random, &mut components);
+            rules::respell(random, held.family, &mut components);
         }
         rules::rule_of(&rules::value_of(&components), random.one_in(6))
     };
@@ -116,11 +125,11 @@ fn make_room(random: &mut Random, octets: &mut Vec<u8>, rules: &[Vec<u8>]) {
 }
 
 /// Routes under which all rules with a destination are feasible, some of them, or few.
-fn some_routes(random: &mut Random, originator: u32) -> Vec<u32> {
+fn some_routes(random: &mut Random, family: Family, originator: u32) -> Vec<u32> {
     match random.below(8) {
-        0..=3 => routes::covering_all(originator).to_vec(),
-        4..=6 => routes::words_under(random, originator),
-        _ => routes::sound_words(random),
+        0..=3 => routes::covering_all(family, originator),
+        4..=6 => routes::words_under(random, family, originator),
+        _ => routes::sound_words(random, family),
     }
 }
 
@@ -136,17 +145,18 @@ pub fn lent(random: &mut Random, kind: Kind, mut held: Held) -> Lent {
         make_room(random, &mut held.octets, &rules);
     }
     let words = rules.len() + random.pick(&[0, 0, 0, 1, 2, 7]);
-    let mut pieces = vec![kind.head(random)];
+    let mut pieces = vec![kind.head(random, held.family)];
     pieces.extend(rules);
     let originator = world::usual_originator(random);
+    let basis = Basis {
+        routes: some_routes(random, held.family, originator),
+        allow_no_destination: world::setting(random),
+        originator,
+    };
     Lent {
         kind,
         held,
-        basis: Basis {
-            routes: some_routes(random, originator),
-            allow_no_destination: world::setting(random),
-            originator,
-        },
+        basis,
         pieces,
         communities: communities::communities(random),
         answers: (0..words).map(|_| random.word() as u32).collect(),
@@ -191,7 +201,7 @@ impl Lent {
                 3 => self.cut(random),
                 4 => self.change_octet(random),
                 5 => random.cut(&mut self.answers),
-                6 => self.basis.routes = routes::damaged_words(random),
+                6 => self.basis.routes = routes::damaged_words(random, self.held.family),
                 _ => communities::damage(random, &mut self.communities),
             }
         }
@@ -203,7 +213,7 @@ impl Lent {
         let head = &mut self.pieces[0];
         match (random.below(5), self.kind) {
             (0, _) => head[0] = random.pick(&[1, 0x85, any]),
-            (1, _) => head[1] = random.pick(&[0, 2, 25, any]),
+            (1, _) => head[1] = random.pick(&[0, 1, 2, 25, any]),
             (2, _) => head[2] = random.pick(&[1, 4, 132, 134, any]),
             (3, Kind::Reach) => {
                 head[3] = random.pick(&[1, 4, 16, 32, any]);
@@ -220,7 +230,8 @@ impl Lent {
     fn damage_rules(&mut self, random: &mut Random) {
         for _ in 0..random.pick(&[1, 1, 2]) {
             let at = 1 + random.below(self.pieces.len());
-            self.pieces.insert(at, rules::damaged_rule(random));
+            self.pieces
+                .insert(at, rules::damaged_rule(random, self.held.family));
         }
     }
 
@@ -256,10 +267,10 @@ fn with_attribute(call: &Call, change: impl FnOnce(&mut Vec<u8>)) -> Call {
 
 /// The call of the attribute of this number, with it whole, cut at each length, and changed at each
 /// octet.
-pub fn everywhere(seed: u64, number: u64) -> Vec<Call> {
+pub fn everywhere(family: Family, seed: u64, number: u64) -> Vec<Call> {
     let random = &mut Random::new(seed.swap_bytes(), number);
     let kind = Kind::any(random);
-    let held = tables::small(random);
+    let held = tables::small(random, family);
     let lent = lent(random, kind, held);
     let length: usize = lent.pieces.iter().map(Vec::len).sum();
     let whole = lent.call();

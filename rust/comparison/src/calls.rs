@@ -1,6 +1,7 @@
 //! A call with all that it is lent, and the form in which answers to it are compared.
 
 use crate::sides::{Side, Words};
+use reference::Family;
 
 /// One call and what is lent to it.
 #[derive(Clone, PartialEq, Eq)]
@@ -65,8 +66,9 @@ pub struct Basis {
 
 impl Basis {
     /// What a side answers on the feasibility of a rule.
-    fn feasible<S: Side>(&self, rule: &[u8]) -> Words<0> {
+    fn feasible<S: Side>(&self, family: Family, rule: &[u8]) -> Words<0> {
         S::feasible(
+            family,
             &self.routes,
             self.allow_no_destination,
             rule,
@@ -75,8 +77,15 @@ impl Basis {
     }
 
     /// What a side answers to the announcement of a rule.
-    fn announce<S: Side>(&self, table: &mut [u8], rule: &[u8], communities: &[u8]) -> Words<0> {
+    fn announce<S: Side>(
+        &self,
+        family: Family,
+        table: &mut [u8],
+        rule: &[u8],
+        communities: &[u8],
+    ) -> Words<0> {
         S::announce(
+            family,
             table,
             &self.routes,
             self.allow_no_destination,
@@ -89,12 +98,14 @@ impl Basis {
     /// What a side answers to an attribute whose rules are to be announced.
     fn reach<S: Side>(
         &self,
+        family: Family,
         table: &mut [u8],
         attribute: &[u8],
         communities: &[u8],
         answers: &mut [u32],
     ) -> Words<1> {
         S::reach(
+            family,
             table,
             &self.routes,
             self.allow_no_destination,
@@ -142,21 +153,25 @@ impl Call {
         }
     }
 
-    /// What a side answers to the call.
-    pub fn answer_of<S: Side>(&self) -> Answer {
+    /// What a side answers to the call, which is about this family.
+    pub fn answer_of<S: Side>(&self, family: Family) -> Answer {
         match self {
-            Call::Read { rule } => answer(S::read(rule)),
-            Call::Write { value, buffer } => changed(buffer, |buffer| S::write(value, buffer)),
-            Call::Compare { first, second } => answer(S::compare(first, second)),
-            Call::Feasible { basis, rule } => answer(basis.feasible::<S>(rule)),
+            Call::Read { rule } => answer(S::read(family, rule)),
+            Call::Write { value, buffer } => changed(buffer, |lent| S::write(family, value, lent)),
+            Call::Compare { first, second } => answer(S::compare(family, first, second)),
+            Call::Feasible { basis, rule } => answer(basis.feasible::<S>(family, rule)),
             Call::Actions { communities } => answer(S::actions(communities)),
             Call::Announce {
                 table,
                 basis,
                 rule,
                 communities,
-            } => changed(table, |table| basis.announce::<S>(table, rule, communities)),
-            Call::Withdraw { table, rule } => changed(table, |table| S::withdraw(table, rule)),
+            } => changed(table, |table| {
+                basis.announce::<S>(family, table, rule, communities)
+            }),
+            Call::Withdraw { table, rule } => {
+                changed(table, |table| S::withdraw(family, table, rule))
+            }
             Call::Reach {
                 table,
                 basis,
@@ -164,17 +179,17 @@ impl Call {
                 communities,
                 answers,
             } => listed(table, answers, |table, answers| {
-                basis.reach::<S>(table, attribute, communities, answers)
+                basis.reach::<S>(family, table, attribute, communities, answers)
             }),
             Call::Unreach {
                 table,
                 attribute,
                 answers,
             } => listed(table, answers, |table, answers| {
-                S::unreach(table, attribute, answers)
+                S::unreach(family, table, attribute, answers)
             }),
-            Call::Lookup { table, packet } => answer(S::lookup(table, packet)),
-            Call::FirstMatch { table, packet } => answer(S::first_match(table, packet)),
+            Call::Lookup { table, packet } => answer(S::lookup(family, table, packet)),
+            Call::FirstMatch { table, packet } => answer(S::first_match(family, table, packet)),
         }
     }
 }

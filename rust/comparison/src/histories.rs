@@ -6,9 +6,10 @@ use crate::cases::aimed_packet;
 use crate::random::Random;
 use crate::report::Distribution;
 use crate::rules::{self, Component};
-use crate::sides::action_words;
+use crate::sides;
 use crate::steps::{self, Setting, Step, UNLISTED};
 use flowspec::Table;
+use reference::Family;
 use std::collections::BTreeMap;
 
 /// How many calls a history has.
@@ -28,7 +29,7 @@ fn take(
     seen: &mut Distribution,
 ) -> Result<Answer, String> {
     let call = step.on(setting, table);
-    let answer = agreed(&call, true)?;
+    let answer = agreed(setting.family, &call, true)?;
     seen.count(&call, &answer);
     Ok(answer)
 }
@@ -52,7 +53,7 @@ fn take_singles(
     for single in singles {
         let answer = take(setting, table, &single, seen)?;
         numbers.push(answer.number);
-        if let Some(rule) = single.counted(&answer) {
+        if let Some(rule) = single.counted(setting.family, &answer) {
             last.insert(rule, single);
         }
         table = answer.octets;
@@ -85,38 +86,34 @@ fn run(
             Step::Reach { .. } | Step::Unreach { .. } => {
                 last.extend(take_singles(setting, &table, step, &answer, seen)?);
             }
-            _ => last.extend(step.counted(&answer).map(|rule| (rule, step.clone()))),
+            _ => {
+                let counted = step.counted(setting.family, &answer);
+                last.extend(counted.map(|rule| (rule, step.clone())));
+            }
         }
         table = answer.octets;
     }
     Ok((last, table))
 }
 
-/// The octets of the records that the wrapper's iterator gives, written from its types.
-fn listed(table: &[u8]) -> Result<Vec<u8>, String> {
-    let table = Table::over(table);
-    let mut octets = Vec::new();
-    for record in table.records().map_err(|refused| refused.to_string())? {
-        let [flags, dscp, numbers @ ..] = action_words(record.actions);
-        octets.extend((record.value.len() as u16).to_be_bytes());
-        octets.extend(record.originator.to_be_bytes());
-        octets.extend([flags as u8, dscp as u8]);
-        octets.extend(numbers.map(u64::to_be_bytes).concat());
-        octets.extend(record.value);
-    }
-    octets.resize(table.octets().len().max(octets.len()), 0);
+/// The octets of the records that the wrapper lists, and zeros behind them as in the table.
+fn listed(family: Family, table: &[u8]) -> Result<Vec<u8>, String> {
+    let listed = sides::wrapper_listed(family, table);
+    let mut octets = listed.map_err(|refused| refused.to_string())?;
+    octets.resize(table.len().max(octets.len()), 0);
     Ok(octets)
 }
 
 /// Looks packets up in the table, most aimed at a rule of the pool.
 fn look_up(
     random: &mut Random,
+    family: Family,
     pool: &[Vec<Component>],
     table: &[u8],
     seen: &mut Distribution,
 ) -> Result<(), String> {
     for _ in 0..PACKETS {
-        let packet = aimed_packet(random, pool);
+        let packet = aimed_packet(random, family, pool);
         let table = table.to_vec();
         let calls = [
             Call::Lookup {
@@ -126,7 +123,7 @@ fn look_up(
             Call::FirstMatch { table, packet },
         ];
         for call in calls {
-            seen.count(&call, &agreed(&call, true)?);
+            seen.count(&call, &agreed(family, &call, true)?);
         }
     }
     Ok(())
@@ -139,17 +136,22 @@ fn look_up(
 /// table; the last counted calls of each rule alone, in any order, make the same table, and so does
 /// any history that ends in them.
 pub fn history(seed: u64, number: u64, seen: &mut Distribution) -> Result<(), String> {
+    let family = seen.family();
     let random = &mut Random::new(!seed, number);
     let rules = random.pick(&[3, 10, 40, 100]);
-    let pool: Vec<_> = (0..rules).map(|_| rules::components(random)).collect();
-    let setting = Setting::new(random);
+    let pool: Vec<_> = (0..rules)
+        .map(|_| rules::components(random, family))
+        .collect();
+    let setting = Setting::new(random, family);
     let length = random.pick(&[150, 700, 2_000, 8_192, Table::LONGEST]);
-    let mut steps: Vec<_> = (0..CALLS).map(|_| steps::step(random, &pool)).collect();
+    let mut steps: Vec<_> = (0..CALLS)
+        .map(|_| steps::step(random, family, &pool))
+        .collect();
     let (last, table) = run(&setting, length, &steps, seen)?;
-    if listed(&table)? != table {
+    if listed(family, &table)? != table {
         return Err(String::from("the records listed are not the table"));
     }
-    look_up(random, &pool, &table, seen)?;
+    look_up(random, family, &pool, &table, seen)?;
 
     let mut ending: Vec<_> = last.values().cloned().collect();
     random.shuffle(&mut ending);

@@ -2,6 +2,7 @@
 
 use crate::sides::{Side, Words};
 use flowspec::{ffi, Error};
+use reference::Family;
 
 /// What each word of `out` and behind it is before a call.
 const UNTOUCHED: u64 = 0xa5a5_a5a5_a5a5_a5a5;
@@ -28,23 +29,39 @@ fn watched<const N: usize>(call: impl FnOnce(&mut [u64; N]) -> u64) -> Words<N> 
     }
 }
 
+/// Calls the function of this name that a family has.
+macro_rules! function {
+    ($family:expr, $name:ident($($argument:expr),*)) => {
+        match $family {
+            Family::Ipv4 => ffi::ipv4::$name($($argument),*),
+            Family::Ipv6 => ffi::ipv6::$name($($argument),*),
+        }
+    };
+}
+
 impl Side for Library {
     const NAME: &'static str = "library";
 
-    fn read(rule: &[u8]) -> Words<2> {
-        watched(|out| ffi::read(rule, out))
+    fn read(family: Family, rule: &[u8]) -> Words<2> {
+        watched(|out| function!(family, read(rule, out)))
     }
 
-    fn write(value: &[u8], buffer: &mut [u8]) -> Words<1> {
-        watched(|out| ffi::write(value, buffer, out))
+    fn write(family: Family, value: &[u8], buffer: &mut [u8]) -> Words<1> {
+        watched(|out| function!(family, write(value, buffer, out)))
     }
 
-    fn compare(first: &[u8], second: &[u8]) -> Words<1> {
-        watched(|out| ffi::compare(first, second, out))
+    fn compare(family: Family, first: &[u8], second: &[u8]) -> Words<1> {
+        watched(|out| function!(family, compare(first, second, out)))
     }
 
-    fn feasible(routes: &[u32], allow: u32, rule: &[u8], originator: u32) -> Words<0> {
-        watched(|_| ffi::feasible(routes, allow, rule, originator))
+    fn feasible(
+        family: Family,
+        routes: &[u32],
+        allow: u32,
+        rule: &[u8],
+        originator: u32,
+    ) -> Words<0> {
+        watched(|_| function!(family, feasible(routes, allow, rule, originator)))
     }
 
     fn actions(communities: &[u8]) -> Words<5> {
@@ -52,6 +69,7 @@ impl Side for Library {
     }
 
     fn announce(
+        family: Family,
         table: &mut [u8],
         routes: &[u32],
         allow: u32,
@@ -59,14 +77,20 @@ impl Side for Library {
         originator: u32,
         communities: &[u8],
     ) -> Words<0> {
-        watched(|_| ffi::announce(table, routes, allow, rule, originator, communities))
+        watched(|_| {
+            function!(
+                family,
+                announce(table, routes, allow, rule, originator, communities)
+            )
+        })
     }
 
-    fn withdraw(table: &mut [u8], rule: &[u8]) -> Words<0> {
-        watched(|_| ffi::withdraw(table, rule))
+    fn withdraw(family: Family, table: &mut [u8], rule: &[u8]) -> Words<0> {
+        watched(|_| function!(family, withdraw(table, rule)))
     }
 
     fn reach(
+        family: Family,
         table: &mut [u8],
         routes: &[u32],
         allow: u32,
@@ -76,28 +100,36 @@ impl Side for Library {
         answers: &mut [u32],
     ) -> Words<1> {
         watched(|out| {
-            ffi::reach(
-                table,
-                routes,
-                allow,
-                attribute,
-                originator,
-                communities,
-                answers,
-                out,
+            function!(
+                family,
+                reach(
+                    table,
+                    routes,
+                    allow,
+                    attribute,
+                    originator,
+                    communities,
+                    answers,
+                    out
+                )
             )
         })
     }
 
-    fn unreach(table: &mut [u8], attribute: &[u8], answers: &mut [u32]) -> Words<1> {
-        watched(|out| ffi::unreach(table, attribute, answers, out))
+    fn unreach(
+        family: Family,
+        table: &mut [u8],
+        attribute: &[u8],
+        answers: &mut [u32],
+    ) -> Words<1> {
+        watched(|out| function!(family, unreach(table, attribute, answers, out)))
     }
 
-    fn lookup(table: &[u8], packet: &[u8]) -> Words<6> {
-        watched(|out| ffi::lookup(table, packet, out))
+    fn lookup(family: Family, table: &[u8], packet: &[u8]) -> Words<6> {
+        watched(|out| function!(family, lookup(table, packet, out)))
     }
 
-    fn first_match(table: &[u8], packet: &[u8]) -> Words<2> {
-        watched(|out| ffi::first_match(table, packet, out))
+    fn first_match(family: Family, table: &[u8], packet: &[u8]) -> Words<2> {
+        watched(|out| function!(family, first_match(table, packet, out)))
     }
 }

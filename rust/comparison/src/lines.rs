@@ -6,6 +6,10 @@ use crate::report::hex;
 use crate::routes;
 use crate::rules::{self, Component};
 use crate::world;
+use reference::Family;
+
+/// The family of the program's rules.
+const FAMILY: Family = Family::Ipv4;
 
 /// The longest line that is looked at.
 const LONGEST: usize = 16_384;
@@ -38,12 +42,12 @@ fn many_routes(random: &mut Random) -> Vec<Vec<u8>> {
 
 /// Announcements of long rules, of which the last find no room.
 fn long_rules(random: &mut Random) -> Vec<Vec<u8>> {
-    let mut lines = route_lines(&routes::covering_all(1));
+    let mut lines = route_lines(&routes::covering_all(FAMILY, 1));
     for last in 0..20 {
         let mut value = vec![0x01, 0x08, last];
         let length = 4_000 + random.below(93);
         value.extend(rules::value_of(&rules::components_of_length(
-            random, length,
+            random, FAMILY, length,
         )));
         let rule = hex(&rules::rule_of(&value, false));
         lines.push(format!("announce\t{rule}\t1\t").into_bytes());
@@ -53,9 +57,9 @@ fn long_rules(random: &mut Random) -> Vec<Vec<u8>> {
 
 /// A rule as text: one of the pool in some spelling, or any.
 fn rule_text(random: &mut Random, pool: &[Vec<Component>]) -> String {
-    let value = rules::respelled(random, pool);
+    let value = rules::respelled(random, FAMILY, pool);
     match random.one_in(5) {
-        true => hex(&rules::rule(random)),
+        true => hex(&rules::rule(random, FAMILY)),
         false => hex(&rules::rule_of(&value, false)),
     }
 }
@@ -147,12 +151,12 @@ fn damage(random: &mut Random, line: &mut Vec<u8>) {
 /// The whole input of this number: routes first, then lines of every kind; the last LF may lack.
 pub fn input(seed: u64, number: u64) -> Vec<u8> {
     let random = &mut Random::new(seed, number);
-    let pool: Vec<_> = (0..6).map(|_| rules::components(random)).collect();
+    let pool: Vec<_> = (0..6).map(|_| rules::components(random, FAMILY)).collect();
     let mut lines = match number % 50 {
         7 => many_routes(random),
         23 => long_rules(random),
-        number if number % 2 == 0 => route_lines(&routes::covering_all(1)),
-        _ => route_lines(&routes::sound_words(random)),
+        number if number % 2 == 0 => route_lines(&routes::covering_all(FAMILY, 1)),
+        _ => route_lines(&routes::sound_words(random, FAMILY)),
     };
     for _ in 0..random.below(60) {
         let mut line = match random.one_in(40) {

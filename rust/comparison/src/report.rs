@@ -3,6 +3,7 @@
 use crate::calls::{Answer, Basis, Call};
 use crate::sides::Reference;
 use crate::tables;
+use reference::Family;
 use std::collections::BTreeMap;
 use std::fmt::{self, Write};
 
@@ -179,6 +180,7 @@ const EXPECTED: [Expected; 11] = [
             "0 one",
             "0 several",
             "0 behind options",
+            "0 behind headers",
             "10",
             "12",
         ],
@@ -186,7 +188,14 @@ const EXPECTED: [Expected; 11] = [
     expected(
         "first_match",
         false,
-        &["0 none", "0 record", "0 behind options", "10", "12"],
+        &[
+            "0 none",
+            "0 record",
+            "0 behind options",
+            "0 behind headers",
+            "10",
+            "12",
+        ],
     ),
 ];
 
@@ -203,15 +212,34 @@ const fn expected(
     }
 }
 
-/// All that a call can answer, each with the call's name.
-fn kinds(expected: &Expected) -> Vec<(&'static str, &'static str)> {
+/// The kind of answers that only the other family's packets give.
+fn other_kind(family: Family) -> &'static str {
+    behind_kind(match family {
+        Family::Ipv4 => Family::Ipv6,
+        Family::Ipv6 => Family::Ipv4,
+    })
+}
+
+/// The name under which a lookup is counted that was met behind more than the fixed header.
+pub fn behind_kind(family: Family) -> &'static str {
+    match family {
+        Family::Ipv4 => "0 behind options",
+        Family::Ipv6 => "0 behind headers",
+    }
+}
+
+/// All that a call of a family can answer, each with the call's name.
+fn kinds(family: Family, expected: &Expected) -> Vec<(&'static str, &'static str)> {
     let reading = if expected.reads_rule {
         &READING[..]
     } else {
         &[]
     };
     let kinds = expected.kinds.iter().chain(reading);
-    kinds.map(|kind| (expected.call, *kind)).collect()
+    kinds
+        .filter(|kind| **kind != other_kind(family))
+        .map(|kind| (expected.call, *kind))
+        .collect()
 }
 
 /// The name under which an answer is counted: its number and, where it says little, what it meant.
@@ -268,36 +296,63 @@ fn kind_of_listed(number: u32) -> &'static str {
     }
 }
 
-/// Whether a lookup met a rule by transport octets behind options: the reference answers otherwise
-/// if the lent octets end at the header's end.
-fn met_behind_options(call: &Call, answer: &Answer) -> bool {
+/// Where a usable packet's options or its fixed header end, if options or extension headers stand
+/// there.
+fn bare_length(family: Family, packet: &[u8]) -> Option<usize> {
+    match family {
+        Family::Ipv4 if packet[0] == 0x45 => None,
+        Family::Ipv4 => Some(4 * usize::from(packet[0] & 0x0f)),
+        Family::Ipv6 => [0, 43, 44, 60].contains(&packet[6]).then_some(40),
+    }
+}
+
+/// Whether a lookup met a rule by what stands behind options or in and behind extension headers: it
+/// met one, and the reference answers otherwise if the lent octets end before it.
+fn met_behind(family: Family, call: &Call, answer: &Answer) -> bool {
     let (Call::Lookup { packet, .. } | Call::FirstMatch { packet, .. }) = call else {
         return false;
     };
-    if answer.number != 0 || packet[0] == 0x45 {
+    if answer.number != 0 || answer.out.iter().all(|word| *word == 0) {
         return false;
     }
+    let Some(length) = bare_length(family, packet) else {
+        return false;
+    };
     let mut bare = call.clone();
     if let Call::Lookup { packet, .. } | Call::FirstMatch { packet, .. } = &mut bare {
-        packet.truncate(4 * usize::from(packet[0] & 0x0f));
+        packet.truncate(length);
     }
-    bare.answer_of::<Reference>() != *answer
+    bare.answer_of::<Reference>(family) != *answer
 }
 
-/// How often each call gave each answer, how often an attribute's listed each number, and how often
-/// a lookup met a rule behind options.
-#[derive(Default)]
+/// How often each call of a family gave each answer, how often an attribute's listed each number, and
+/// how often a lookup met a rule behind options or extension headers.
 pub struct Distribution {
+    family: Family,
     counts: BTreeMap<(&'static str, &'static str), u64>,
     calls: u64,
 }
 
 impl Distribution {
+    /// No answers yet of this family.
+    pub fn new(family: Family) -> Distribution {
+        Distribution {
+            family,
+            counts: BTreeMap::new(),
+            calls: 0,
+        }
+    }
+
+    /// The family whose answers are counted.
+    pub fn family(&self) -> Family {
+        self.family
+    }
+
     /// Counts an answer.
     pub fn count(&mut self, call: &Call, answer: &Answer) {
         self.calls += 1;
         let listed = answer.listed().iter().copied().map(kind_of_listed);
-        let behind = met_behind_options(call, answer).then_some("0 behind options");
+        let behind = met_behind(self.family, call, answer).then_some(behind_kind(self.family));
         for kind in listed.chain(behind).chain([kind_of(call, answer)]) {
             *self.counts.entry((call.name(), kind)).or_default() += 1;
         }
@@ -317,7 +372,10 @@ impl Distribution {
     /// answers that were met and that the call cannot give.
     pub fn faults(&self) -> Vec<String> {
         let mut faults = Vec::new();
-        let expected: Vec<_> = EXPECTED.iter().flat_map(kinds).collect();
+        let expected: Vec<_> = EXPECTED
+            .iter()
+            .flat_map(|expected| kinds(self.family, expected))
+            .collect();
         for (call, kind) in &expected {
             if self.times(call, kind) == 0 {
                 faults.push(format!("{call} never answered {kind}"));
@@ -336,7 +394,10 @@ impl fmt::Display for Distribution {
     fn fmt(&self, f: &mut fmt::Formatter<'_>) -> fmt::Result {
         for expected in &EXPECTED {
             let met = |key| Some((key, *self.counts.get(&key)?));
-            let counts: Vec<_> = kinds(expected).into_iter().filter_map(met).collect();
+            let counts: Vec<_> = kinds(self.family, expected)
+                .into_iter()
+                .filter_map(met)
+                .collect();
             if counts.is_empty() {
                 continue;
             }
@@ -346,6 +407,6 @@ impl fmt::Display for Distribution {
             }
             writeln!(f)?;
         }
-        write!(f, "{} calls", self.total())
+        write!(f, "{} calls, {:?}", self.total(), self.family)
     }
 }

@@ -2,6 +2,7 @@
 
 use crate::random::Random;
 use crate::world;
+use reference::Family;
 
 /// A component of a rule: its type and what stands behind the type octet.
 #[derive(Clone)]
@@ -32,19 +33,92 @@ fn largest_size(kind: u8) -> u8 {
     }
 }
 
-/// A length octet and the octets of an address, with no bit set past the length.
-pub fn prefix_body(address: u32, length: u8) -> Vec<u8> {
-    let octets = (address & world::prefix_mask(length)).to_be_bytes();
-    let mut body = vec![length];
-    body.extend_from_slice(&octets[..usize::from(length).div_ceil(8)]);
-    body
+/// The bits of a type's values that are to be ignored, where there are any.
+fn ignored_value_bits(family: Family, kind: u8) -> u8 {
+    match kind {
+        11 => 0xc0,
+        12 => !world::fragment_bits(family),
+        _ => 0,
+    }
 }
 
-/// The address in the body of a prefix.
-pub fn address_of(body: &[u8]) -> u32 {
-    let mut octets = [0; 4];
-    octets[..body.len() - 1].copy_from_slice(&body[1..]);
-    u32::from_be_bytes(octets)
+/// A prefix: the bits of an address from the offset up to the length.
+#[derive(Clone, Copy)]
+pub struct Prefix {
+    pub address: u128,
+    pub offset: u8,
+    pub length: u8,
+}
+
+impl Prefix {
+    /// A prefix of the small world.
+    fn any(random: &mut Random, family: Family, kind: u8) -> Prefix {
+        let length = world::prefix_length(random, family);
+        let offset = match kind == 1 && !random.one_in(4) {
+            true => 0,
+            false => world::prefix_offset(random, family, length),
+        };
+        Prefix {
+            address: world::address(random, family),
+            offset,
+            length,
+        }
+    }
+
+    /// The bits of an address that are asked for.
+    pub fn mask(self) -> u128 {
+        world::prefix_mask(self.length) & !world::prefix_mask(self.offset)
+    }
+
+    /// The body of the prefix, with no bit set behind its pattern.
+    pub fn body(self, family: Family) -> Vec<u8> {
+        let pattern = (self.address & self.mask()) << self.offset;
+        let size = usize::from((self.length - self.offset).div_ceil(8));
+        let mut body = match family {
+            Family::Ipv4 => vec![self.length],
+            Family::Ipv6 => vec![self.length, self.offset],
+        };
+        body.extend_from_slice(&pattern.to_be_bytes()[..size]);
+        body
+    }
+
+    /// The prefix in a body.
+    pub fn of_body(family: Family, body: &[u8]) -> Prefix {
+        let (length, offset, pattern) = match family {
+            Family::Ipv4 => (body[0], 0, &body[1..]),
+            Family::Ipv6 => (body[0], body[1], &body[2..]),
+        };
+        let mut octets = [0; 16];
+        octets[..pattern.len()].copy_from_slice(pattern);
+        Prefix {
+            address: u128::from_be_bytes(octets) >> offset,
+            offset,
+            length,
+        }
+    }
+
+    /// A prefix of fewer bits, or of the same, that has every address of this one.
+    fn wider(self, random: &mut Random, family: Family) -> Prefix {
+        let kept = usize::from(self.length - self.offset);
+        let length = self.offset + random.below(kept + 1) as u8;
+        let all = length == self.offset;
+        let offset = match all || family == Family::Ipv4 || random.one_in(2) {
+            true => self.offset,
+            false => self.offset + random.below(usize::from(length - self.offset)) as u8,
+        };
+        match all {
+            true => Prefix {
+                address: 0,
+                offset: 0,
+                length: 0,
+            },
+            false => Prefix {
+                offset,
+                length,
+                ..self
+            },
+        }
+    }
 }
 
 /// How many octets the value behind an operator has.
@@ -53,25 +127,21 @@ pub fn width(operator: u8) -> usize {
 }
 
 /// One pair of a list, with an operator that ends nothing, whose value has this size code.
-fn pair(random: &mut Random, kind: u8, size: u8) -> Vec<u8> {
+fn pair(random: &mut Random, family: Family, kind: u8, size: u8) -> Vec<u8> {
     let judging = match random.one_in(2) {
         true => random.octet() & 0x47 & !ignored_bits(kind),
         false => 0x01,
     };
     let width = 1 << size;
-    let number = world::field(random, kind);
-    let number = match kind {
-        11 => number & 0x3f,
-        12 => number & 0x0f,
-        _ => number,
-    };
+    let ignored = u64::from(ignored_value_bits(family, kind));
+    let number = world::field(random, family, kind) & !ignored;
     let mut pair = vec![judging | size << 4];
     pair.extend_from_slice(&number.to_be_bytes()[8 - width..]);
     pair
 }
 
 /// A list of one pair or more, in the plain spelling.
-fn list_body(random: &mut Random, kind: u8) -> Vec<u8> {
+fn list_body(random: &mut Random, family: Family, kind: u8) -> Vec<u8> {
     let mut body = Vec::new();
     loop {
         let size = match random.below(8) {
@@ -80,7 +150,7 @@ fn list_body(random: &mut Random, kind: u8) -> Vec<u8> {
             _ => random.below(usize::from(largest_size(kind)) + 1) as u8,
         };
         let at = body.len();
-        body.extend(pair(random, kind, size));
+        body.extend(pair(random, family, kind, size));
         body[0] &= !0x40;
         if !random.one_in(3) {
             body[at] |= 0x80;
@@ -90,16 +160,16 @@ fn list_body(random: &mut Random, kind: u8) -> Vec<u8> {
 }
 
 /// Components of rising types, in the plain spelling: an accepted rule.
-pub fn components(random: &mut Random) -> Vec<Component> {
+pub fn components(random: &mut Random, family: Family) -> Vec<Component> {
     let share = random.pick(&[2, 3, 4, 6, 12]);
     let mut found = Vec::new();
     while found.is_empty() {
-        for kind in 1..=12 {
+        for kind in 1..=world::highest_type(family) {
             let wanted = if kind == 1 { 2 } else { share };
             if random.one_in(wanted) {
                 let body = match is_prefix(kind) {
-                    true => prefix_body(world::address(random), world::prefix_length(random)),
-                    false => list_body(random, kind),
+                    true => Prefix::any(random, family, kind).body(family),
+                    false => list_body(random, family, kind),
                 };
                 found.push(Component { kind, body });
             }
@@ -109,7 +179,7 @@ pub fn components(random: &mut Random) -> Vec<Component> {
 }
 
 /// A rule that is met by what meets the given one: some of its components, its prefixes cut.
-pub fn wider(random: &mut Random, components: &[Component]) -> Vec<Component> {
+pub fn wider(random: &mut Random, family: Family, components: &[Component]) -> Vec<Component> {
     let kept = random.below(components.len());
     let mut found = components.to_vec();
     let mut at = 0;
@@ -119,23 +189,28 @@ pub fn wider(random: &mut Random, components: &[Component]) -> Vec<Component> {
     });
     for Component { kind, body } in &mut found {
         if is_prefix(*kind) {
-            let length = random.below(usize::from(body[0]) + 1) as u8;
-            *body = prefix_body(address_of(body), length);
+            *body = Prefix::of_body(family, body)
+                .wider(random, family)
+                .body(family);
         }
     }
     found
 }
 
 /// One component that takes exactly so many octets, which are at least three, with its type octet.
-pub fn components_of_length(random: &mut Random, length: usize) -> Vec<Component> {
-    let kind = random.pick(&[3, 4, 5, 6, 7, 8, 10]);
+pub fn components_of_length(random: &mut Random, family: Family, length: usize) -> Vec<Component> {
+    let highest = match family {
+        Family::Ipv4 => 10,
+        Family::Ipv6 => 13,
+    };
+    let kind = random.pick(&[3, 4, 5, 6, 7, 8, highest]);
     let mut body = Vec::new();
     let mut last = 0;
     while body.len() < length - 1 {
         let left = length - 1 - body.len();
         let size = u8::from(left == 3 || left > 4 && random.one_in(8));
         last = body.len();
-        body.extend(pair(random, kind, size));
+        body.extend(pair(random, family, kind, size));
     }
     body[0] &= !0x40;
     body[last] |= 0x80;
@@ -154,22 +229,19 @@ fn operators(body: &[u8]) -> Vec<usize> {
 }
 
 /// Sets bits that are to be ignored: the same rule in another spelling.
-pub fn respell(random: &mut Random, components: &mut [Component]) {
+pub fn respell(random: &mut Random, family: Family, components: &mut [Component]) {
     for Component { kind, body } in components {
         if is_prefix(*kind) {
-            let past = usize::from(body[0]).div_ceil(8) * 8 - usize::from(body[0]);
-            if let (Some(octet), true) = (body[1..].last_mut(), past > 0) {
-                *octet |= random.octet() & ((1 << past) - 1);
+            let Prefix { length, offset, .. } = Prefix::of_body(family, body);
+            let bits = (length - offset) % 8;
+            if let (Some(octet), true) = (body.last_mut(), bits > 0) {
+                *octet |= random.octet() & 0xff >> bits;
             }
             continue;
         }
         for at in operators(body) {
             body[at] |= random.octet() & ignored_bits(*kind);
-            match kind {
-                11 => body[at + 1] |= random.octet() & 0xc0,
-                12 => body[at + 1] |= random.octet() & 0xf0,
-                _ => {}
-            }
+            body[at + 1] |= random.octet() & ignored_value_bits(family, *kind);
         }
         body[0] |= random.octet() & 0x40;
     }
@@ -186,9 +258,9 @@ pub fn value_of(components: &[Component]) -> Vec<u8> {
 }
 
 /// The value of one of the rules, in some spelling.
-pub fn respelled(random: &mut Random, rules: &[Vec<Component>]) -> Vec<u8> {
+pub fn respelled(random: &mut Random, family: Family, rules: &[Vec<Component>]) -> Vec<u8> {
     let mut components = rules[random.below(rules.len())].clone();
-    respell(random, &mut components);
+    respell(random, family, &mut components);
     value_of(&components)
 }
 
@@ -203,8 +275,28 @@ pub fn rule_of(value: &[u8], two_octets: bool) -> Vec<u8> {
     rule
 }
 
+/// The body of a prefix whose length is too large or, with an offset, mostly not above it; rarely
+/// all of it but the length is missing.
+fn malformed_prefix(random: &mut Random, family: Family) -> Vec<u8> {
+    let mut body = match family {
+        Family::Ipv4 => vec![random.pick(&[33, 40, 64, 128, 255]), 10, 0, 0, 0, 0],
+        Family::Ipv6 => {
+            let length: u8 = random.pick(&[0, 1, 7, 8, 64, 127, 128, 129, 130, 136, 255]);
+            let near: u8 = random.pick(&[0, 0, 1, 2, 255]);
+            let offset = random.pick(&[0, length.wrapping_add(near), 128, 255]);
+            let mut body = vec![length, offset];
+            body.extend(random.octets(17));
+            body
+        }
+    };
+    if random.one_in(4) {
+        body.truncate(1 + random.below(3));
+    }
+    body
+}
+
 /// Does something to components for which the value is refused with 3, 4, 5, 6 or 7.
-fn damage_components(random: &mut Random, components: &mut Vec<Component>) {
+fn damage_components(random: &mut Random, family: Family, components: &mut Vec<Component>) {
     let at = random.below(components.len());
     match random.below(6) {
         0 => components.insert(at, components[at].clone()),
@@ -214,15 +306,14 @@ fn damage_components(random: &mut Random, components: &mut Vec<Component>) {
             components[at].kind = random.pick(&[0, 13, 14, 0x81, 255, other]);
         }
         3 => {
-            let length = random.pick(&[33, 40, 64, 128, 255]);
-            let body = vec![length, 10, 0, 0, 0, 0];
+            let body = malformed_prefix(random, family);
             let kind = random.pick(&[1, 2]);
             components.truncate(kind as usize - 1);
             components.push(Component { kind, body });
         }
         4 => {
             let kind = random.pick(&[9, 11, 12]);
-            let mut body = list_body(random, kind);
+            let mut body = list_body(random, family, kind);
             let operators = operators(&body);
             body[random.pick(&operators)] |= random.pick(&[0x10, 0x20, 0x30]);
             components.push(Component { kind, body });
@@ -276,19 +367,19 @@ fn edge_length(random: &mut Random) -> usize {
 }
 
 /// Any value: mostly accepted, in some spelling, sometimes damaged, rarely long.
-pub fn value(random: &mut Random) -> Vec<u8> {
+pub fn value(random: &mut Random, family: Family) -> Vec<u8> {
     let mut found = match random.one_in(60) {
         true => {
             let length = edge_length(random);
-            components_of_length(random, length)
+            components_of_length(random, family, length)
         }
-        false => components(random),
+        false => components(random, family),
     };
     if random.one_in(3) {
-        respell(random, &mut found);
+        respell(random, family, &mut found);
     }
     match random.below(8) {
-        0 => damage_components(random, &mut found),
+        0 => damage_components(random, family, &mut found),
         1 => {
             let mut value = value_of(&found);
             damage_value(random, &mut value);
@@ -300,8 +391,8 @@ pub fn value(random: &mut Random) -> Vec<u8> {
 }
 
 /// Any rule: mostly accepted, sometimes with damage in its value or its length field.
-pub fn rule(random: &mut Random) -> Vec<u8> {
-    let value = value(random);
+pub fn rule(random: &mut Random, family: Family) -> Vec<u8> {
+    let value = value(random, family);
     let two_octets = random.one_in(6);
     let mut rule = rule_of(&value, two_octets);
     if random.one_in(12) {
@@ -311,14 +402,14 @@ pub fn rule(random: &mut Random) -> Vec<u8> {
 }
 
 /// A rule with damage in its components, its value or its length field, or one of length 0.
-pub fn damaged_rule(random: &mut Random) -> Vec<u8> {
-    let mut found = components(random);
+pub fn damaged_rule(random: &mut Random, family: Family) -> Vec<u8> {
+    let mut found = components(random, family);
     let kind = random.below(4);
     if kind == 0 {
         return random.pick(&[&[0][..], &[0xf0, 0]]).to_vec();
     }
     if kind == 1 {
-        damage_components(random, &mut found);
+        damage_components(random, family, &mut found);
     }
     let mut value = value_of(&found);
     if kind == 2 {

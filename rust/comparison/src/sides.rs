@@ -3,35 +3,43 @@
 //! What the shortest call goes through is inlined, so that the benchmark times the call and not
 //! this interface.
 
-use flowspec::{Actions, Error, Record, Table, Verdict};
-use reference::Refusal;
+use crate::tables;
+use flowspec::{Actions, Error, Family as _, Record, Records, Table, Verdict};
+use reference::{Family, Refusal};
 
 /// What a call gives back: the words of `out` as the C functions set them, or a refusal.
 pub type Words<const N: usize> = Result<[u64; N], Error>;
 
-/// An implementation of the calls; `allow` is the setting for rules with no destination, of
-/// which 0 is off and any other number on.
+/// An implementation of the calls for either family; `allow` is the setting for rules with no
+/// destination, of which 0 is off and any other number on.
 pub trait Side {
     /// What the implementation is called.
     const NAME: &'static str;
 
     /// The start and the length of a rule's value.
-    fn read(rule: &[u8]) -> Words<2>;
+    fn read(family: Family, rule: &[u8]) -> Words<2>;
 
     /// How many octets were written.
-    fn write(value: &[u8], buffer: &mut [u8]) -> Words<1>;
+    fn write(family: Family, value: &[u8], buffer: &mut [u8]) -> Words<1>;
 
     /// 1 if the first rule precedes, 2 if the second does, 3 if they are the same rule.
-    fn compare(first: &[u8], second: &[u8]) -> Words<1>;
+    fn compare(family: Family, first: &[u8], second: &[u8]) -> Words<1>;
 
     /// Nothing, if the rule is feasible.
-    fn feasible(routes: &[u32], allow: u32, rule: &[u8], originator: u32) -> Words<0>;
+    fn feasible(
+        family: Family,
+        routes: &[u32],
+        allow: u32,
+        rule: &[u8],
+        originator: u32,
+    ) -> Words<0>;
 
     /// The words of the actions, as a record has them.
     fn actions(communities: &[u8]) -> Words<5>;
 
     /// Nothing, if the rule is held from then on.
     fn announce(
+        family: Family,
         table: &mut [u8],
         routes: &[u32],
         allow: u32,
@@ -41,10 +49,12 @@ pub trait Side {
     ) -> Words<0>;
 
     /// Nothing, if the rule is held no longer.
-    fn withdraw(table: &mut [u8], rule: &[u8]) -> Words<0>;
+    fn withdraw(family: Family, table: &mut [u8], rule: &[u8]) -> Words<0>;
 
     /// The count of an attribute's rules, each announced; the answers list their numbers.
+    #[allow(clippy::too_many_arguments)]
     fn reach(
+        family: Family,
         table: &mut [u8],
         routes: &[u32],
         allow: u32,
@@ -55,13 +65,14 @@ pub trait Side {
     ) -> Words<1>;
 
     /// The count of an attribute's rules, each withdrawn; the answers list their numbers.
-    fn unreach(table: &mut [u8], attribute: &[u8], answers: &mut [u32]) -> Words<1>;
+    fn unreach(family: Family, table: &mut [u8], attribute: &[u8], answers: &mut [u32])
+        -> Words<1>;
 
     /// The count of rules collected and the merged actions, all 0 where nothing matched.
-    fn lookup(table: &[u8], packet: &[u8]) -> Words<6>;
+    fn lookup(family: Family, table: &[u8], packet: &[u8]) -> Words<6>;
 
     /// The start and the length of the first match's record, 0 and 0 if there is none.
-    fn first_match(table: &[u8], packet: &[u8]) -> Words<2>;
+    fn first_match(family: Family, table: &[u8], packet: &[u8]) -> Words<2>;
 }
 
 /// The words of a start and a length.
@@ -100,6 +111,36 @@ fn verdict_words(verdict: Verdict) -> [u64; 6] {
 /// The proved library through the types of its safe wrapper.
 pub struct Wrapper;
 
+/// What an expression gives with the wrapper's type of a family under a name.
+macro_rules! typed {
+    ($family:expr, $name:ident => $call:expr) => {
+        match $family {
+            Family::Ipv4 => {
+                type $name = flowspec::Ipv4;
+                $call
+            }
+            Family::Ipv6 => {
+                type $name = flowspec::Ipv6;
+                $call
+            }
+        }
+    };
+}
+
+/// The octets of records, written from the wrapper's types.
+fn octets_of(records: Records<'_>) -> Vec<u8> {
+    let octets = |record: Record<'_>| {
+        let actions = action_words(record.actions);
+        tables::record(record.value, record.originator, actions)
+    };
+    records.flat_map(octets).collect()
+}
+
+/// The octets of the records that the wrapper lists of a family's table.
+pub fn wrapper_listed(family: Family, table: &[u8]) -> Result<Vec<u8>, Error> {
+    typed!(family, F => Table::of(F::default(), table).records().map(octets_of))
+}
+
 /// Where a part starts in the whole, and how long it is.
 fn place_of(part: &[u8], whole: &[u8]) -> [u64; 2] {
     let start = part.as_ptr() as usize - whole.as_ptr() as usize;
@@ -115,20 +156,26 @@ fn record_place(record: Record, table: &[u8]) -> [u64; 2] {
 impl Side for Wrapper {
     const NAME: &'static str = "wrapper";
 
-    fn read(rule: &[u8]) -> Words<2> {
-        flowspec::read(rule).map(|value| place_of(value, rule))
+    fn read(family: Family, rule: &[u8]) -> Words<2> {
+        typed!(family, F => F::read(rule)).map(|value| place_of(value, rule))
     }
 
-    fn write(value: &[u8], buffer: &mut [u8]) -> Words<1> {
-        flowspec::write(value, buffer).map(count_words)
+    fn write(family: Family, value: &[u8], buffer: &mut [u8]) -> Words<1> {
+        typed!(family, F => F::write(value, buffer)).map(count_words)
     }
 
-    fn compare(first: &[u8], second: &[u8]) -> Words<1> {
-        flowspec::compare(first, second).map(|which| [which as u64 + 1])
+    fn compare(family: Family, first: &[u8], second: &[u8]) -> Words<1> {
+        typed!(family, F => F::compare(first, second)).map(|which| [which as u64 + 1])
     }
 
-    fn feasible(routes: &[u32], allow: u32, rule: &[u8], originator: u32) -> Words<0> {
-        flowspec::feasible(routes, allow != 0, rule, originator).map(|()| [])
+    fn feasible(
+        family: Family,
+        routes: &[u32],
+        allow: u32,
+        rule: &[u8],
+        originator: u32,
+    ) -> Words<0> {
+        typed!(family, F => F::feasible(routes, allow != 0, rule, originator)).map(|()| [])
     }
 
     #[inline]
@@ -137,6 +184,7 @@ impl Side for Wrapper {
     }
 
     fn announce(
+        family: Family,
         table: &mut [u8],
         routes: &[u32],
         allow: u32,
@@ -144,16 +192,18 @@ impl Side for Wrapper {
         originator: u32,
         communities: &[u8],
     ) -> Words<0> {
-        Table::over(table)
-            .announce(routes, allow != 0, rule, originator, communities)
-            .map(|()| [])
+        let allow = allow != 0;
+        typed!(family, F => Table::of(F::default(), table)
+            .announce(routes, allow, rule, originator, communities))
+        .map(|()| [])
     }
 
-    fn withdraw(table: &mut [u8], rule: &[u8]) -> Words<0> {
-        Table::over(table).withdraw(rule).map(|()| [])
+    fn withdraw(family: Family, table: &mut [u8], rule: &[u8]) -> Words<0> {
+        typed!(family, F => Table::of(F::default(), table).withdraw(rule)).map(|()| [])
     }
 
     fn reach(
+        family: Family,
         table: &mut [u8],
         routes: &[u32],
         allow: u32,
@@ -162,32 +212,30 @@ impl Side for Wrapper {
         communities: &[u8],
         answers: &mut [u32],
     ) -> Words<1> {
-        Table::over(table)
-            .reach(
-                routes,
-                allow != 0,
-                attribute,
-                originator,
-                communities,
-                answers,
-            )
+        let allow = allow != 0;
+        typed!(family, F => Table::of(F::default(), table)
+            .reach(routes, allow, attribute, originator, communities, answers))
+        .map(count_words)
+    }
+
+    fn unreach(
+        family: Family,
+        table: &mut [u8],
+        attribute: &[u8],
+        answers: &mut [u32],
+    ) -> Words<1> {
+        typed!(family, F => Table::of(F::default(), table).unreach(attribute, answers))
             .map(count_words)
     }
 
-    fn unreach(table: &mut [u8], attribute: &[u8], answers: &mut [u32]) -> Words<1> {
-        Table::over(table)
-            .unreach(attribute, answers)
-            .map(count_words)
+    fn lookup(family: Family, table: &[u8], packet: &[u8]) -> Words<6> {
+        typed!(family, F => Table::of(F::default(), table).lookup(packet)).map(verdict_words)
     }
 
-    fn lookup(table: &[u8], packet: &[u8]) -> Words<6> {
-        Table::over(table).lookup(packet).map(verdict_words)
-    }
-
-    fn first_match(table: &[u8], packet: &[u8]) -> Words<2> {
-        Table::over(table)
+    fn first_match(family: Family, table: &[u8], packet: &[u8]) -> Words<2> {
+        typed!(family, F => Table::of(F::default(), table)
             .first_match(packet)
-            .map(|found| found.map_or([0; 2], |record| record_place(record, table)))
+            .map(|found| found.map_or([0; 2], |record| record_place(record, table))))
     }
 }
 
@@ -205,7 +253,7 @@ fn typed_refusal(refusal: Refusal) -> Error {
 
 /// The wrapper's form of actions.
 #[inline]
-fn typed_actions(actions: reference::Actions) -> Actions {
+pub fn typed_actions(actions: reference::Actions) -> Actions {
     Actions {
         byte_rate: actions.byte_rate,
         packet_rate: actions.packet_rate,
@@ -238,23 +286,28 @@ fn told<T, const N: usize>(
 impl Side for Reference {
     const NAME: &'static str = "reference";
 
-    fn read(rule: &[u8]) -> Words<2> {
-        told(reference::read(rule), place_words)
+    fn read(family: Family, rule: &[u8]) -> Words<2> {
+        told(reference::read(family, rule), place_words)
     }
 
-    fn write(value: &[u8], buffer: &mut [u8]) -> Words<1> {
-        told(reference::write(value, buffer), count_words)
+    fn write(family: Family, value: &[u8], buffer: &mut [u8]) -> Words<1> {
+        told(reference::write(family, value, buffer), count_words)
     }
 
-    fn compare(first: &[u8], second: &[u8]) -> Words<1> {
-        told(
-            reference::compare(first, second),
-            |which| [which as u64 + 1],
-        )
+    fn compare(family: Family, first: &[u8], second: &[u8]) -> Words<1> {
+        told(reference::compare(family, first, second), |which| {
+            [which as u64 + 1]
+        })
     }
 
-    fn feasible(routes: &[u32], allow: u32, rule: &[u8], originator: u32) -> Words<0> {
-        let answer = reference::feasible(routes, allow != 0, rule, originator);
+    fn feasible(
+        family: Family,
+        routes: &[u32],
+        allow: u32,
+        rule: &[u8],
+        originator: u32,
+    ) -> Words<0> {
+        let answer = reference::feasible(family, routes, allow != 0, rule, originator);
         told(answer, |()| [])
     }
 
@@ -266,6 +319,7 @@ impl Side for Reference {
     }
 
     fn announce(
+        family: Family,
         table: &mut [u8],
         routes: &[u32],
         allow: u32,
@@ -273,15 +327,24 @@ impl Side for Reference {
         originator: u32,
         communities: &[u8],
     ) -> Words<0> {
-        let answer = reference::announce(table, routes, allow != 0, rule, originator, communities);
+        let answer = reference::announce(
+            family,
+            table,
+            routes,
+            allow != 0,
+            rule,
+            originator,
+            communities,
+        );
         told(answer, |()| [])
     }
 
-    fn withdraw(table: &mut [u8], rule: &[u8]) -> Words<0> {
-        told(reference::withdraw(table, rule), |()| [])
+    fn withdraw(family: Family, table: &mut [u8], rule: &[u8]) -> Words<0> {
+        told(reference::withdraw(family, table, rule), |()| [])
     }
 
     fn reach(
+        family: Family,
         table: &mut [u8],
         routes: &[u32],
         allow: u32,
@@ -292,6 +355,7 @@ impl Side for Reference {
     ) -> Words<1> {
         let allow = allow != 0;
         let answer = reference::reach(
+            family,
             table,
             routes,
             allow,
@@ -303,17 +367,25 @@ impl Side for Reference {
         told(answer, count_words)
     }
 
-    fn unreach(table: &mut [u8], attribute: &[u8], answers: &mut [u32]) -> Words<1> {
-        told(reference::unreach(table, attribute, answers), count_words)
+    fn unreach(
+        family: Family,
+        table: &mut [u8],
+        attribute: &[u8],
+        answers: &mut [u32],
+    ) -> Words<1> {
+        told(
+            reference::unreach(family, table, attribute, answers),
+            count_words,
+        )
     }
 
-    fn lookup(table: &[u8], packet: &[u8]) -> Words<6> {
-        told(reference::lookup(table, packet), |verdict| {
+    fn lookup(family: Family, table: &[u8], packet: &[u8]) -> Words<6> {
+        told(reference::lookup(family, table, packet), |verdict| {
             verdict_words(typed_verdict(verdict))
         })
     }
 
-    fn first_match(table: &[u8], packet: &[u8]) -> Words<2> {
-        told(reference::first_match(table, packet), place_words)
+    fn first_match(family: Family, table: &[u8], packet: &[u8]) -> Words<2> {
+        told(reference::first_match(family, table, packet), place_words)
     }
 }

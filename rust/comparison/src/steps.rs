@@ -8,6 +8,7 @@ use crate::random::Random;
 use crate::routes;
 use crate::rules::{self, Component};
 use crate::world;
+use reference::Family;
 
 /// How many more words than rules are mostly lent for the numbers of an attribute.
 const MORE_WORDS: usize = 2;
@@ -40,17 +41,19 @@ pub enum Step {
 
 /// What stays the same through a history.
 pub struct Setting {
+    pub family: Family,
     routes: Vec<u32>,
     allow_no_destination: u32,
 }
 
 impl Setting {
     /// A sound list of routes, often one that covers all, and the setting on or off.
-    pub fn new(random: &mut Random) -> Setting {
+    pub fn new(random: &mut Random, family: Family) -> Setting {
         Setting {
+            family,
             routes: match random.one_in(2) {
-                true => routes::covering_all(1).to_vec(),
-                false => routes::sound_words(random),
+                true => routes::covering_all(family, 1),
+                false => routes::sound_words(random, family),
             },
             allow_no_destination: random.pick(&[0, 1]),
         }
@@ -67,10 +70,11 @@ impl Setting {
 }
 
 /// What a rule's calls are told apart by: the rule in its plain spelling.
-fn plain(rule: &[u8]) -> Vec<u8> {
+fn plain(family: Family, rule: &[u8]) -> Vec<u8> {
     let mut buffer = vec![0; rule.len() + 2];
-    let (start, length) = reference::read(rule).unwrap_or_default();
-    let written = reference::write(&rule[start..start + length], &mut buffer).unwrap_or_default();
+    let (start, length) = reference::read(family, rule).unwrap_or_default();
+    let value = &rule[start..start + length];
+    let written = reference::write(family, value, &mut buffer).unwrap_or_default();
     buffer.truncate(written);
     buffer
 }
@@ -111,10 +115,10 @@ impl Step {
     }
 
     /// The rule's plain spelling, if a single call that was answered so is counted.
-    pub fn counted(&self, answer: &Answer) -> Option<Vec<u8>> {
+    pub fn counted(&self, family: Family, answer: &Answer) -> Option<Vec<u8>> {
         match (self, answer.number) {
             (Step::Announce { rule, .. }, 0 | 8) | (Step::Withdraw { rule }, 0 | 14) => {
-                Some(plain(rule))
+                Some(plain(family, rule))
             }
             _ => None,
         }
@@ -148,10 +152,15 @@ impl Step {
 }
 
 /// One of the rules, in some spelling, or rarely a rule that may be damaged.
-fn some_rule(random: &mut Random, pool: &[Vec<Component>], rarely: usize) -> Vec<u8> {
-    let value = rules::respelled(random, pool);
+fn some_rule(
+    random: &mut Random,
+    family: Family,
+    pool: &[Vec<Component>],
+    rarely: usize,
+) -> Vec<u8> {
+    let value = rules::respelled(random, family, pool);
     match random.one_in(rarely) {
-        true => rules::rule(random),
+        true => rules::rule(random, family),
         false => rules::rule_of(&value, random.one_in(3)),
     }
 }
@@ -165,11 +174,16 @@ fn some_communities(random: &mut Random) -> Vec<u8> {
 }
 
 /// An attribute of some of the rules, with words for their numbers, rarely too few.
-fn attribute(random: &mut Random, kind: Kind, pool: &[Vec<Component>]) -> (Vec<u8>, usize) {
+fn attribute(
+    random: &mut Random,
+    family: Family,
+    kind: Kind,
+    pool: &[Vec<Component>],
+) -> (Vec<u8>, usize) {
     let count = random.pick(&[1, 2, 3, 5, 9]);
-    let mut octets = kind.head(random);
+    let mut octets = kind.head(random, family);
     for _ in 0..count {
-        octets.extend(some_rule(random, pool, 100));
+        octets.extend(some_rule(random, family, pool, 100));
     }
     match random.one_in(20) {
         true => (octets, random.below(count)),
@@ -178,18 +192,18 @@ fn attribute(random: &mut Random, kind: Kind, pool: &[Vec<Component>]) -> (Vec<u
 }
 
 /// A step about one of the rules, or about an attribute of some of them.
-pub fn step(random: &mut Random, pool: &[Vec<Component>]) -> Step {
+pub fn step(random: &mut Random, family: Family, pool: &[Vec<Component>]) -> Step {
     match random.below(10) {
         0..=1 => Step::Withdraw {
-            rule: some_rule(random, pool, 20),
+            rule: some_rule(random, family, pool, 20),
         },
         2..=7 => Step::Announce {
-            rule: some_rule(random, pool, 20),
+            rule: some_rule(random, family, pool, 20),
             originator: world::usual_originator(random),
             communities: some_communities(random),
         },
         8 => {
-            let (attribute, words) = attribute(random, Kind::Reach, pool);
+            let (attribute, words) = attribute(random, family, Kind::Reach, pool);
             Step::Reach {
                 attribute,
                 words,
@@ -198,7 +212,7 @@ pub fn step(random: &mut Random, pool: &[Vec<Component>]) -> Step {
             }
         }
         _ => {
-            let (attribute, words) = attribute(random, Kind::Unreach, pool);
+            let (attribute, words) = attribute(random, family, Kind::Unreach, pool);
             Step::Unreach { attribute, words }
         }
     }

@@ -1,18 +1,24 @@
-//! Tables: empty, sound by their history, full or nearly so, and damaged.
+//! Tables: empty, sound by their history or by records made here, full or nearly so, and damaged.
 
 use crate::communities;
 use crate::random::Random;
 use crate::routes;
 use crate::rules::{self, Component};
+use crate::sides::{action_words, typed_actions};
 use crate::world;
 use flowspec::{Record, Table};
+use reference::{Family, Precedence};
 
 /// The community that sets T: go on to later rules.
 const GO_ON: [u8; 8] = [0x80, 0x07, 0, 0, 0, 0, 0, 0x01];
 
-/// A sound table and the rules that were announced to it.
+/// The refusal of a rule that is not feasible: here of one whose destination has an offset.
+const INFEASIBLE: u32 = 8;
+
+/// A sound table and the rules that it holds or held.
 #[derive(Clone)]
 pub struct Held {
+    pub family: Family,
     pub octets: Vec<u8>,
     pub rules: Vec<Vec<Component>>,
 }
@@ -34,16 +40,53 @@ pub fn used(octets: &[u8]) -> usize {
     records(octets).last().map_or(0, |(_, end)| *end)
 }
 
-/// Announces a rule to a table with a route that makes it feasible; it may be left out by 11 or 13.
+/// A record by its fields: the actions are flags, DSCP, byte rate, packet rate and redirect.
+pub fn record(value: &[u8], originator: u32, actions: [u64; 5]) -> Vec<u8> {
+    let [flags, dscp, numbers @ ..] = actions;
+    let mut octets = Vec::new();
+    octets.extend((value.len() as u16).to_be_bytes());
+    octets.extend(originator.to_be_bytes());
+    octets.extend([flags as u8, dscp as u8]);
+    octets.extend(numbers.map(u64::to_be_bytes).concat());
+    octets.extend(value);
+    octets
+}
+
+/// Puts a record into a sound table in its place, if there is room and no equal rule is held; so a
+/// rule may be held that no announcement leaves there.
+fn insert(held: &mut Held, value: &[u8], record: &[u8]) -> bool {
+    let rule = rules::rule_of(value, false);
+    let mut place = 0;
+    for (start, end) in records(&held.octets) {
+        let other = rules::rule_of(&held.octets[start + Record::HEAD..end], false);
+        match reference::compare(held.family, &other, &rule) {
+            Ok(Precedence::First) => place = end,
+            Ok(Precedence::Same) => return false,
+            _ => break,
+        }
+    }
+    let used = used(&held.octets);
+    let room = held.octets.len() - used >= record.len();
+    if room {
+        held.octets.copy_within(place..used, place + record.len());
+        held.octets[place..place + record.len()].copy_from_slice(record);
+    }
+    room
+}
+
+/// Announces a rule to a table with a route that makes it feasible, or puts its record there if none
+/// does; it may be left out for lack of room or by 13.
 fn announce(random: &mut Random, held: &mut Held, components: Vec<Component>) {
-    let rule = rules::rule_of(&rules::value_of(&components), false);
+    let value = rules::value_of(&components);
+    let rule = rules::rule_of(&value, false);
     let originator = world::originator(random);
-    let routes = routes::covering_all(originator);
+    let routes = routes::covering_all(held.family, originator);
     let mut communities = communities::communities(random);
     if random.one_in(2) {
         communities.splice(..0, GO_ON);
     }
     let answer = reference::announce(
+        held.family,
         &mut held.octets,
         &routes,
         true,
@@ -51,24 +94,32 @@ fn announce(random: &mut Random, held: &mut Held, components: Vec<Component>) {
         originator,
         &communities,
     );
-    if answer.is_ok() {
+    let is_held = match (answer, reference::actions(&communities)) {
+        (Err(refused), Ok(actions)) if refused.number == INFEASIBLE => {
+            let record = record(&value, originator, action_words(typed_actions(actions)));
+            insert(held, &value, &record)
+        }
+        _ => answer.is_ok(),
+    };
+    if is_held {
         held.rules.push(components);
     }
 }
 
 /// A sound table of so many octets, to which so many rules were announced as long as there was
 /// room; many are wider than one before, so that a packet may match several.
-pub fn sound(random: &mut Random, length: usize, count: usize) -> Held {
+pub fn sound(random: &mut Random, family: Family, length: usize, count: usize) -> Held {
     let mut held = Held {
+        family,
         octets: vec![0; length],
         rules: Vec::new(),
     };
     for _ in 0..count {
         let components = match held.rules.is_empty() || random.one_in(2) {
-            true => rules::components(random),
+            true => rules::components(random, family),
             false => {
                 let at = random.below(held.rules.len());
-                rules::wider(random, &held.rules[at])
+                rules::wider(random, family, &held.rules[at])
             }
         };
         announce(random, &mut held, components);
@@ -77,13 +128,13 @@ pub fn sound(random: &mut Random, length: usize, count: usize) -> Held {
 }
 
 /// A sound table of few rules, rarely with a long one, with some room left, little or none.
-pub fn small(random: &mut Random) -> Held {
+pub fn small(random: &mut Random, family: Family) -> Held {
     let count = random.pick(&[0, 1, 2, 2, 3, 3, 4, 5, 8]);
-    let mut held = sound(random, 1 << 10, count);
+    let mut held = sound(random, family, 1 << 10, count);
     if random.one_in(100) {
         held.octets.resize(1 << 13, 0);
         let length = random.pick(&[239, 240, 255, 256, 4094, 4095]);
-        let components = rules::components_of_length(random, length);
+        let components = rules::components_of_length(random, family, length);
         announce(random, &mut held, components);
     }
     let room = random.pick(&[0, 1, 2, 31, 32, 33, 64, 100, 300]);
@@ -93,15 +144,14 @@ pub fn small(random: &mut Random) -> Held {
 }
 
 /// A table of one record that is written here, since its value may be longer than a rule's can be.
-pub fn long(random: &mut Random) -> Held {
+pub fn long(random: &mut Random, family: Family) -> Held {
     let length = random.pick(&[4_094, 4_095, 4_096, 4_097, 5_000]);
-    let components = rules::components_of_length(random, length);
-    let mut octets = vec![0; Record::HEAD];
-    octets[..2].copy_from_slice(&(length as u16).to_be_bytes());
-    octets.extend(rules::value_of(&components));
+    let components = rules::components_of_length(random, family, length);
+    let mut octets = record(&rules::value_of(&components), 0, [0; 5]);
     let room = random.pick(&[0, 1, 33, 5_000]);
     octets.resize(octets.len() + room, 0);
     Held {
+        family,
         octets,
         rules: vec![components],
     }
@@ -156,7 +206,7 @@ fn damage_spelling(random: &mut Random, held: &mut Held) {
     let at = random.below(held.rules.len());
     let plain = rules::value_of(&held.rules[at]);
     let mut other = held.rules[at].clone();
-    rules::respell(random, &mut other);
+    rules::respell(random, held.family, &mut other);
     let places = held.octets.windows(plain.len());
     let found = places.into_iter().position(|part| part == plain);
     if let Some(start) = found {

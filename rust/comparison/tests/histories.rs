@@ -1,7 +1,7 @@
 //! Histories of hundreds of calls on one table, compared after each call.
 
 use comparison::report::Distribution;
-use comparison::{compare_histories, SEED};
+use comparison::{compare_histories, FAMILIES, SEED};
 
 /// Answers without which the histories would show little.
 const MET: [(&str, &str); 18] = [
@@ -27,11 +27,14 @@ const MET: [(&str, &str); 18] = [
 
 #[test]
 fn histories() {
-    let mut seen = Distribution::default();
-    let compared = compare_histories(SEED, 150, &mut seen);
-    println!("{seen}");
-    compared.unwrap_or_else(|text| panic!("{text}"));
-    for (call, kind) in MET {
-        assert!(seen.times(call, kind) > 0, "{call} never answered {kind}");
+    for family in FAMILIES {
+        let mut seen = Distribution::new(family);
+        let compared = compare_histories(SEED, 150, &mut seen);
+        println!("{seen}");
+        compared.unwrap_or_else(|text| panic!("{text}"));
+        for (call, kind) in MET {
+            let times = seen.times(call, kind);
+            assert!(times > 0, "{call} of {family:?} never answered {kind}");
+        }
     }
 }
