@@ -5,6 +5,7 @@
 
 use crate::load::{Load, IN_ATTRIBUTE, ORIGINATOR, PACKETS};
 use comparison::sides::{Reference, Side, Words, Wrapper};
+use comparison::Family;
 use flowspec::Table;
 use std::time::{Duration, Instant};
 
@@ -24,10 +25,6 @@ const CHANGING_RUNS: usize = 500;
 
 /// How many runs give a table the rules of a whole attribute and take them back.
 const ATTRIBUTE_RUNS: usize = 100;
-
-/// What stands before the rules of an attribute MP_REACH_NLRI and of MP_UNREACH_NLRI.
-const REACH_HEAD: &[u8] = &[0, 1, 133, 0, 0];
-const UNREACH_HEAD: &[u8] = &[0, 1, 133];
 
 /// What one run took, how many calls it made, and a sum of what they answered.
 pub struct Run {
@@ -59,7 +56,7 @@ pub struct Job {
 
 /// A job from the function of its runs.
 macro_rules! job {
-    ($name:literal, $runs:expr, $run:ident) => {
+    ($name:expr, $runs:expr, $run:ident) => {
         Job {
             name: $name,
             runs: $runs,
@@ -69,20 +66,28 @@ macro_rules! job {
     };
 }
 
-/// All jobs.
-pub const JOBS: [Job; 11] = [
-    job!("read", SHORT_RUNS, read),
-    job!("write", SHORT_RUNS, write),
-    job!("compare", SHORT_RUNS, compare),
-    job!("actions", SHORT_RUNS, actions),
-    job!("feasible", SHORT_RUNS, feasible),
-    job!("  most routes", SHORT_RUNS, feasible_by_most),
-    job!("announce", CHANGING_RUNS, announce),
-    job!("withdraw", CHANGING_RUNS, withdraw),
-    job!("lookup", LOOKING_RUNS, lookup),
-    job!("  with options", LOOKING_RUNS, lookup_with_options),
-    job!("first match", LOOKING_RUNS, first_match),
-];
+/// The job that has no family.
+pub const ACTIONS: Job = job!("actions", SHORT_RUNS, actions);
+
+/// All jobs of a family.
+pub fn jobs(family: Family) -> [Job; 10] {
+    let longer = match family {
+        Family::Ipv4 => "  with options",
+        Family::Ipv6 => "  with headers",
+    };
+    [
+        job!("read", SHORT_RUNS, read),
+        job!("write", SHORT_RUNS, write),
+        job!("compare", SHORT_RUNS, compare),
+        job!("feasible", SHORT_RUNS, feasible),
+        job!("  most routes", SHORT_RUNS, feasible_by_most),
+        job!("announce", CHANGING_RUNS, announce),
+        job!("withdraw", CHANGING_RUNS, withdraw),
+        job!("lookup", LOOKING_RUNS, lookup),
+        job!(longer, LOOKING_RUNS, lookup_longer),
+        job!("first match", LOOKING_RUNS, first_match),
+    ]
+}
 
 /// A whole attribute, and the single calls that it stands for; a call is then all of them.
 pub const ATTRIBUTES: [[Job; 2]; 2] = [
@@ -99,18 +104,23 @@ pub const ATTRIBUTES: [[Job; 2]; 2] = [
 impl Setting<'_> {
     /// The setting with so many rules.
     pub fn new(load: &Load, rules: usize) -> Setting<'_> {
+        let (family, routes) = (load.family, &load.routes);
         let mut table = vec![0; Table::LONGEST];
         for (rule, communities) in load.rules[..rules].iter().zip(&load.communities) {
-            Wrapper::announce(&mut table, &load.routes, 0, rule, ORIGINATOR, communities)
+            Wrapper::announce(family, &mut table, routes, 0, rule, ORIGINATOR, communities)
                 .expect("each rule is held");
         }
+        let afi = match family {
+            Family::Ipv4 => 1,
+            Family::Ipv6 => 2,
+        };
         let attribute = |head: &[u8]| [head, &load.others.concat()].concat();
         Setting {
             load,
             rules,
             table,
-            reach: attribute(REACH_HEAD),
-            unreach: attribute(UNREACH_HEAD),
+            reach: attribute(&[0, afi, 133, 0, 0]),
+            unreach: attribute(&[0, afi, 133]),
         }
     }
 
@@ -149,21 +159,24 @@ fn timed<const N: usize>(run: usize, calls: usize, mut call: impl FnMut(usize) -
 
 /// Reads rules.
 fn read<S: Side>(setting: &Setting, run: usize) -> Run {
-    timed(run, SHORT_CALLS, |number| S::read(setting.rule(number)))
+    timed(run, SHORT_CALLS, |number| {
+        S::read(setting.load.family, setting.rule(number))
+    })
 }
 
 /// Writes rules.
 fn write<S: Side>(setting: &Setting, run: usize) -> Run {
     let mut buffer = [0; 300];
     timed(run, SHORT_CALLS, |number| {
-        S::write(&setting.rule(number)[1..], &mut buffer)
+        S::write(setting.load.family, &setting.rule(number)[1..], &mut buffer)
     })
 }
 
 /// Compares rules with others of the table.
 fn compare<S: Side>(setting: &Setting, run: usize) -> Run {
     timed(run, SHORT_CALLS, |number| {
-        S::compare(setting.rule(number), setting.rule(number * 7 + 1))
+        let (first, second) = (setting.rule(number), setting.rule(number * 7 + 1));
+        S::compare(setting.load.family, first, second)
     })
 }
 
@@ -177,50 +190,60 @@ fn actions<S: Side>(setting: &Setting, run: usize) -> Run {
 /// Judges rules by the known routes.
 fn feasible<S: Side>(setting: &Setting, run: usize) -> Run {
     timed(run, SHORT_CALLS / 4, |number| {
-        S::feasible(&setting.load.routes, 0, setting.rule(number), ORIGINATOR)
+        let Load { family, routes, .. } = setting.load;
+        S::feasible(*family, routes, 0, setting.rule(number), ORIGINATOR)
     })
 }
 
 /// Judges rules by as many routes as may be lent.
 fn feasible_by_most<S: Side>(setting: &Setting, run: usize) -> Run {
     timed(run, SHORT_CALLS / 40, |number| {
-        let routes = &setting.load.most_routes;
-        S::feasible(routes, 0, setting.rule(number), ORIGINATOR)
+        let (family, routes) = (setting.load.family, &setting.load.most_routes);
+        S::feasible(family, routes, 0, setting.rule(number), ORIGINATOR)
     })
 }
 
 /// Looks packets up.
 fn lookup<S: Side>(setting: &Setting, run: usize) -> Run {
     timed(run, PACKETS_A_RUN, |number| {
-        S::lookup(&setting.table, &setting.load.packets[number])
+        let Load {
+            family, packets, ..
+        } = setting.load;
+        S::lookup(*family, &setting.table, &packets[number])
     })
 }
 
-/// Looks the same packets up, with options in their headers.
-fn lookup_with_options<S: Side>(setting: &Setting, run: usize) -> Run {
+/// Looks the same packets up, with options in their headers or with extension headers.
+fn lookup_longer<S: Side>(setting: &Setting, run: usize) -> Run {
     timed(run, PACKETS_A_RUN, |number| {
-        S::lookup(&setting.table, &setting.load.with_options[number])
+        let (family, packets) = (setting.load.family, &setting.load.longer_packets);
+        S::lookup(family, &setting.table, &packets[number])
     })
 }
 
 /// Finds the first match of packets.
 fn first_match<S: Side>(setting: &Setting, run: usize) -> Run {
     timed(run, PACKETS_A_RUN, |number| {
-        S::first_match(&setting.table, &setting.load.packets[number])
+        let Load {
+            family, packets, ..
+        } = setting.load;
+        S::first_match(*family, &setting.table, &packets[number])
     })
 }
 
 /// Withdraws rules and announces each again at once; gives the time of both, summed up.
 fn changed<S: Side>(setting: &Setting, run: usize) -> [Run; 2] {
-    let (mut table, routes) = (setting.table.clone(), &setting.load.routes);
+    let Load { family, routes, .. } = setting.load;
+    let mut table = setting.table.clone();
     let mut times = [Duration::ZERO; 2];
     let mut sum = 0;
     for number in run * CHANGES..(run + 1) * CHANGES {
         let (rule, communities) = (setting.rule(number * 31), setting.communities(number * 31));
         let start = Instant::now();
-        sum += sum_of(S::withdraw(&mut table, rule));
+        sum += sum_of(S::withdraw(*family, &mut table, rule));
         let between = Instant::now();
         sum += sum_of(S::announce(
+            *family,
             &mut table,
             routes,
             0,
@@ -287,28 +310,39 @@ fn each(setting: &Setting, mut call: impl FnMut(&[u8]) -> Words<0>) -> u64 {
 
 /// Gives the other rules to the table by one attribute, and takes them back by another.
 fn by_attributes<S: Side>(setting: &Setting) -> [Run; 2] {
-    let (routes, communities) = (&setting.load.routes, setting.communities(0));
+    let (Load { family, routes, .. }, communities) = (setting.load, setting.communities(0));
+    let reach = &setting.reach;
     there_and_back(
         setting,
         |table| {
-            let reach = &setting.reach;
-            whole(|answers| S::reach(table, routes, 0, reach, ORIGINATOR, communities, answers))
+            whole(|answers| {
+                S::reach(
+                    *family,
+                    table,
+                    routes,
+                    0,
+                    reach,
+                    ORIGINATOR,
+                    communities,
+                    answers,
+                )
+            })
         },
-        |table| whole(|answers| S::unreach(table, &setting.unreach, answers)),
+        |table| whole(|answers| S::unreach(*family, table, &setting.unreach, answers)),
     )
 }
 
 /// Gives the other rules to the table one by one, and takes them back so.
 fn by_single_calls<S: Side>(setting: &Setting) -> [Run; 2] {
-    let (routes, communities) = (&setting.load.routes, setting.communities(0));
+    let (Load { family, routes, .. }, communities) = (setting.load, setting.communities(0));
     there_and_back(
         setting,
         |table| {
             each(setting, |rule| {
-                S::announce(table, routes, 0, rule, ORIGINATOR, communities)
+                S::announce(*family, table, routes, 0, rule, ORIGINATOR, communities)
             })
         },
-        |table| each(setting, |rule| S::withdraw(table, rule)),
+        |table| each(setting, |rule| S::withdraw(*family, table, rule)),
     )
 }
 

@@ -8,8 +8,9 @@ mod jobs;
 mod load;
 
 use comparison::sides::{Reference, Side};
+use comparison::Family;
 use flowspec::Table;
-use jobs::{Job, Run, Setting, ATTRIBUTES, JOBS};
+use jobs::{jobs, Job, Run, Setting, ACTIONS, ATTRIBUTES};
 use load::{Load, IN_ATTRIBUTE, PACKETS};
 
 /// The sizes between which growth is measured.
@@ -54,19 +55,22 @@ fn describe(load: &Load) {
     let packets = load.packets.iter();
     let matched = packets
         .filter(|packet| {
-            Reference::lookup(&setting.table, packet).is_ok_and(|[count, ..]| count > 0)
+            Reference::lookup(load.family, &setting.table, packet)
+                .is_ok_and(|[count, ..]| count > 0)
         })
         .count();
     let part = |count: usize, all: usize| 100.0 * count as f64 / all as f64;
     println!(
-        "tables of {} octets; {} routes, and {} where it says most routes",
+        "{:?}: tables of {} octets; {} routes, and {} where it says most routes",
+        load.family,
         Table::LONGEST,
-        load.routes.len() / 4,
-        load.most_routes.len() / 4
+        load.count_of(&load.routes),
+        load.count_of(&load.most_routes)
     );
     println!(
-        "{rules} rules, {short} of them ({:.1} %) with a destination shorter than 16 bits",
-        part(short, rules)
+        "{rules} rules, {short} of them ({:.1} %) with a destination shorter than {} bits",
+        part(short, rules),
+        load.short()
     );
     println!(
         "{PACKETS} packets, {matched} of them ({:.1} %) match at {rules} rules",
@@ -111,8 +115,9 @@ fn print_part(whole: [[f64; 2]; 2], single: [[f64; 2]; 2]) {
     println!(" |");
 }
 
-fn main() {
-    let load = Load::new(SIZES[1]);
+/// Times the jobs of a family.
+fn time(family: Family) {
+    let load = Load::new(family, SIZES[1]);
     describe(&load);
     let [small, large] = SIZES.map(|rules| format!("{rules} rules"));
     println!("{:14} | {small:28} | {large:28} | growth", "");
@@ -122,8 +127,11 @@ fn main() {
         "call", "lib", "ref"
     );
     let settings = SIZES.map(|rules| Setting::new(&load, rules));
-    for job in &JOBS {
+    for job in &jobs(family) {
         line(&settings, job);
+    }
+    if family == Family::Ipv4 {
+        line(&settings, &ACTIONS);
     }
     println!(
         "\n{IN_ATTRIBUTE} rules that the table does not hold, by one attribute and by single calls"
@@ -132,4 +140,10 @@ fn main() {
         let [whole, single] = [whole, single].map(|job| line(&settings, job));
         print_part(whole, single);
     }
+}
+
+fn main() {
+    time(Family::Ipv4);
+    println!();
+    time(Family::Ipv6);
 }
