@@ -5,5 +5,3 @@ pub mod Halves
 pub mod CallLaws
 pub mod Verdicts
 pub mod Unique
-pub mod HistoryLaws
-pub mod Happens

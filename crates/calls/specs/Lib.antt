@@ -1,4 +1,3 @@
 -- The definitions of this crate, in the order in which to read them.
 pub mod Word
 pub mod Promise
-pub mod History

@@ -1,10 +1,12 @@
 -- 01's table of refusals as lists: what each call checks, in the order in which 01 names the numbers, and what a call says that goes
 -- through such a list. The first check that does not hold refuses the call.
 use Prim.Native.Nat.{ℕ}
+use mathlib.Core.Path.{_≡_}
 use mathlib.Core.Bool.{Bool, true, false, cond, not}
 use mathlib.Core.List.{List, [], _∷_}
 use lib.Dec.{leb}
 use lib.ListN.{length}
+use Rattle.octets.specs.Test.{Each}
 use Rattle.sorted.specs.Table.{byOrder}
 use Rattle.rule.specs.declared.Family.{Family}
 use Rattle.rule.specs.declared.Checked.{Checked}
@@ -46,6 +48,10 @@ check holds number = record { holds = holds; number = number; place = 0 }
 abbrev pub oneToSeven : Checked → Check
 oneToSeven Accepted = record { holds = true; number = 0; place = 0 }
 oneToSeven (Refused number place) = record { holds = false; number = number; place = place }
+
+-- All checks of a list hold.
+abbrev pub AllHold : List Check → Type 0
+AllHold = Each (λ c. c .holds ≡ true)
 
 -- What a call says that goes through checks: the refusal of the first that does not hold, with each value 0, or, where all hold, that it
 -- is done, with its values.

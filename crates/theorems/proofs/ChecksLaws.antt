@@ -12,8 +12,7 @@ use Rattle.octets.specs.Test.{Each}
 use Rattle.octets.proofs.Cases.{by-test, apart}
 use Rattle.rule.specs.declared.Checked.{Checked}
 use Rattle.rule.specs.declared.Checked.the-variants.{Accepted, Refused}
-use Rattle.flowspec.specs.Checks.{Check, oneToSeven, told}
-use Rattle.theorems.specs.Numbers.{AllHold}
+use Rattle.flowspec.specs.Checks.{Check, oneToSeven, AllHold, told}
 
 -- so many checks of a list hold, and then a claim
 abbrev pub Until : List Check → ℕ → (Check → Type 0) → Type 0

@@ -1,7 +1,10 @@
 -- The laws of this crate.
 pub mod Unique
+pub mod AttributeUnique
 pub mod ChecksLaws
 pub mod Numbers
+pub mod AttributeNumbers
+pub mod Listed
 pub mod Refusals
 pub mod RoomLaws
 pub mod ComparisonTheorems
@@ -9,3 +12,4 @@ pub mod OptionsTheorems
 pub mod PlainLaws
 pub mod Pinned
 pub mod Examples
+pub mod WorkedAttributes

@@ -8,7 +8,6 @@ use mathlib.Core.List.{List}
 use mathlib.Core.Logic.{_↔_, _⊎_}
 use lib.Dec.{leb}
 use lib.ListN.{length}
-use Rattle.octets.specs.Test.{Each}
 use Rattle.rule.specs.declared.Family.{Family}
 use Rattle.rule.specs.declared.Checked.{Checked}
 use Rattle.rule.specs.declared.Checked.the-variants.{Refused}
@@ -25,7 +24,7 @@ use Rattle.table.specs.Change.{holds, hasRoom}
 use Rattle.request.specs.Input.{Announcement, Policy}
 use Rattle.request.specs.Judging.{isFeasible}
 use Rattle.flowspec.specs.Told.{Told}
-use Rattle.flowspec.specs.Checks.{Check, oneToSeven, endsThere, isSound, entryIn, readChecks, writeChecks, compareChecks, judgeChecks, actionsChecks, announceChecks, withdrawChecks, lookupChecks}
+use Rattle.flowspec.specs.Checks.{AllHold, oneToSeven, endsThere, isSound, entryIn, readChecks, writeChecks, compareChecks, judgeChecks, actionsChecks, announceChecks, withdrawChecks, lookupChecks}
 
 -- A test holds.
 abbrev pub Yes : Bool → Type 0
@@ -38,10 +37,6 @@ No test = test ≡ false
 -- None of the refusals 1 to 7.
 abbrev pub Accepts : Checked → Type 0
 Accepts checked = oneToSeven checked .holds ≡ true
-
--- All checks of a list hold.
-abbrev pub AllHold : List Check → Type 0
-AllHold = Each (λ c. c .holds ≡ true)
 
 -- Refusals 1 to 7, each with its place: told exactly where a value is refused so, and what is checked before it holds.
 abbrev pub OneToSeven : Told → (ℕ → ℕ → Type 0) → Type 0

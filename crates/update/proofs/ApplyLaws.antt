@@ -26,8 +26,7 @@ use Rattle.table.proofs.LeaveLaws.{was-sound, was-ready, was-unsound}
 use Rattle.request.specs.Input.{Policy}
 use Rattle.flowspec.specs.Announce.{announcing, withdrawing}
 use Rattle.flowspec.specs.Told.{done, refused}
-use Rattle.flowspec.specs.Checks.{Check, oneToSeven, told, isSound, actionsRead}
-use Rattle.theorems.specs.Numbers.{AllHold}
+use Rattle.flowspec.specs.Checks.{Check, oneToSeven, AllHold, told, isSound, actionsRead}
 use Rattle.attribute.specs.declared.Counted.{Counted}
 use Rattle.attribute.specs.declared.Counted.the-variants.{Rules as CountedRules, Refused as NotCounted}
 use Rattle.attribute.specs.Head.{reachHead, unreachHead}

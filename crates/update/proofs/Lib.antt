@@ -4,7 +4,3 @@ pub mod StepLaws
 pub mod LoopLaws
 pub mod SinglesLaws
 pub mod ApplyLaws
-pub mod Unique
-pub mod Listed
-pub mod Numbers
-pub mod Worked

@@ -3,6 +3,4 @@ pub mod Singles
 pub mod Checks
 pub mod Apply
 pub mod Promise
-pub mod Numbers
 pub mod Steps
-pub mod Worked

@@ -1,7 +1,7 @@
 -- What the two calls promise, for whatever family and whatever octets they are lent: the answer (`is`), its number, place and count
 -- (`tells`), by the list of checks that the call goes through (Checks.antt), the table at exit (`leaves`), the answer words at exit
 -- (`lists`), and that what is lent to be read alone is as it was (`keeps`; `kept` is what those slices hold at exit). No call has a
--- `requires`. That no second result satisfies a promise is shown in proofs/Unique.antt.
+-- `requires`. That no second result satisfies a promise is shown in theorems/proofs/AttributeUnique.antt.
 use Prim.Native.Nat.{ℕ}
 use mathlib.Core.Path.{_≡_}
 use mathlib.Core.List.{List, [], _∷_}

@@ -16,10 +16,10 @@ use Rattle.update.specs.Apply.{appliedTold}
 use Rattle.history.specs.History.{Call, announcement, withdrawal, Promised, emptyTable, HoldsExactly}
 use Rattle.history.specs.Attributes.{Attribute, reach, unreach, Event, single, whole, Asked, askedBy, endOfEvents, AskedCanBe, EventCanBe, WholePromised, EventsHappened, eventsOf, singlesOf}
 use Rattle.history.proofs.AttributesHappen.{events-happen, of-these-asks, events-happen-from-empty, events-happen-only}
 use Rattle.calls.specs.Word.{wordOf, outAfter}
 use Rattle.calls.specs.Promise.{Returns, AnnounceCall, WithdrawCall, ReachCall, UnreachCall}
-use Rattle.calls.specs.History.{WholeCalled, answered, Returned, WholeReturned, AllReturned, asCalled, calledOf}
-use Rattle.calls.proofs.HistoryLaws.{returned-happened, returned-holds}
+use Rattle.called.specs.History.{WholeCalled, answered, Returned, WholeReturned, AllReturned, asCalled, calledOf}
+use Rattle.called.proofs.HistoryLaws.{returned-happened, returned-holds}
 
 -- the call with an attribute that was lent and left this
 abbrev calledWith : Attribute → List ℕ → List ℕ → ℕ → List ℕ → List ℕ → List ℕ → WholeCalled

@@ -16,20 +16,20 @@ use Rattle.rule.proofs.RefusalsLaws.{Numbered}
 use Rattle.request.specs.Input.{Policy}
 use Rattle.flowspec.specs.Told.{Told}
 use Rattle.flowspec.specs.Checks.{Check, oneToSeven, told}
 use Rattle.theorems.specs.Numbers.{Accepts}
 use Rattle.theorems.proofs.Numbers.{other, given, far}
 use Rattle.theorems.proofs.ChecksLaws.{number-at, value-at, all-hold}
 use Rattle.attribute.specs.Head.{reachHead, unreachHead}
 use Rattle.attribute.specs.Rules.{rulesFrom}
 use Rattle.attribute.specs.Refusals.{RulesAccepted}
 use Rattle.attribute.proofs.RefusalsLaws.{refused-rules, accepted-rules, rules-numbered}
 use Rattle.update.specs.declared.Applied.{Applied}
 use Rattle.update.specs.Singles.{Reach}
 use Rattle.update.specs.Checks.{reachChecks, unreachChecks}
 use Rattle.update.specs.Apply.{appliedTold}
-use Rattle.update.specs.Numbers.{ReachNumber, UnreachNumber, ReachNumbers, UnreachNumbers}
+use Rattle.theorems.specs.AttributeNumbers.{ReachNumber, UnreachNumber, ReachNumbers, UnreachNumbers}
 use Rattle.update.specs.Promise.{Reaches, Unreaches}
 use Rattle.update.proofs.ApplyLaws.{told-of, decided-ind, accepted-holds}
 
 -- what is checked before a claim stays, and the claim is put in other words
 behind : {A B C : Type 0} → B ↔ C → (A × B) ↔ (A × C)

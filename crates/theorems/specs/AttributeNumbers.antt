@@ -1,6 +1,6 @@
 -- 01's table of refusals, "given exactly when", for the two calls with whole attributes: where an answer has each number, and where it has
 -- the number 0; and which numbers there are, of an answer and of a rule. That the answers of the calls are such is shown in
--- proofs/Numbers.antt, and that the numbers of the rules are in proofs/Listed.antt, from their promises.
+-- proofs/AttributeNumbers.antt, and that the numbers of the rules are in proofs/Listed.antt, from their promises.
 use Prim.Native.Nat.{ℕ, _<_, _≤_}
 use mathlib.Core.Path.{_≡_}
 use mathlib.Core.List.{List}
@@ -12,12 +12,12 @@ use Rattle.action.specs.Actions.{actionsOf}
 use Rattle.table.specs.Sound.{soundTable}
 use Rattle.request.specs.Input.{Policy}
 use Rattle.flowspec.specs.Told.{Told}
-use Rattle.flowspec.specs.Checks.{isSound}
-use Rattle.theorems.specs.Numbers.{Yes, No, AllHold, OneToSeven, SoundBoth}
+use Rattle.flowspec.specs.Checks.{AllHold, isSound}
+use Rattle.theorems.specs.Numbers.{Yes, No, OneToSeven, SoundBoth}
 use Rattle.attribute.specs.Head.{reachHead, unreachHead, isReach, isUnreach}
 use Rattle.attribute.specs.Refusals.{RulesRefused, RulesAccepted}
 use Rattle.update.specs.Singles.{Reach}
 use Rattle.update.specs.Checks.{reachCount, unreachCount, reachChecks, unreachChecks}
 
 -- A reach whose head is taken and whose rules are all accepted, and the rest holds.
 abbrev pub ReadReach : Family → List ℕ → Type 0 → Type 0

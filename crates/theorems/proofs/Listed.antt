@@ -22,21 +22,20 @@ use Rattle.request.specs.Input.{Policy, policyOf}
 use Rattle.request.specs.Judging.{isFeasible}
 use Rattle.flowspec.specs.Announce.{changeOf}
 use Rattle.flowspec.specs.Told.{changeTold}
-use Rattle.flowspec.specs.Checks.{Check, actionsRead}
-use Rattle.theorems.specs.Numbers.{AllHold}
+use Rattle.flowspec.specs.Checks.{Check, AllHold, actionsRead}
 use Rattle.attribute.specs.Head.{reachHead, unreachHead}
 use Rattle.attribute.specs.Rules.{rulesFrom}
 use Rattle.update.specs.declared.Applied.{Applied}
 use Rattle.update.specs.declared.Applied.the-variants.{Done, Refused}
 use Rattle.update.specs.declared.Task.the-variants.{Announce, Withdraw}
 use Rattle.update.specs.Singles.{Reach, Singles, announcingEach, withdrawingEach}
 use Rattle.update.specs.Checks.{reachChecks, unreachChecks}
 use Rattle.update.specs.Apply.{decided, Left, appliedAll, refusedWhole, reaching, unreaching}
 use Rattle.update.specs.Promise.{Reaches, Unreaches}
-use Rattle.update.specs.Numbers.{AnnouncedNumber, WithdrawnNumber}
+use Rattle.theorems.specs.AttributeNumbers.{AnnouncedNumber, WithdrawnNumber}
 use Rattle.update.specs.Steps.{ruleChange, ruleCall}
 use Rattle.update.proofs.SinglesLaws.{each-listed, reachTask, announces-are, withdraws-are}
 use Rattle.update.proofs.ApplyLaws.{was-granted, were-read}
 
 announced-number : (family : Family) (routes : List ℕ) (head : Head) (allows : Bool) (rule t : List ℕ)
     → AnnouncedNumber (changeTold (ruleCall family routes (Announce head allows) rule t .answer) .number)

@@ -1,4 +1,4 @@
--- **The two calls do something**, by computation, with the attributes of specs/Worked.antt. The reach with five rules is done, and lists 0, 8, 0,
+-- **The two calls do something**, by computation, with the attributes of specs/WorkedAttributes.antt. The reach with five rules is done, and lists 0, 8, 0,
 -- 11 and 0 before the words that it keeps: the table holds web and echo, so that neither the 8 nor the 11 undid a rule before it or stopped one
 -- behind it. The unreach with echo twice is done, lists 0 and 14, and leaves web alone; one with no rule is done, changes nothing and asks for
 -- no word. A reserved octet that is not 0 is no matter. A next hop, another AFI, another SAFI and a reach with no rule are 19; the five rules
@@ -36,10 +36,10 @@ use Rattle.flowspec.specs.Announce.{changeOf, announcing, withdrawing}
 use Rattle.request.specs.Judging.{readWithRoutes, isFeasible}
 use Rattle.attribute.specs.Head.{afiOf, isOfFamily, isReach, isUnreach}
 use Rattle.attribute.specs.Rules.{ruleAt, rulesFrom}
 use Rattle.update.specs.declared.Applied.the-variants.{Done, Refused}
 use Rattle.update.specs.Singles.{Reach, reachOf}
 use Rattle.update.specs.Apply.{Left, reaching, unreaching}
-use Rattle.update.specs.Worked.{routed, reachStart, unreachStart, fiveRules, fiveCut, echoTwice, withReserved, withNextHop, ofAnother, ofVpn, echoOfAnother, unsoundRate, fromSeven, noneHeld, webHeld, bothHeld, wordsLent}
+use Rattle.theorems.specs.WorkedAttributes.{routed, reachStart, unreachStart, fiveRules, fiveCut, echoTwice, withReserved, withNextHop, ofAnother, ofVpn, echoOfAnother, unsoundRate, fromSeven, noneHeld, webHeld, bothHeld, wordsLent}
 
 -- a reach on the empty table, with so many words
 abbrev onEmpty : Reach → ℕ → Left

@@ -24,12 +24,12 @@ use Rattle.update.proofs.ApplyLaws.{reach-tells, unreach-tells}
 use Rattle.history.specs.History.{Call, announcement, withdrawal, Promised, emptyTable, Agree, HoldsExactly, EndAlike}
 use Rattle.history.specs.Attributes.{Attribute, reach, unreach, endOfEvents, EventCanBe, WholePromised, EventPromised, EventsHappened, singlesOf, EventsFromEmpty}
 use Rattle.history.proofs.AttributeLaws.{events-hold, events-alike}
 use Rattle.calls.specs.Word.{wordOf}
 use Rattle.calls.specs.Promise.{Returns}
-use Rattle.calls.specs.History.{WholeCalled, CalledEvent, one, all, answerIn, appliedIn, answeredEvent, answered, Returned, WholeReturned, EventReturned, AllReturned}
+use Rattle.called.specs.History.{WholeCalled, CalledEvent, one, all, answerIn, appliedIn, answeredEvent, answered, Returned, WholeReturned, EventReturned, AllReturned}
 use Rattle.calls.proofs.Halves.{low-half, high-half}
 use Rattle.calls.proofs.Places.{not-announced, not-withdrawn}
 use Rattle.calls.proofs.AttributePlaces.{not-reached, not-unreached}
 
 -- a word says the answer that it is the word of
 word-says : (c : Change) → ((number place : ℕ) → c ≡ Refused number place → Refusal number place) → answerIn (wordOf (changeTold c)) ≡ c

@@ -1,0 +1,1 @@
+// Histories of calls in words, as a caller in C sees them: definitions and laws alone.
