@@ -1,5 +1,5 @@
--- **Demand 3, of two histories** (`EndAlike`): from equal empty buffers, if they agree on each rule's last counted call, by its kind,
--- originator and actions as read, they end in equal octets, and every packet has one verdict and one first match in both. Of what the
+-- **Demand 3, of two histories** (`EndAlike`): from equal empty buffers, with the same routes and setting throughout (`SamePolicy`), if they
+-- agree on each rule's last counted call, by its kind, originator and actions as read, they end in equal octets, and every packet has one verdict and one first match in both. Of what the
 -- calls were given only what their types say is assumed (`FromEmpty`).
 use mathlib.Core.Path.{_≡_, refl, sym, _∙_}
 use mathlib.Core.Bool.{true, cond}
@@ -26,7 +26,7 @@ use Rattle.request.specs.declared.Request.{Request}
 use Rattle.request.specs.declared.Request.the-variants.{Announce, Refused as NoRequest}
 use Rattle.request.specs.Input.{Announcement, Policy}
 use Rattle.request.specs.Request.{requestOf}
-use Rattle.history.specs.History.{Call, announcement, withdrawal, Made, CanBe, EachCanBe, deed, deedOf, announceOperation, withdrawOperation, operationOf, operationMade, numberOf, lastCounted, Agree, endOf, emptyTable, FromEmpty, EndAlike}
+use Rattle.history.specs.History.{Call, announcement, withdrawal, Made, CanBe, EachCanBe, deed, deedOf, announceOperation, withdrawOperation, operationOf, operationMade, numberOf, lastCounted, Agree, LentPolicy, SamePolicy, endOf, emptyTable, FromEmpty, EndAlike}
 use Rattle.request.proofs.RequestLaws.{octets-value, asked-from}
 use Rattle.history.proofs.HistoryLaws.{histories-agree}
 use Rattle.theorems.proofs.PlainLaws.{feasible-alone}
@@ -51,20 +51,21 @@ module _ (family : Family) (policy : Policy) where
   -- what is known of a counted call about a rule
   record Settled (k : RuleKey) (call : Call) : Type 0 where
     pub can : CanBe call
-    pub about : isAbout keyOrder (entryKey family) k (operationOf family policy call) ≡ true
+    pub lent : LentPolicy policy call
+    pub about : isAbout keyOrder (entryKey family) k (operationOf family call) ≡ true
 
   abbrev SettledLast : RuleKey → Option Made → Type 0
   SettledLast k none = Unit {0}
   SettledLast k (some m) = Settled k (m .call)
 
-  last-settled : (k : RuleKey) (h : List Made) (before : Option Made) → EachCanBe h → SettledLast k before
-      → SettledLast k (lastFrom keyOrder (entryKey family) (operationMade family policy) numberOf before k h)
-  last-settled k [] before can settled = settled
-  last-settled k (m ∷ h) before can settled =
-      let counted = isCounted keyOrder (entryKey family) (operationMade family policy) numberOf k m in
-      last-settled k h (cond counted (some m) before) (can .1)
+  last-settled : (k : RuleKey) (h : List Made) (before : Option Made) → EachCanBe h → SamePolicy policy h → SettledLast k before
+      → SettledLast k (lastFrom keyOrder (entryKey family) (operationMade family) numberOf before k h)
+  last-settled k [] before can same settled = settled
+  last-settled k (m ∷ h) before can same settled =
+      let counted = isCounted keyOrder (entryKey family) (operationMade family) numberOf k m in
+      last-settled k h (cond counted (some m) before) (can .1) (same .1)
       (by-test counted (λ e.
-      rw e (record { can = can .0; about = both (counts (operationMade family policy m) (numberOf m)) (isAbout keyOrder (entryKey family) k (operationMade family policy m)) e .1 })) (λ e. rw e settled))
+      rw e (record { can = can .0; lent = same .0; about = both (counts (operationMade family m) (numberOf m)) (isAbout keyOrder (entryKey family) k (operationMade family m)) e .1 })) (λ e. rw e settled))
 
   -- announcements of one rule by one originator with the same actions as read leave the same in force
   module _ (k : RuleKey) (a b : Announcement) (o : Octets (a .rule)) (p : Octets (b .rule)) (founders : a .originator ≡ b .originator)
@@ -94,18 +95,19 @@ module _ (family : Family) (policy : Policy) where
   none-withdrawn rule (NotRead number place) = refl
 
   same-in-force : Fits family → (k : RuleKey) (call other : Call) → Settled k call → Settled k other → deed call ≡ deed other
-      → inForce (operationOf family policy call) ≡ inForce (operationOf family policy other)
-  same-in-force fits k (announcement a) (withdrawal other) s z e = apart (cc)
-  same-in-force fits k (withdrawal rule) (announcement b) s z e = apart (cc)
+      → inForce (operationOf family call) ≡ inForce (operationOf family other)
+  same-in-force fits k (announcement lent a) (withdrawal other) s z e = apart (cc)
+  same-in-force fits k (withdrawal rule) (announcement lent b) s z e = apart (cc)
   same-in-force fits k (withdrawal rule) (withdrawal other) s z e =
       none-withdrawn rule (oneRule family rule) ∙ sym (none-withdrawn other (oneRule family other))
-  same-in-force fits k (announcement a) (announcement b) s z e =
+  same-in-force fits k (announcement lent a) (announcement other b) s z e =
       let founders : a .originator ≡ b .originator = cc in
       let read : actionsOf (a .communities) ≡ actionsOf (b .communities) = cc in
-      same-announced k a b (s .can .0) (z .can .0) founders read fits (requestOf family policy a) (requestOf family policy b) refl refl (s .about) (z .about)
+      same-announced k a b (s .can .0) (z .can .0) founders read fits (requestOf family lent a) (requestOf family other b)
+      (rw (s .lent)) (rw (z .lent)) (s .about) (z .about)
 
   same-last : Fits family → (k : RuleKey) (a b : Option Made) → SettledLast k a → SettledLast k b → deedOf a ≡ deedOf b
-      → leavesInForce (operationMade family policy) a ≡ leavesInForce (operationMade family policy) b
+      → leavesInForce (operationMade family) a ≡ leavesInForce (operationMade family) b
   same-last fits k none none s z e = refl
   same-last fits k none (some m) s z e = apart (cc)
   same-last fits k (some m) none s z e = apart (cc)
@@ -114,11 +116,12 @@ module _ (family : Family) (policy : Policy) where
       same-in-force fits k (m .call) (l .call) s z deeds
 
   -- **two histories** from equal empty buffers that agree on each rule's last counted call end alike
-  pub histories-alike : Fits family → (n : ℕ) (h g : List Made) → FromEmpty family policy n h → FromEmpty family policy n g → Agree family policy h g
+  pub histories-alike : Fits family → (n : ℕ) (h g : List Made) → FromEmpty family n h → FromEmpty family n g → SamePolicy policy h → SamePolicy policy g
+      → Agree family h g
       → EndAlike family (endOf (emptyTable n) h) (endOf (emptyTable n) g)
-  histories-alike fits n h g made also agree =
+  histories-alike fits n h g made also same one agree =
       end-alike family (endOf (emptyTable n) h) (endOf (emptyTable n) g)
-      (histories-agree family policy n h g made also
+      (histories-agree family n h g made also
       (λ k.
-      same-last fits k (lastCounted family policy k h) (lastCounted family policy k g) (last-settled k h none (made .given) tt) (last-settled k g none (also .given) tt)
+      same-last fits k (lastCounted family k h) (lastCounted family k g) (last-settled k h none (made .given) same tt) (last-settled k g none (also .given) one tt)
       (agree k)))

@@ -19,8 +19,8 @@ use Rattle.update.specs.Singles.{Reach, Singles, eachRule, announcementIn, anno
 use Rattle.update.specs.Checks.{reachChecks, unreachChecks}
 use Rattle.update.specs.Apply.{Left, appliedAll, refusedWhole, reaching, unreaching}
 use Rattle.update.proofs.ApplyLaws.{decided-either}
-use Rattle.history.specs.History.{Call, announcement, withdrawal, Made, CanBe, EachCanBe, numberOf, endOf, Happened, outcomeOf, madeOn, historyOf, emptyTable, FromEmpty, Agree, HoldsExactly, EndAlike}
-use Rattle.history.specs.Attributes.{Attribute, reach, unreach, Whole, Event, single, whole, leftBy, endOfEvents, callsIn, standsFor, AttributeCanBe, EventCanBe, ActsAs, WholePromised, EventPromised, EventsHappened, leftOn, singlesIn, singlesOf, EventsFromEmpty}
+use Rattle.history.specs.History.{Call, announcement, withdrawal, Made, CanBe, EachCanBe, numberOf, LentPolicy, SamePolicy, endOf, Happened, outcomeOf, madeOn, historyOf, emptyTable, FromEmpty, Agree, HoldsExactly, EndAlike}
+use Rattle.history.specs.Attributes.{Attribute, reach, unreach, Whole, Event, single, whole, leftBy, endOfEvents, callsIn, standsFor, AttributeCanBe, EventCanBe, AttributeLent, EventLent, SameThroughout, ActsAs, WholePromised, EventPromised, EventsHappened, leftOn, singlesIn, singlesOf, EventsFromEmpty}
 use Rattle.history.proofs.HistoryLaws.{history-holds}
 use Rattle.history.proofs.AgreeLaws.{histories-alike}
 use Rattle.history.proofs.Happens.{happens, each-given}
@@ -34,48 +34,71 @@ given-append : (h g : List Made) → EachCanBe h → EachCanBe g → EachCanBe (
 given-append [] g can also = also
 given-append (m ∷ h) g can also = (can .0, given-append h g (can .1) also)
 
+same-append : (policy : Policy) (h g : List Made) → SamePolicy policy h → SamePolicy policy g → SamePolicy policy (h ++ g)
+same-append policy [] g same also = also
+same-append policy (m ∷ h) g same also = (same .0, same-append policy h g (same .1) also)
+
 -- what the single calls of an attribute are given
-announced-given : (r : Reach) (rules : List (List ℕ)) → r .originator < 2 ^ 32 → Each Octets rules
-    → Each CanBe (map (λ rule. announcement (announcementIn r rule)) rules)
-announced-given r [] small o = tt
-announced-given r (rule ∷ rules) small o = ((o .0, small), announced-given r rules small (o .1))
+announced-given : (policy : Policy) (r : Reach) (rules : List (List ℕ)) → r .originator < 2 ^ 32 → Each Octets rules
+    → Each CanBe (map (λ rule. announcement policy (announcementIn r rule)) rules)
+announced-given policy r [] small o = tt
+announced-given policy r (rule ∷ rules) small o = ((o .0, small), announced-given policy r rules small (o .1))
 
 withdrawn-given : (rules : List (List ℕ)) → Each CanBe (map withdrawal rules)
 withdrawn-given [] = tt
 withdrawn-given (rule ∷ rules) = (tt, withdrawn-given rules)
 
 calls-given : (family : Family) (attribute : Attribute) → AttributeCanBe attribute → Each CanBe (callsIn family attribute)
-calls-given family (reach r) can =
-    announced-given r (reachRules family (r .attribute) .items) (can .1) (each-octets family (r .attribute) reachHead (can .0))
+calls-given family (reach policy r) can =
+    announced-given policy r (reachRules family (r .attribute) .items) (can .1) (each-octets family (r .attribute) reachHead (can .0))
 calls-given family (unreach attribute) can = withdrawn-given (unreachRules family attribute .items)
 
 stands-given : (family : Family) (attribute : Attribute) (answer : Applied) → AttributeCanBe attribute → Each CanBe (standsFor family attribute answer)
 stands-given family attribute (Done count) can = calls-given family attribute can
 stands-given family attribute (Refused number place) can = tt
 
-module _ (family : Family) (policy : Policy) where
-  happened-append : (h g : List Made) (table : List ℕ) → Happened family policy table h → Happened family policy (endOf table h) g
-      → Happened family policy table (h ++ g)
+-- what the single calls of an attribute are lent
+announced-lent : (policy lent : Policy) (r : Reach) (rules : List (List ℕ)) → lent ≡ policy
+    → Each (LentPolicy policy) (map (λ rule. announcement lent (announcementIn r rule)) rules)
+announced-lent policy lent r [] same = tt
+announced-lent policy lent r (rule ∷ rules) same = (same, announced-lent policy lent r rules same)
+
+withdrawn-lent : (policy : Policy) (rules : List (List ℕ)) → Each (LentPolicy policy) (map withdrawal rules)
+withdrawn-lent policy [] = tt
+withdrawn-lent policy (rule ∷ rules) = (tt, withdrawn-lent policy rules)
+
+calls-lent : (family : Family) (policy : Policy) (attribute : Attribute) → AttributeLent policy attribute → Each (LentPolicy policy) (callsIn family attribute)
+calls-lent family policy (reach lent r) same = announced-lent policy lent r (reachRules family (r .attribute) .items) same
+calls-lent family policy (unreach attribute) same = withdrawn-lent policy (unreachRules family attribute .items)
+
+stands-lent : (family : Family) (policy : Policy) (attribute : Attribute) (answer : Applied) → AttributeLent policy attribute
+    → Each (LentPolicy policy) (standsFor family attribute answer)
+stands-lent family policy attribute (Done count) same = calls-lent family policy attribute same
+stands-lent family policy attribute (Refused number place) same = tt
+
+module _ (family : Family) where
+  happened-append : (h g : List Made) (table : List ℕ) → Happened family table h → Happened family (endOf table h) g
+      → Happened family table (h ++ g)
   happened-append [] g table made also = also
   happened-append (m ∷ h) g table made also = (made .0, happened-append h g (m .left) (made .1) also)
 
   -- one call for each rule leaves what the history of these calls does
   module _ (call : List ℕ → Call) where
     abbrev eachOf : List (List ℕ) → List ℕ → Singles
-    eachOf rules table = eachRule (λ rule. outcomeOf family policy (call rule)) rules table
+    eachOf rules table = eachRule (λ rule. outcomeOf family (call rule)) rules table
 
     abbrev historyEach : List (List ℕ) → List ℕ → List Made
-    historyEach rules table = historyOf family policy table (map call rules)
+    historyEach rules table = historyOf family table (map call rules)
 
     each-leaves : (rules : List (List ℕ)) (table : List ℕ) → eachOf rules table .table ≡ endOf table (historyEach rules table)
     each-leaves [] table = refl
-    each-leaves (rule ∷ rules) table = each-leaves rules (outcomeOf family policy (call rule) table .table)
+    each-leaves (rule ∷ rules) table = each-leaves rules (outcomeOf family (call rule) table .table)
 
     each-numbers : (rules : List (List ℕ)) (table : List ℕ) → eachOf rules table .numbers ≡ map numberOf (historyEach rules table)
     each-numbers [] table = refl
     each-numbers (rule ∷ rules) table =
-        ap (λ (rest : List ℕ). numberOf (madeOn family policy (call rule) table) ∷ rest)
-        (each-numbers rules (outcomeOf family policy (call rule) table .table))
+        ap (λ (rest : List ℕ). numberOf (madeOn family (call rule) table) ∷ rest)
+        (each-numbers rules (outcomeOf family (call rule) table .table))
 
     each-acts : (rules : List (List ℕ)) (table lent : List ℕ)
         → ActsAs table lent (Done (length (eachOf rules table .numbers))) (eachOf rules table .table)
@@ -92,18 +115,18 @@ module _ (family : Family) (policy : Policy) where
   -- what an attribute leaves is what its single calls leave, and a refusal leaves what no call does
   abbrev LeftActs : Attribute → List ℕ → List ℕ → Left → Type 0
   LeftActs attribute table lent left =
-      ActsAs table lent (left .answer) (left .table) (left .words) (historyOf family policy table (standsFor family attribute (left .answer)))
+      ActsAs table lent (left .answer) (left .table) (left .words) (historyOf family table (standsFor family attribute (left .answer)))
 
   refused-acts : (attribute : Attribute) (table lent : List ℕ) (number place : ℕ) → LeftActs attribute table lent (refusedWhole table lent number place)
   refused-acts attribute table lent number place = record { leaves = refl; lists = refl; counts = refl }
 
-  left-acts : (attribute : Attribute) (table lent : List ℕ) → LeftActs attribute table lent (leftOn family policy attribute table lent)
+  left-acts : (attribute : Attribute) (table lent : List ℕ) → LeftActs attribute table lent (leftOn family attribute table lent)
   unfolding reaching unreaching
-  left-acts (reach r) table lent =
-      decided-either (LeftActs (reach r) table lent) (reachChecks family policy r table lent)
+  left-acts (reach policy r) table lent =
+      decided-either (LeftActs (reach policy r) table lent) (reachChecks family policy r table lent)
       (appliedAll (announcingEach family policy r table) lent) (refusedWhole table lent)
-      (λ hold. each-acts (λ rule. announcement (announcementIn r rule)) (reachRules family (r .attribute) .items) table lent)
-      (refused-acts (reach r) table lent)
+      (λ hold. each-acts (λ rule. announcement policy (announcementIn r rule)) (reachRules family (r .attribute) .items) table lent)
+      (refused-acts (reach policy r) table lent)
   left-acts (unreach attribute) table lent =
       decided-either (LeftActs (unreach attribute) table lent) (unreachChecks family attribute table lent)
       (appliedAll (withdrawingEach family attribute table) lent) (refusedWhole table lent)
@@ -111,57 +134,73 @@ module _ (family : Family) (policy : Policy) where
       (refused-acts (unreach attribute) table lent)
 
   promised-acts : (attribute : Attribute) (table lent : List ℕ) (answer : Applied) (left words : List ℕ)
-      → WholePromised family policy attribute table lent answer left words
-      → ActsAs table lent answer left words (historyOf family policy table (standsFor family attribute answer))
-  promised-acts (reach r) table lent answer left words p = rw (p .is, p .leaves, p .lists) (left-acts (reach r) table lent)
+      → WholePromised family attribute table lent answer left words
+      → ActsAs table lent answer left words (historyOf family table (standsFor family attribute answer))
+  promised-acts (reach policy r) table lent answer left words p = rw (p .is, p .leaves, p .lists) (left-acts (reach policy r) table lent)
   promised-acts (unreach attribute) table lent answer left words p = rw (p .is, p .leaves, p .lists) (left-acts (unreach attribute) table lent)
 
   -- **nobody can tell the difference**: a call with a whole attribute, answered whatever, does on its table what the single calls do that it
   -- stands for: they leave one table, and the answer words are the numbers of these calls, before the rest of what was lent
-  pub whole-acts : (w : Whole) (table : List ℕ) → EventPromised family policy table (whole w)
-      → ActsAs table (w .lent) (w .answer) (w .left) (w .words) (singlesIn family policy table (whole w))
+  pub whole-acts : (w : Whole) (table : List ℕ) → EventPromised family table (whole w)
+      → ActsAs table (w .lent) (w .answer) (w .left) (w .words) (singlesIn family table (whole w))
   whole-acts w table p = promised-acts (w .attribute) table (w .lent) (w .answer) (w .left) (w .words) p
 
   -- one event
-  event-happened : (e : Event) (table : List ℕ) → EventPromised family policy table e → Happened family policy table (singlesIn family policy table e)
+  event-happened : (e : Event) (table : List ℕ) → EventPromised family table e → Happened family table (singlesIn family table e)
   event-happened (single m) table p = (p, tt)
-  event-happened (whole w) table p = happens family policy (standsFor family (w .attribute) (w .answer)) table
+  event-happened (whole w) table p = happens family (standsFor family (w .attribute) (w .answer)) table
 
-  event-end : (e : Event) (table : List ℕ) → EventPromised family policy table e → endOf table (singlesIn family policy table e) ≡ leftBy e
+  event-end : (e : Event) (table : List ℕ) → EventPromised family table e → endOf table (singlesIn family table e) ≡ leftBy e
   event-end (single m) table p = refl
   event-end (whole w) table p = sym (whole-acts w table p .leaves)
 
-  event-given : (e : Event) (table : List ℕ) → EventCanBe e → EachCanBe (singlesIn family policy table e)
+  event-given : (e : Event) (table : List ℕ) → EventCanBe e → EachCanBe (singlesIn family table e)
   event-given (single m) table can = (can, tt)
   event-given (whole w) table can =
-      each-given family policy (standsFor family (w .attribute) (w .answer)) table (stands-given family (w .attribute) (w .answer) can)
+      each-given family (standsFor family (w .attribute) (w .answer)) table (stands-given family (w .attribute) (w .answer) can)
 
   -- **events are a history of single calls**, with the same end
-  pub singles-happened : (es : List Event) (table : List ℕ) → EventsHappened family policy table es
-      → Happened family policy table (singlesOf family policy table es)
+  pub singles-happened : (es : List Event) (table : List ℕ) → EventsHappened family table es
+      → Happened family table (singlesOf family table es)
   singles-happened [] table made = tt
   singles-happened (e ∷ es) table made =
-      let rest = singlesOf family policy (leftBy e) es in
-      happened-append (singlesIn family policy table e) rest table (event-happened e table (made .0))
-      (subst (λ t. Happened family policy t rest) (sym (event-end e table (made .0))) (singles-happened es (leftBy e) (made .1)))
+      let rest = singlesOf family (leftBy e) es in
+      happened-append (singlesIn family table e) rest table (event-happened e table (made .0))
+      (subst (λ t. Happened family t rest) (sym (event-end e table (made .0))) (singles-happened es (leftBy e) (made .1)))
 
-  pub singles-end : (es : List Event) (table : List ℕ) → EventsHappened family policy table es
-      → endOf table (singlesOf family policy table es) ≡ endOfEvents table es
+  pub singles-end : (es : List Event) (table : List ℕ) → EventsHappened family table es
+      → endOf table (singlesOf family table es) ≡ endOfEvents table es
   singles-end [] table made = refl
   singles-end (e ∷ es) table made =
-      let rest = singlesOf family policy (leftBy e) es in
-      end-append table (singlesIn family policy table e) rest
+      let rest = singlesOf family (leftBy e) es in
+      end-append table (singlesIn family table e) rest
       ∙ ap (λ (t : List ℕ). endOf t rest) (event-end e table (made .0))
       ∙ singles-end es (leftBy e) (made .1)
 
-  singles-given : (es : List Event) (table : List ℕ) → Each EventCanBe es → EachCanBe (singlesOf family policy table es)
+  singles-given : (es : List Event) (table : List ℕ) → Each EventCanBe es → EachCanBe (singlesOf family table es)
   singles-given [] table can = tt
   singles-given (e ∷ es) table can =
-      given-append (singlesIn family policy table e) (singlesOf family policy (leftBy e) es) (event-given e table (can .0))
+      given-append (singlesIn family table e) (singlesOf family (leftBy e) es) (event-given e table (can .0))
       (singles-given es (leftBy e) (can .1))
 
+  -- single calls are lent what the events were
+  each-lent : (policy : Policy) (calls : List Call) (table : List ℕ) → Each (LentPolicy policy) calls → SamePolicy policy (historyOf family table calls)
+  each-lent policy [] table same = tt
+  each-lent policy (call ∷ calls) table same = (same .0, each-lent policy calls (outcomeOf family call table .table) (same .1))
+
+  event-lent : (policy : Policy) (e : Event) (table : List ℕ) → EventLent policy e → SamePolicy policy (singlesIn family table e)
+  event-lent policy (single m) table same = (same, tt)
+  event-lent policy (whole w) table same =
+      each-lent policy (standsFor family (w .attribute) (w .answer)) table (stands-lent family policy (w .attribute) (w .answer) same)
+
+  pub singles-lent : (policy : Policy) (es : List Event) (table : List ℕ) → SameThroughout policy es → SamePolicy policy (singlesOf family table es)
+  singles-lent policy [] table same = tt
+  singles-lent policy (e ∷ es) table same =
+      same-append policy (singlesIn family table e) (singlesOf family (leftBy e) es) (event-lent policy e table (same .0))
+      (singles-lent policy es (leftBy e) (same .1))
+
   -- single calls alone are events, which stand for themselves
-  singles-events : (h : List Made) (table : List ℕ) → Happened family policy table h → EventsHappened family policy table (map single h)
+  singles-events : (h : List Made) (table : List ℕ) → Happened family table h → EventsHappened family table (map single h)
   singles-events [] table made = tt
   singles-events (m ∷ h) table made = (made .0, singles-events h (m .left) (made .1))
 
@@ -169,16 +208,20 @@ module _ (family : Family) (policy : Policy) where
   given-events [] can = tt
   given-events (m ∷ h) can = (can .0, given-events h (can .1))
 
-  pub singles-back : (h : List Made) (table : List ℕ) → singlesOf family policy table (map single h) ≡ h
+  pub lent-events : (policy : Policy) (h : List Made) → SamePolicy policy h → SameThroughout policy (map single h)
+  lent-events policy [] same = tt
+  lent-events policy (m ∷ h) same = (same .0, lent-events policy h (same .1))
+
+  pub singles-back : (h : List Made) (table : List ℕ) → singlesOf family table (map single h) ≡ h
   singles-back [] table = refl
   singles-back (m ∷ h) table = ap (λ (rest : List Made). m ∷ rest) (singles-back h (m .left))
 
   module _ (n : ℕ) where
-    pub singles-from-empty : (h : List Made) → FromEmpty family policy n h → EventsFromEmpty family policy n (map single h)
+    pub singles-from-empty : (h : List Made) → FromEmpty family n h → EventsFromEmpty family n (map single h)
     singles-from-empty h made =
         record { fits = made .fits; given = given-events h (made .given); happened = singles-events h (emptyTable n) (made .happened) }
 
-    pub events-from-empty : (es : List Event) → EventsFromEmpty family policy n es → FromEmpty family policy n (singlesOf family policy (emptyTable n) es)
+    pub events-from-empty : (es : List Event) → EventsFromEmpty family n es → FromEmpty family n (singlesOf family (emptyTable n) es)
     events-from-empty es made =
         record {
           fits = made .fits;
@@ -187,20 +230,21 @@ module _ (family : Family) (policy : Policy) where
         }
 
     -- **the table holds exactly what is in force** after the single calls that the events stand for
-    pub events-hold : (es : List Event) → EventsFromEmpty family policy n es
-        → HoldsExactly family policy n (singlesOf family policy (emptyTable n) es) (endOfEvents (emptyTable n) es)
+    pub events-hold : (es : List Event) → EventsFromEmpty family n es
+        → HoldsExactly family n (singlesOf family (emptyTable n) es) (endOfEvents (emptyTable n) es)
     events-hold es made =
-        subst (λ table. HoldsExactly family policy n (singlesOf family policy (emptyTable n) es) table)
+        subst (λ table. HoldsExactly family n (singlesOf family (emptyTable n) es) table)
         (singles-end es (emptyTable n) (made .happened))
-        (history-holds family policy n (singlesOf family policy (emptyTable n) es) (events-from-empty es made))
+        (history-holds family n (singlesOf family (emptyTable n) es) (events-from-empty es made))
 
     -- **two histories of events** whose single calls agree on each rule's last counted call end alike
-    pub events-alike : Fits family → (es fs : List Event) → EventsFromEmpty family policy n es → EventsFromEmpty family policy n fs
-        → Agree family policy (singlesOf family policy (emptyTable n) es) (singlesOf family policy (emptyTable n) fs)
+    pub events-alike : Fits family → (policy : Policy) (es fs : List Event) → EventsFromEmpty family n es → EventsFromEmpty family n fs
+        → SameThroughout policy es → SameThroughout policy fs
+        → Agree family (singlesOf family (emptyTable n) es) (singlesOf family (emptyTable n) fs)
         → EndAlike family (endOfEvents (emptyTable n) es) (endOfEvents (emptyTable n) fs)
-    events-alike fits es fs made also agree =
-        let alike = histories-alike family policy fits n (singlesOf family policy (emptyTable n) es) (singlesOf family policy (emptyTable n) fs)
-        (events-from-empty es made) (events-from-empty fs also) agree in
+    events-alike fits policy es fs made also same one agree =
+        let alike = histories-alike family policy fits n (singlesOf family (emptyTable n) es) (singlesOf family (emptyTable n) fs)
+        (events-from-empty es made) (events-from-empty fs also) (singles-lent policy es (emptyTable n) same) (singles-lent policy fs (emptyTable n) one) agree in
         subst (λ table. EndAlike family table (endOfEvents (emptyTable n) fs)) (singles-end es (emptyTable n) (made .happened))
-        (subst (λ other. EndAlike family (endOf (emptyTable n) (singlesOf family policy (emptyTable n) es)) other)
+        (subst (λ other. EndAlike family (endOf (emptyTable n) (singlesOf family (emptyTable n) es)) other)
         (singles-end fs (emptyTable n) (also .happened)) alike)

@@ -1,6 +1,6 @@
--- **Demand 3** (`HoldsExactly`): from an all-zero buffer of at most 65,536 octets that only these calls write, after any history the table
--- holds exactly the entries that each rule's last counted call left in force, once, in precedence order; so that two histories which
--- leave the same in force end in equal octets. A call that is answered 11 changes nothing and does not count, so that nothing is asked
+-- **Demand 3** (`HoldsExactly`): from an all-zero buffer of at most 65,536 octets that only these calls write, after any history, by whatever
+-- routes each call was judged, the table holds exactly the entries that each rule's last counted call left in force, once, in precedence
+-- order; so that two histories which leave the same in force end in equal octets. A call that is answered 11 changes nothing and does not count, so that nothing is asked
 -- of those.
 use mathlib.Core.Path.{_≡_, refl, sym, ap₂, subst, _∙_}
 use mathlib.Core.Bool.{Bool, true, false}
@@ -102,11 +102,11 @@ asked-could family policy a o small =
         (plain-held family (valueOf (a .rule) start size) octets (one-read family (a .rule) start size (from .read) .accepted))
 
 -- one call
-module _ (family : Family) (policy : Policy) (t : List ℕ) (es : List Entry) (c : Encodes family t es) where
-  same-announcing : (a : Announcement) → Octets (a .rule) → a .originator < 2 ^ 32
-      → Same family (length t) (announcing family policy a t) (apply keyOrder (entryKey family) cost (length t) (operationOf family policy (announcement a)) es)
+module _ (family : Family) (t : List ℕ) (es : List Entry) (c : Encodes family t es) where
+  same-announcing : (policy : Policy) (a : Announcement) → Octets (a .rule) → a .originator < 2 ^ 32
+      → Same family (length t) (announcing family policy a t) (apply keyOrder (entryKey family) cost (length t) (operationOf family (announcement policy a)) es)
   unfolding announcing
-  same-announcing a o small =
+  same-announcing policy a o small =
       rw (encodes-sound family t es c) (go (requestOf family policy a) (asked-could family policy a o small))
     where
       go : (r : Request) → Could family a r
@@ -116,7 +116,7 @@ module _ (family : Family) (policy : Policy) (t : List ℕ) (es : List Entry) (c
           same-announced family t es c (announcedEntry family a start size actions) feasible ok
 
   same-withdrawing : (rule : List ℕ)
-      → Same family (length t) (withdrawing family rule t) (apply keyOrder (entryKey family) cost (length t) (operationOf family policy (withdrawal rule)) es)
+      → Same family (length t) (withdrawing family rule t) (apply keyOrder (entryKey family) cost (length t) (operationOf family (withdrawal rule)) es)
   unfolding withdrawing
   same-withdrawing rule = rw (encodes-sound family t es c) (go (oneRule family rule))
     where
@@ -124,33 +124,33 @@ module _ (family : Family) (policy : Policy) (t : List ℕ) (es : List Entry) (c
       go (NotRead number place) = record { answers = refl; encodes = c; long = refl }
       go (Rule start size) = same-withdrawn family t es c (keysOf family (plain family (valueOf rule start size)))
 
-  same-made : (call : Call) (answer : Change) (left : List ℕ) → CanBe call → Promised family policy call t answer left
-      → Same family (length t) (record { answer = answer; table = left }) (apply keyOrder (entryKey family) cost (length t) (operationOf family policy call) es)
-  same-made (announcement a) answer left can p = rw (p .is, p .leaves) (same-announcing a (can .0) (can .1))
+  same-made : (call : Call) (answer : Change) (left : List ℕ) → CanBe call → Promised family call t answer left
+      → Same family (length t) (record { answer = answer; table = left }) (apply keyOrder (entryKey family) cost (length t) (operationOf family call) es)
+  same-made (announcement policy a) answer left can p = rw (p .is, p .leaves) (same-announcing policy a (can .0) (can .1))
   same-made (withdrawal rule) answer left can p = rw (p .is, p .leaves) (same-withdrawing rule)
 
 -- any history: the table at its end encodes the entries that the same calls leave on lists, and each call was answered as it is there
-module _ (family : Family) (policy : Policy) where
+module _ (family : Family) where
   step : (n : ℕ) (m : Made) (t : List ℕ) (es : List Entry) → Encodes family t es → length t ≡ n → CanBe (m .call)
-      → Promised family policy (m .call) t (m .answer) (m .left)
-      → Same family n (record { answer = m .answer; table = m .left }) (apply keyOrder (entryKey family) cost n (operationMade family policy m) es)
+      → Promised family (m .call) t (m .answer) (m .left)
+      → Same family n (record { answer = m .answer; table = m .left }) (apply keyOrder (entryKey family) cost n (operationMade family m) es)
   step n m t es c long can made =
       subst
-      (λ (size : ℕ). Same family size (record { answer = m .answer; table = m .left }) (apply keyOrder (entryKey family) cost size (operationMade family policy m) es))
+      (λ (size : ℕ). Same family size (record { answer = m .answer; table = m .left }) (apply keyOrder (entryKey family) cost size (operationMade family m) es))
       long
-      (same-made family policy t es c (m .call) (m .answer) (m .left) can made)
+      (same-made family t es c (m .call) (m .answer) (m .left) can made)
 
   record Follows (n : ℕ) (h : List Made) (t : List ℕ) (es : List Entry) : Type 0 where
-    pub encodes : Encodes family (endOf t h) (run keyOrder (entryKey family) cost n (operationMade family policy) h es)
+    pub encodes : Encodes family (endOf t h) (run keyOrder (entryKey family) cost n (operationMade family) h es)
     pub long : length (endOf t h) ≡ n
-    pub ran : Ran keyOrder (entryKey family) cost n (operationMade family policy) numberOf h es
+    pub ran : Ran keyOrder (entryKey family) cost n (operationMade family) numberOf h es
 
-  follows : (n : ℕ) (h : List Made) (t : List ℕ) (es : List Entry) → Encodes family t es → length t ≡ n → EachCanBe h → Happened family policy t h
+  follows : (n : ℕ) (h : List Made) (t : List ℕ) (es : List Entry) → Encodes family t es → length t ≡ n → EachCanBe h → Happened family t h
       → Follows n h t es
   follows n [] t es c long can made = record { encodes = c; long = long; ran = tt }
   follows n (m ∷ h) t es c long can made =
       let same = step n m t es c long (can .0) (made .0) in
-      let rest = follows n h (m .left) (apply keyOrder (entryKey family) cost n (operationMade family policy m) es .table) (same .encodes) (same .long) (can .1) (made .1) in
+      let rest = follows n h (m .left) (apply keyOrder (entryKey family) cost n (operationMade family m) es .table) (same .encodes) (same .long) (can .1) (made .1) in
       record { encodes = rest .encodes; long = rest .long; ran = (same .answers, rest .ran) }
 
 -- the empty table is the encoding of no entries
@@ -163,35 +163,35 @@ empty-encodes family n h =
     let long = long-empty n in
     record { short = omega arith; room = omega arith; each = refl; rising = tt; is = rw (long, sub-zero n) }
 
-module _ (family : Family) (policy : Policy) (n : ℕ) where
+module _ (family : Family) (n : ℕ) where
   -- the table after a history that began at an empty table
   abbrev pub after : List Made → List ℕ
   after h = endOf (emptyTable n) h
 
-  module _ (h : List Made) (made : FromEmpty family policy n h) where
+  module _ (h : List Made) (made : FromEmpty family n h) where
     abbrev left : List Entry
-    left = run keyOrder (entryKey family) cost n (operationMade family policy) h []
+    left = run keyOrder (entryKey family) cost n (operationMade family) h []
 
-    followed : Follows family policy n h (emptyTable n) []
-    followed = follows family policy n h (emptyTable n) [] (empty-encodes family n (made .fits)) (long-empty n) (made .given) (made .happened)
+    followed : Follows family n h (emptyTable n) []
+    followed = follows family n h (emptyTable n) [] (empty-encodes family n (made .fits)) (long-empty n) (made .given) (made .happened)
 
     entries-left : entries (after h) ≡ left
     entries-left = encodes-entries family (after h) left (followed .encodes)
 
     -- **the table holds exactly what is in force**
-    pub history-holds : HoldsExactly family policy n h (after h)
+    pub history-holds : HoldsExactly family n h (after h)
     history-holds =
         record {
-          exactly = λ e. rw entries-left (run-holds keyOrder (entryKey family) cost n (operationMade family policy) numberOf key-order h (followed .ran) e);
+          exactly = λ e. rw entries-left (run-holds keyOrder (entryKey family) cost n (operationMade family) numberOf key-order h (followed .ran) e);
           sound = rw entries-left (followed .encodes);
           sized = followed .long;
         }
 
   -- **two histories** that leave the same in force for every rule end in equal octets
-  pub histories-agree : (h g : List Made) → FromEmpty family policy n h → FromEmpty family policy n g
-      → ((k : RuleKey) → inForceAfter family policy h k ≡ inForceAfter family policy g k) → after h ≡ after g
+  pub histories-agree : (h g : List Made) → FromEmpty family n h → FromEmpty family n g
+      → ((k : RuleKey) → inForceAfter family h k ≡ inForceAfter family g k) → after h ≡ after g
   histories-agree h g made also agree =
       let first = followed h made in
       let second = followed g also in
-      let same = run-agree keyOrder (entryKey family) cost n (operationMade family policy) numberOf key-order h g (first .ran) (second .ran) agree in
+      let same = run-agree keyOrder (entryKey family) cost n (operationMade family) numberOf key-order h g (first .ran) (second .ran) agree in
       first .encodes .is ∙ ap₂ tableOf (first .long ∙ sym (second .long)) same ∙ sym (second .encodes .is)

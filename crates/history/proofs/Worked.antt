@@ -65,12 +65,12 @@ use Rattle.attribute.specs.Head.{afiOf, isOfFamily, isReach, isUnreach}
 use Rattle.attribute.specs.Rules.{ruleAt, rulesFrom}
 use Rattle.update.specs.declared.Applied.the-variants.{Done as DoneAll}
 use Rattle.update.specs.Apply.{reaching, unreaching}
-use Rattle.history.specs.History.{announced, withdrew, deedOf, emptyTable, endOf, lastCounted, inForceAfter, Agree, FromEmpty, HoldsExactly, EndAlike}
+use Rattle.history.specs.History.{announced, withdrew, deedOf, emptyTable, endOf, lastCounted, inForceAfter, SamePolicy, Agree, FromEmpty, HoldsExactly, EndAlike}
 use Rattle.history.specs.Attributes.{reach, unreach, single, endOfEvents, singlesOf, EventsFromEmpty}
 use Rattle.history.specs.Worked.{policy, mail, mailValue, mailSpelled, ping, pingValue, dropping, droppingSpelled, drops, marks, mailEntry, mailTable, pingTable, bothTable, owned, foreign, respelled, pinged, worked, other, droppedTable, bothReached, pingUnreached, attributes, pingDropped, standing, mailTo}
 use Rattle.history.proofs.HistoryLaws.{history-holds}
 use Rattle.history.proofs.AgreeLaws.{tie, histories-alike}
-use Rattle.history.proofs.AttributeLaws.{singles-from-empty, events-alike}
+use Rattle.history.proofs.AttributeLaws.{singles-from-empty, lent-events, events-alike}
 use Rattle.history.proofs.AttributesHappen.{left-promised}
 
 -- octets, by a test
@@ -96,7 +96,7 @@ record Computed : Type 0 where
   pub reaches : reaching ipv4 policy bothReached (emptyTable 96) (99 ∷ 99 ∷ 99 ∷ [])
       ≡ record { answer = DoneAll 2; table = droppedTable; words = 0 ∷ 0 ∷ 99 ∷ [] }
   pub unreaches : unreaching ipv4 pingUnreached droppedTable (99 ∷ []) ≡ record { answer = DoneAll 1; table = mailTable; words = 0 ∷ [] }
-  pub stands : singlesOf ipv4 policy (emptyTable 96) attributes ≡ standing
+  pub stands : singlesOf ipv4 (emptyTable 96) attributes ≡ standing
   pub askedOwned : requestOf ipv4 policy owned ≡ Announce 1 12 drops true
   pub askedForeign : requestOf ipv4 policy foreign ≡ Announce 1 12 drops false
   pub askedSpelled : requestOf ipv4 policy respelled ≡ Announce 2 12 drops true
@@ -113,8 +113,8 @@ record Computed : Type 0 where
   pub octetsSpelled : every (λ x. ltb x 256) mailSpelled ≡ true
   pub octetsPing : every (λ x. ltb x 256) ping ≡ true
   pub octetsReached : every (λ x. ltb x 256) (bothReached .attribute) ≡ true
-  pub inForce : inForceAfter ipv4 policy worked (entryKey ipv4 mailEntry) ≡ some mailEntry
-  pub gone : inForceAfter ipv4 policy worked (keysOf ipv4 pingValue) ≡ none
+  pub inForce : inForceAfter ipv4 worked (entryKey ipv4 mailEntry) ≡ some mailEntry
+  pub gone : inForceAfter ipv4 worked (keysOf ipv4 pingValue) ≡ none
   pub judgesMatched : lookupTold (lookingUp ipv4 mailTable (mailTo 5)) ≡ done (1 ∷ 1 ∷ 0 ∷ 0 ∷ 0 ∷ 0 ∷ [])
   pub judgesUnmatched : lookupTold (lookingUp ipv4 mailTable (mailTo 200)) ≡ done (replicate 6 0)
 
@@ -167,7 +167,7 @@ computed =
     }
 
 -- **the histories happen**
-pub worked-happened : FromEmpty ipv4 policy 96 worked
+pub worked-happened : FromEmpty ipv4 96 worked
 worked-happened =
     let rule = octets-each mail (computed .octetsMail) in
     record {
@@ -188,7 +188,7 @@ worked-happened =
       );
     }
 
-pub other-happened : FromEmpty ipv4 policy 96 other
+pub other-happened : FromEmpty ipv4 96 other
 other-happened =
     record {
       fits = omega arith;
@@ -199,27 +199,27 @@ other-happened =
       );
     }
 
-pub attributes-happened : EventsFromEmpty ipv4 policy 96 attributes
+pub attributes-happened : EventsFromEmpty ipv4 96 attributes
 attributes-happened =
     record {
       fits = omega arith;
       given = ((octets-each (bothReached .attribute) (computed .octetsReached), omega arith), (tt, tt));
       happened = (
-        left-promised ipv4 policy (reach bothReached) (emptyTable 96) (99 ∷ 99 ∷ 99 ∷ []) _ (computed .reaches),
-        (left-promised ipv4 policy (unreach pingUnreached) droppedTable (99 ∷ []) _ (computed .unreaches), tt),
+        left-promised ipv4 (reach policy bothReached) (emptyTable 96) (99 ∷ 99 ∷ 99 ∷ []) _ (computed .reaches),
+        (left-promised ipv4 (unreach pingUnreached) droppedTable (99 ∷ []) _ (computed .unreaches), tt),
       );
     }
 
 -- **the first ends in a table that holds exactly what is in force**: mail, with its originator and actions, and not ping
-pub worked-holds : HoldsExactly ipv4 policy 96 worked (endOf (emptyTable 96) worked)
-worked-holds = history-holds ipv4 policy 96 worked worked-happened
+pub worked-holds : HoldsExactly ipv4 96 worked (endOf (emptyTable 96) worked)
+worked-holds = history-holds ipv4 96 worked worked-happened
 
 pub mail-held : List·Memᴰ mailEntry (entries (endOf (emptyTable 96) worked))
 mail-held = worked-holds .exactly mailEntry .1 (computed .inForce)
 
 pub ping-gone : (e : Entry) → entryKey ipv4 e ≡ keysOf ipv4 pingValue → List·Memᴰ e (entries (endOf (emptyTable 96) worked)) → ⊥
 ping-gone e same stands =
-    let left : none ≡ some e = sym (computed .gone) ∙ ap (inForceAfter ipv4 policy worked) (sym same) ∙ worked-holds .exactly e .0 stands in
+    let left : none ≡ some e = sym (computed .gone) ∙ ap (inForceAfter ipv4 worked) (sym same) ∙ worked-holds .exactly e .0 stands in
     apart (cc)
 
 -- **a packet to mail's host is matched** there by one rule, which drops it; one to a host outside its prefix is not
@@ -239,19 +239,19 @@ module _ (k : RuleKey) where
   abbrev aboutPing : Bool
   aboutPing = isEq (keyOrder k (keysOf ipv4 pingValue))
 
-  last-worked : deedOf (lastCounted ipv4 policy k worked)
+  last-worked : deedOf (lastCounted ipv4 k worked)
       ≡ cond aboutPing (some withdrew) (cond aboutMail (some (announced 7 (Read drops))) none)
   last-worked =
       rw (computed .askedOwned, computed .askedForeign, computed .askedPinged, computed .readPing, computed .plainMail, computed .plainPing)
       (by-test aboutPing (λ e. rw e) (λ e. by-test aboutMail (λ f. rw (e, f, computed .read)) (λ f. rw (e, f))))
 
-  last-standing : deedOf (lastCounted ipv4 policy k standing)
+  last-standing : deedOf (lastCounted ipv4 k standing)
       ≡ cond aboutPing (some withdrew) (cond aboutMail (some (announced 7 (Read drops))) none)
   last-standing =
       rw (computed .askedOwned, computed .askedDropped, computed .readPing, computed .plainMail, computed .plainPing)
       (by-test aboutPing (λ e. rw e) (λ e. by-test aboutMail (λ f. rw (e, f, computed .read)) (λ f. rw (e, f))))
 
-  last-other : deedOf (lastCounted ipv4 policy k other)
+  last-other : deedOf (lastCounted ipv4 k other)
       ≡ cond aboutMail (some (announced 7 (Read drops))) (cond aboutPing (some withdrew) none)
   last-other =
       rw (computed .askedSpelled, computed .readPing, computed .plainSpelled, computed .plainPing)
@@ -260,24 +260,31 @@ module _ (k : RuleKey) where
   not-both : aboutMail ≡ true → aboutPing ≡ false
   not-both e = rw (key-order .only k (keysOf ipv4 mailValue) (tie _ e)) (computed .differ)
 
-  same-deed : deedOf (lastCounted ipv4 policy k worked) ≡ deedOf (lastCounted ipv4 policy k other)
+  same-deed : deedOf (lastCounted ipv4 k worked) ≡ deedOf (lastCounted ipv4 k other)
   same-deed =
       last-worked
       ∙ by-test aboutMail (λ e. rw (e, not-both e)) (λ e. rw e)
       ∙ sym last-other
 
+-- all calls were lent one policy
+worked-lent : SamePolicy policy worked
+worked-lent = (refl, (refl, (refl, (refl, (tt, tt)))))
+
+other-lent : SamePolicy policy other
+other-lent = (tt, (refl, tt))
+
 -- **the first two agree, and end alike**
-pub worked-agree : Agree ipv4 policy worked other
+pub worked-agree : Agree ipv4 worked other
 worked-agree k = same-deed k
 
 pub worked-alike : EndAlike ipv4 (endOf (emptyTable 96) worked) (endOf (emptyTable 96) other)
-worked-alike = histories-alike ipv4 policy ipv4-fits 96 worked other worked-happened other-happened worked-agree
+worked-alike = histories-alike ipv4 policy ipv4-fits 96 worked other worked-happened other-happened worked-lent other-lent worked-agree
 
 -- **the attributes stand for single calls that agree with the first, and end alike**
-pub attributes-agree : Agree ipv4 policy (singlesOf ipv4 policy (emptyTable 96) attributes) worked
-attributes-agree k = ap (λ h. deedOf (lastCounted ipv4 policy k h)) (computed .stands) ∙ last-standing k ∙ sym (last-worked k)
+pub attributes-agree : Agree ipv4 (singlesOf ipv4 (emptyTable 96) attributes) worked
+attributes-agree k = ap (λ h. deedOf (lastCounted ipv4 k h)) (computed .stands) ∙ last-standing k ∙ sym (last-worked k)
 
 pub attributes-alike : EndAlike ipv4 (endOfEvents (emptyTable 96) attributes) (endOf (emptyTable 96) worked)
 attributes-alike =
-    events-alike ipv4 policy 96 ipv4-fits attributes (map single worked) attributes-happened
-    (singles-from-empty ipv4 policy 96 worked worked-happened) attributes-agree
+    events-alike ipv4 96 ipv4-fits policy attributes (map single worked) attributes-happened
+    (singles-from-empty ipv4 96 worked worked-happened) (refl, (tt, tt)) (lent-events ipv4 policy worked worked-lent) attributes-agree

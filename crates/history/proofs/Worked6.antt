@@ -88,8 +88,8 @@ record Computed : Type 0 where
   pub octetsMail : every (λ x. ltb x 256) mailSix ≡ true
   pub octetsSpelled : every (λ x. ltb x 256) (respelledSix .rule) ≡ true
   pub octetsHosts : every (λ x. ltb x 256) hosts ≡ true
-  pub inForce : inForceAfter ipv6 policySix workedSix (entryKey ipv6 mailEntrySix) ≡ some mailEntrySix
-  pub gone : inForceAfter ipv6 policySix workedSix (keysOf ipv6 hostValue) ≡ none
+  pub inForce : inForceAfter ipv6 workedSix (entryKey ipv6 mailEntrySix) ≡ some mailEntrySix
+  pub gone : inForceAfter ipv6 workedSix (keysOf ipv6 hostValue) ≡ none
   pub made : soundTable ipv6 hostTable ≡ true
   pub removesMade : announcing ipv6 policySix shifted hostTable ≡ record { answer = Refused 8 0; table = emptyTable 64 }
   pub reaches : reaching ipv6 policySix (reachOf (0 ∷ 2 ∷ 133 ∷ 0 ∷ 0 ∷ mailSix ++ hosts) 7 dropping) (emptyTable 64) (99 ∷ 99 ∷ 99 ∷ [])
@@ -143,7 +143,7 @@ computed =
     }
 
 -- **the histories happen**
-pub worked-six-happened : FromEmpty ipv6 policySix 64 workedSix
+pub worked-six-happened : FromEmpty ipv6 64 workedSix
 worked-six-happened =
     record {
       fits = omega arith;
@@ -154,7 +154,7 @@ worked-six-happened =
       );
     }
 
-pub other-six-happened : FromEmpty ipv6 policySix 64 otherSix
+pub other-six-happened : FromEmpty ipv6 64 otherSix
 other-six-happened =
     record {
       fits = omega arith;
@@ -166,15 +166,15 @@ other-six-happened =
     }
 
 -- **the first ends in a table that holds exactly what is in force**: mail, with its originator and actions, and not the hosts
-pub worked-six-holds : HoldsExactly ipv6 policySix 64 workedSix (endOf (emptyTable 64) workedSix)
-worked-six-holds = history-holds ipv6 policySix 64 workedSix worked-six-happened
+pub worked-six-holds : HoldsExactly ipv6 64 workedSix (endOf (emptyTable 64) workedSix)
+worked-six-holds = history-holds ipv6 64 workedSix worked-six-happened
 
 pub mail-six-held : List·Memᴰ mailEntrySix (entries (endOf (emptyTable 64) workedSix))
 mail-six-held = worked-six-holds .exactly mailEntrySix .1 (computed .inForce)
 
 pub hosts-not-held : (e : Entry) → entryKey ipv6 e ≡ keysOf ipv6 hostValue → List·Memᴰ e (entries (endOf (emptyTable 64) workedSix)) → ⊥
 hosts-not-held e same stands =
-    let left : none ≡ some e = sym (computed .gone) ∙ ap (inForceAfter ipv6 policySix workedSix) (sym same) ∙ worked-six-holds .exactly e .0 stands in
+    let left : none ≡ some e = sym (computed .gone) ∙ ap (inForceAfter ipv6 workedSix) (sym same) ∙ worked-six-holds .exactly e .0 stands in
     apart (cc)
 
 -- **a packet to mail's host is matched** there by one rule, which drops it; one to a host outside its prefix is not
@@ -194,27 +194,27 @@ module _ (k : RuleKey) where
   abbrev aboutHosts : Bool
   aboutHosts = isEq (keyOrder k (keysOf ipv6 hostValue))
 
-  last-worked : deedOf (lastCounted ipv6 policySix k workedSix)
+  last-worked : deedOf (lastCounted ipv6 k workedSix)
       ≡ cond aboutHosts (some (announced 7 (Read drops))) (cond aboutMail (some (announced 7 (Read drops))) none)
   last-worked =
       rw (computed .askedOwned, computed .askedShifted, computed .plainMail, computed .plainHosts)
       (by-test aboutHosts (λ e. rw (e, computed .read)) (λ e. by-test aboutMail (λ f. rw (e, f, computed .read)) (λ f. rw (e, f))))
 
-  last-other : deedOf (lastCounted ipv6 policySix k otherSix)
+  last-other : deedOf (lastCounted ipv6 k otherSix)
       ≡ cond aboutMail (some (announced 7 (Read drops))) (cond aboutHosts (some (announced 7 (Read drops))) none)
   last-other =
       rw (computed .askedSpelled, computed .askedShifted, computed .plainSpelled, computed .plainHosts)
       (by-test aboutMail (λ e. rw (e, computed .readSpelled)) (λ e. by-test aboutHosts (λ f. rw (e, f, computed .read)) (λ f. rw (e, f))))
 
-  same-deed : deedOf (lastCounted ipv6 policySix k workedSix) ≡ deedOf (lastCounted ipv6 policySix k otherSix)
+  same-deed : deedOf (lastCounted ipv6 k workedSix) ≡ deedOf (lastCounted ipv6 k otherSix)
   same-deed =
       last-worked
       ∙ by-test aboutMail (λ e. by-test aboutHosts (λ f. rw (e, f)) (λ f. rw (e, f))) (λ e. by-test aboutHosts (λ f. rw (e, f)) (λ f. rw (e, f)))
       ∙ sym last-other
 
 -- **they agree, and end alike**
-pub worked-six-agree : Agree ipv6 policySix workedSix otherSix
+pub worked-six-agree : Agree ipv6 workedSix otherSix
 worked-six-agree k = same-deed k
 
 pub worked-six-alike : EndAlike ipv6 (endOf (emptyTable 64) workedSix) (endOf (emptyTable 64) otherSix)
-worked-six-alike = histories-alike ipv6 policySix ipv6-fits 64 workedSix otherSix worked-six-happened other-six-happened worked-six-agree
+worked-six-alike = histories-alike ipv6 policySix ipv6-fits 64 workedSix otherSix worked-six-happened other-six-happened (refl, (refl, tt)) (refl, (refl, tt)) worked-six-agree

@@ -15,11 +15,11 @@ use Rattle.update.specs.declared.Applied.the-variants.{Done, Refused}
 use Rattle.update.specs.Singles.{Reach, announcementIn}
 use Rattle.update.specs.Apply.{Left, reaching, unreaching, appliedTold}
 use Rattle.update.specs.Promise.{Reaches, Unreaches}
-use Rattle.history.specs.History.{Call, announcement, withdrawal, Made, CanBe, Promised, numberOf, endOf, madeOn, historyOf, emptyTable}
+use Rattle.history.specs.History.{Call, announcement, withdrawal, Made, CanBe, Promised, numberOf, LentPolicy, endOf, madeOn, historyOf, emptyTable}
 
--- A whole attribute, with whatever octets it came: a reach, or an unreach.
+-- A whole attribute, with whatever octets it came: a reach, with the routes and the setting that its rules are judged by, or an unreach.
 pub data Attribute : Type 0 where
-  reach : Reach → Attribute
+  reach : Policy → Reach → Attribute
   unreach : List ℕ → Attribute
 
 -- A call with a whole attribute as it was made: what it was given, the answer words that it was lent, its answer, and the answer words and
@@ -58,7 +58,7 @@ endOfEvents table (e ∷ es) = endOfEvents (leftBy e) es
 
 -- One single call for each rule of an attribute, in order, lent the octets of that rule as they stand there.
 abbrev pub callsIn : Family → Attribute → List Call
-callsIn family (reach r) = map (λ rule. announcement (announcementIn r rule)) (reachRules family (r .attribute) .items)
+callsIn family (reach policy r) = map (λ rule. announcement policy (announcementIn r rule)) (reachRules family (r .attribute) .items)
 callsIn family (unreach attribute) = map withdrawal (unreachRules family attribute .items)
 
 -- The single calls that an attribute stands for, by its answer: none where it is refused.
@@ -68,7 +68,7 @@ standsFor family attribute (Refused number place) = []
 
 -- What is asked of what a call is given, and holds by the types of what it is lent: a reach is octets, and its originator has 32 bits.
 abbrev pub AttributeCanBe : Attribute → Type 0
-AttributeCanBe (reach r) = Octets (r .attribute) × (r .originator < 2 ^ 32)
+AttributeCanBe (reach policy r) = Octets (r .attribute) × (r .originator < 2 ^ 32)
 AttributeCanBe (unreach attribute) = Unit {0}
 
 -- The same of a single call or a whole attribute.
@@ -80,6 +80,20 @@ AskedCanBe (askWhole attribute lent) = AttributeCanBe attribute
 abbrev pub EventCanBe : Event → Type 0
 EventCanBe e = AskedCanBe (askedBy e)
 
+-- Demand 3: "with the same routes and setting". An attribute was lent these, where it was lent any.
+abbrev pub AttributeLent : Policy → Attribute → Type 0
+AttributeLent policy (reach lent r) = lent ≡ policy
+AttributeLent policy (unreach attribute) = Unit {0}
+
+-- The same of an event.
+abbrev pub EventLent : Policy → Event → Type 0
+EventLent policy (single m) = LentPolicy policy (m .call)
+EventLent policy (whole w) = AttributeLent policy (w .attribute)
+
+-- The same of all events.
+abbrev pub SameThroughout : Policy → List Event → Type 0
+SameThroughout policy = Each (EventLent policy)
+
 -- **Nobody can tell the difference**: a call with a whole attribute does what single calls do, one after the other, on its table. It leaves
 -- the table that the last of them leaves (`leaves`); its answer words list the numbers that they are answered with, in order, and keep
 -- the rest of what was lent (`lists`); and its answer counts them (`counts`). Of an attribute that is refused, whose own number and place
@@ -89,16 +103,16 @@ pub record ActsAs (table lent : List ℕ) (answer : Applied) (left words : List 
   pub lists : words ≡ map numberOf singles ++ drop (length singles) lent
   pub counts : appliedTold answer .values ≡ length singles ∷ []
 
-module _ (family : Family) (policy : Policy) where
+module _ (family : Family) where
   -- The promise of a call with a whole attribute, with a table at entry.
   abbrev pub WholePromised : Attribute → List ℕ → List ℕ → Applied → List ℕ → List ℕ → Type 0
-  WholePromised (reach r) table lent answer left words =
+  WholePromised (reach policy r) table lent answer left words =
       Reaches family policy r table lent answer left words (policy .routes ∷ r .attribute ∷ r .communities ∷ [])
   WholePromised (unreach attribute) table lent answer left words = Unreaches family attribute table lent answer left words (attribute ∷ [])
 
   -- The promise of what was done to a table.
   abbrev pub EventPromised : List ℕ → Event → Type 0
-  EventPromised table (single m) = Promised family policy (m .call) table (m .answer) (m .left)
+  EventPromised table (single m) = Promised family (m .call) table (m .answer) (m .left)
   EventPromised table (whole w) = WholePromised (w .attribute) table (w .lent) (w .answer) (w .left) (w .words)
 
   -- A history of events from a table on, the oldest first: each keeps its promise on the table that the one before it left.
@@ -108,12 +122,12 @@ module _ (family : Family) (policy : Policy) where
 
   -- What a call with a whole attribute leaves.
   abbrev pub leftOn : Attribute → List ℕ → List ℕ → Left
-  leftOn (reach r) table lent = reaching family policy r table lent
+  leftOn (reach policy r) table lent = reaching family policy r table lent
   leftOn (unreach attribute) table lent = unreaching family attribute table lent
 
   -- What is asked, as it is done to a table.
   abbrev pub eventOn : Asked → List ℕ → Event
-  eventOn (askSingle call) table = single (madeOn family policy call table)
+  eventOn (askSingle call) table = single (madeOn family call table)
   eventOn (askWhole attribute lent) table =
       let left = leftOn attribute table lent in
       whole (record { attribute = attribute; lent = lent; answer = left .answer; words = left .words; left = left .table })
@@ -126,7 +140,7 @@ module _ (family : Family) (policy : Policy) where
   -- The single calls that an event stands for, made on its table.
   abbrev pub singlesIn : List ℕ → Event → List Made
   singlesIn table (single m) = m ∷ []
-  singlesIn table (whole w) = historyOf family policy table (standsFor family (w .attribute) (w .answer))
+  singlesIn table (whole w) = historyOf family table (standsFor family (w .attribute) (w .answer))
 
   -- The history of single calls that events stand for.
   abbrev pub singlesOf : List ℕ → List Event → List Made

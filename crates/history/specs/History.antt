@@ -1,5 +1,6 @@
--- Histories: calls that change one table, each with its answer and the octets it left. A rule is known by its key: two accepted rules have
--- one key exactly when their plain spellings are equal (crate order, KeyLaws: `keys-only` and `keys-same`).
+-- Histories: calls that change one table, each with what it was lent, its answer and the octets it left. Routes and setting may change from
+-- one call to the next. A rule is known by its key: two accepted rules have one key exactly when their plain spellings are equal (crate
+-- order, KeyLaws: `keys-only` and `keys-same`).
 use Prim.Native.Nat.{ℕ, _^_, _<_, _≤_}
 use mathlib.Core.Path.{_≡_}
 use mathlib.Core.List.{List, [], _∷_, List·Memᴰ}
@@ -35,9 +36,10 @@ use Rattle.flowspec.specs.Promise.{Announces, Withdraws, LooksUp, FirstMatches}
 abbrev pub emptyTable : ℕ → List ℕ
 emptyTable n = replicate n 0
 
--- A call, with whatever octets it was given: an announcement, or a withdrawal of a rule.
+-- A call, with whatever octets it was given: an announcement, with the routes and the setting that it was lent to be judged by, or a
+-- withdrawal of a rule.
 pub data Call : Type 0 where
-  announcement : Announcement → Call
+  announcement : Policy → Announcement → Call
   withdrawal : List ℕ → Call
 
 -- What an announcement asks of a table once its input is read and judged: nothing, where that is refused; else to announce an entry,
@@ -64,7 +66,7 @@ numberOf m = changeTold (m .answer) .number
 -- What is asked of what a call is given, and holds by the types of what it is lent: an announced rule is octets, and an originator has 32
 -- bits.
 abbrev pub CanBe : Call → Type 0
-CanBe (announcement a) = Octets (a .rule) × (a .originator < 2 ^ 32)
+CanBe (announcement policy a) = Octets (a .rule) × (a .originator < 2 ^ 32)
 CanBe (withdrawal rule) = Unit {0}
 
 -- What every call of a history is given.
@@ -72,14 +74,14 @@ abbrev pub EachCanBe : List Made → Type 0
 EachCanBe = Each (λ m. CanBe (m .call))
 
 -- What two histories compare of a call: its kind and, of an announcement, the originator and the actions as read. The rule's spelling,
--- the communities' octets and the answer are not compared.
+-- the communities' octets and the answer are not compared, and that both were lent one policy is a premise of its own (`SamePolicy`).
 pub data Deed : Type 0 where
   announced : ℕ → ActionsReading → Deed
   withdrew : Deed
 
 -- What is compared of a call.
 abbrev pub deed : Call → Deed
-deed (announcement a) = announced (a .originator) (actionsOf (a .communities))
+deed (announcement policy a) = announced (a .originator) (actionsOf (a .communities))
 deed (withdrawal rule) = withdrew
 
 -- The same of a call that was made, if there is one.
@@ -87,31 +89,40 @@ abbrev pub deedOf : Option Made → Option Deed
 deedOf none = none
 deedOf (some m) = some (deed (m .call))
 
+-- Demand 3: "with the same routes and setting". A call was lent these, where it was lent any.
+abbrev pub LentPolicy : Policy → Call → Type 0
+LentPolicy policy (announcement lent a) = lent ≡ policy
+LentPolicy policy (withdrawal rule) = Unit {0}
+
+-- The same of every call of a history.
+abbrev pub SamePolicy : Policy → List Made → Type 0
+SamePolicy policy = Each (λ m. LentPolicy policy (m .call))
+
 -- The table at the end of a history.
 abbrev pub endOf : List ℕ → List Made → List ℕ
 endOf table [] = table
 endOf table (m ∷ h) = endOf (m .left) h
 
-module _ (family : Family) (policy : Policy) where
-  -- What a call asks of a table, by its kind.
+module _ (family : Family) where
+  -- What a call asks of a table, by its kind: an announcement is judged by what it was lent.
   abbrev pub operationOf : Call → Op RuleKey Entry
-  operationOf (announcement a) = announceOperation family a (requestOf family policy a)
+  operationOf (announcement policy a) = announceOperation family a (requestOf family policy a)
   operationOf (withdrawal rule) = withdrawOperation family rule (oneRule family rule)
 
   -- A call's promise, with a table at entry.
   abbrev pub Promised : Call → List ℕ → Change → List ℕ → Type 0
-  Promised (announcement a) table answer left = Announces family policy a table answer left (policy .routes ∷ a .rule ∷ a .communities ∷ [])
+  Promised (announcement policy a) table answer left = Announces family policy a table answer left (policy .routes ∷ a .rule ∷ a .communities ∷ [])
   Promised (withdrawal rule) table answer left = Withdraws family rule table answer left (rule ∷ [])
 
-  -- A history from a table on, the oldest call first, all calls of one family and by one policy: each call keeps its promise on the table
-  -- that the call before it left.
+  -- A history from a table on, the oldest call first, all calls of one family: each call keeps its promise on the table that the call
+  -- before it left.
   abbrev pub Happened : List ℕ → List Made → Type 0
   Happened table [] = Unit {0}
   Happened table (m ∷ h) = Promised (m .call) table (m .answer) (m .left) × Happened (m .left) h
 
   -- What a call answers and leaves on a table.
   abbrev pub outcomeOf : Call → List ℕ → Outcome
-  outcomeOf (announcement a) table = announcing family policy a table
+  outcomeOf (announcement policy a) table = announcing family policy a table
   outcomeOf (withdrawal rule) table = withdrawing family rule table
 
   -- A call as it is made on a table.
@@ -146,8 +157,8 @@ module _ (family : Family) (policy : Policy) where
     pub given : EachCanBe h
     pub happened : Happened (emptyTable n) h
 
-  -- **Demand 3**, of a table after a history: it "holds exactly the rules whose last counted call was a feasible announcement, each with
-  -- that call's actions" (`exactly`), "once, in precedence order" (`sound`: its octets are the records of its entries, whose keys rise
+  -- **Demand 3**, of a table after any history, whatever routes its calls were lent: it "holds exactly the rules whose last counted call was
+  -- a feasible announcement, each with that call's actions" (`exactly`; feasible by what that call was lent), "once, in precedence order" (`sound`: its octets are the records of its entries, whose keys rise
   -- strictly, and zeros), in the n octets of its buffer (`sized`).
   pub record HoldsExactly (n : ℕ) (h : List Made) (table : List ℕ) : Type 0 where
     pub exactly : (e : Entry) → List·Memᴰ e (entries table) ↔ (inForceAfter h (entryKey family e) ≡ some e)

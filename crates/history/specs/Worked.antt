@@ -113,10 +113,10 @@ made call answer left = record { call = call; answer = answer; left = left }
 -- The first history.
 abbrev pub worked : List Made
 worked =
-    made (announcement owned) Done mailTable
-    ∷ made (announcement pinged) Done bothTable
-    ∷ made (announcement foreign) (Refused 8 0) pingTable
-    ∷ made (announcement owned) Done bothTable
+    made (announcement policy owned) Done mailTable
+    ∷ made (announcement policy pinged) Done bothTable
+    ∷ made (announcement policy foreign) (Refused 8 0) pingTable
+    ∷ made (announcement policy owned) Done bothTable
     ∷ made (withdrawal ping) Done mailTable
     ∷ []
 
@@ -124,7 +124,7 @@ worked =
 abbrev pub other : List Made
 other =
     made (withdrawal ping) (Refused 14 0) (emptyTable 96)
-    ∷ made (announcement respelled) Done mailTable
+    ∷ made (announcement policy respelled) Done mailTable
     ∷ []
 
 -- Mail and ping in one reach, both to be dropped: AFI 1, SAFI 133, no next hop, the reserved octet, and the rules.
@@ -138,7 +138,7 @@ pingUnreached = 0 ∷ 1 ∷ 133 ∷ ping
 -- The third: both are announced by the reach, lent three answer words, and ping is withdrawn by the unreach.
 abbrev pub attributes : List Event
 attributes =
-    whole (record { attribute = reach bothReached; lent = 99 ∷ 99 ∷ 99 ∷ []; answer = DoneAll 2; words = 0 ∷ 0 ∷ 99 ∷ []; left = droppedTable })
+    whole (record { attribute = reach policy bothReached; lent = 99 ∷ 99 ∷ 99 ∷ []; answer = DoneAll 2; words = 0 ∷ 0 ∷ 99 ∷ []; left = droppedTable })
     ∷ whole (record { attribute = unreach pingUnreached; lent = 99 ∷ []; answer = DoneAll 1; words = 0 ∷ []; left = mailTable })
     ∷ []
 
@@ -149,8 +149,8 @@ pingDropped = announcementOf ping 7 dropping
 -- The single calls that the attributes stand for.
 abbrev pub standing : List Made
 standing =
-    made (announcement owned) Done mailTable
-    ∷ made (announcement pingDropped) Done droppedTable
+    made (announcement policy owned) Done mailTable
+    ∷ made (announcement policy pingDropped) Done droppedTable
     ∷ made (withdrawal ping) Done mailTable
     ∷ []
 

@@ -59,13 +59,13 @@ shifted = announcementOf hosts 7 dropping
 
 -- The first history.
 abbrev pub workedSix : List Made
-workedSix = made (announcement ownedSix) Done mailTableSix ∷ made (announcement shifted) (Refused 8 0) mailTableSix ∷ []
+workedSix = made (announcement policySix ownedSix) Done mailTableSix ∷ made (announcement policySix shifted) (Refused 8 0) mailTableSix ∷ []
 
 -- The second.
 abbrev pub otherSix : List Made
 otherSix =
-    made (announcement shifted) (Refused 8 0) (emptyTable 64)
-    ∷ made (announcement respelledSix) Done mailTableSix
+    made (announcement policySix shifted) (Refused 8 0) (emptyTable 64)
+    ∷ made (announcement policySix respelledSix) Done mailTableSix
     ∷ []
 
 -- A packet from 2001:db8:1::1, port 1024, to port 25 of a host, 2001:db8:0:HOST::5, behind a header of options: of its 20 octets of TCP four
