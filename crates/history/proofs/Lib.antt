@@ -6,4 +6,5 @@ pub mod AttributeLaws
 pub mod AttributesHappen
 pub mod OperatorTheorems
 pub mod Worked
-pub mod Worked6
+pub mod Scene4
+pub mod Scene6

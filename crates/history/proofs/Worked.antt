@@ -1,80 +1,56 @@
--- **Demand 3 is about something**: the worked histories of specs/Worked.antt happen, by computation; what the theorems on histories say of
--- them is that the first ends in a table which holds mail and not ping, and that the second, and the third of whole attributes, which
--- agree with it, end alike; and the table at their end judges a packet as matched. Assumes nothing.
+-- **Demand 3 is about something**: the worked histories of a scene (specs/Worked.antt) happen, and what the theorems on histories say of them
+-- is that the first ends in a table which holds the one rule and not the other; that the second, and the third of whole attributes, which
+-- agree with it, end alike; that the table at their end judges a packet as matched; and that the fourth, whose routes change, ends in a
+-- table which holds the other rule and not the one. Of a scene this is shown from what is computed of it (`Computed`), once for every
+-- family; Scene4.antt and Scene6.antt compute it.
 use mathlib.Core.Path.{_≡_, refl, sym, ap, _∙_}
 use mathlib.Core.Bool.{Bool, true, false, cond}
 use mathlib.Core.List.{List, [], _∷_, map, List·Memᴰ}
 use mathlib.Core.Option.{none, some}
-use Prim.Native.Nat.{ℕ, zero, suc}
+use Prim.Native.Nat.{ℕ, zero, suc, _≤_}
 use native.Mathlib.Omega.{arith}
-use lib.Dec.{ltb, isEq}
-use lib.ListN.{replicate}
-use borrow.Author.Tests.{ltb-true}
-use Rattle.octets.specs.Number.{numberAt, octetsOf}
-use Rattle.octets.specs.Test.{every, oneHolds, allZero, sameList}
-use Rattle.octets.specs.Walk.{walk}
+use lib.Dec.{leb, ltb, isEq}
+use lib.ListN.{length, replicate}
+use borrow.Author.Tests.{leb-true, ltb-true}
+use Rattle.octets.specs.Test.{every}
 use Rattle.octets.proofs.Cases.{by-test, apart, both}
 use Rattle.octets.proofs.Facts.{Octets}
-use Rattle.prefix.specs.Prefix.{bits, contains, patternIn, coversAddress, prefixOrder}
+use Rattle.rule.specs.declared.Family.{Family}
 use Rattle.rule.specs.declared.Reading.the-variants.{Rule}
-use Rattle.rule.specs.Component.{pairAt, pairsFrom, prefixEnd, bodyEnd, componentAt, leadOf, offsetAt}
-use Rattle.rule.specs.Operator.{endsList, sizeOf}
-use Rattle.spelling.specs.Plain.{bodyOf, operandAfter, after, plainOperator, plainOperand, plainPattern, clearedOctet, plainFrom, plain, expectedAtStart, patternAfter, withoutReserved}
-use Rattle.rule.specs.Reading.{fieldSize, fieldLength, firstRule, oneRule, valueOf}
-use Rattle.rule.specs.Value.{componentsFrom, components, checkValue}
-use Rattle.rule.specs.Family.{ipv4}
-use Rattle.rule.proofs.FamilyLaws.{ipv4-fits}
-use Rattle.order.specs.Key.{bodyKey, keyOf, keysOf, RuleKey, keyOrder}
+use Rattle.rule.specs.Family.{Fits}
+use Rattle.rule.specs.Reading.{oneRule, valueOf}
+use Rattle.spelling.specs.Plain.{plain}
+use Rattle.order.specs.Key.{keysOf, RuleKey, keyOrder}
 use Rattle.order.proofs.KeyLaws.{key-order}
-use Rattle.route.specs.Destination.{destinationFor, destinationAmong, destinationOf}
-use Rattle.route.specs.Feasible.{coveredBy, moreSpecific, longer, matched, bestMatch, undisputed, judged, feasible}
-use Rattle.route.specs.Route.{routeAt, routesOf, plainPrefix, rises, rising, soundRoutes, numberInWords, routesFrom}
 use Rattle.action.specs.declared.Reading.the-variants.{Read}
-use Rattle.action.specs.Actions.{communitiesAt, actionsOf, flagsOf, ofType, smallest, first, ruleActions}
-use Rattle.action.specs.Given.{smallerOf, firstOf, allowed}
-use Rattle.action.specs.Merging.{merged}
-use Rattle.action.specs.Possible.{couldBe}
-use Rattle.packet.specs.Header.{ipv4Unusable}
-use Rattle.matching.specs.Match.{holdsFor, bodyHolds, fieldMatches, componentMatches, matches, fieldsFor, bodyCovers}
-use Rattle.matching.specs.Operator.{numericHolds, bitmaskHolds}
-use Rattle.packet.specs.Packet.{fragmentData, ipv4Fields, isUnusable, fieldsOf, packetOf}
-use Rattle.matching.specs.PairList.{groupsFrom, groups, listHolds}
-use Rattle.packet.specs.Transport.{transportOctets, transportFields}
-use Rattle.entry.specs.Entry.{plainValue, possible, Entry, entryKey}
-use Rattle.entry.specs.Record.{writtenFields, readFields, headNumbers, recordOf, actionsIn, entryOf, goodRecord}
-use Rattle.table.specs.Change.{holds, removed, hasRoom, inserted, withdrawn}
-use Rattle.lookup.specs.Lookup.{collected, mergedOnto, verdictOf, verdictFor, firstPlace}
-use Rattle.table.specs.Sound.{recordsOf, tableOf, soundTable, soundness}
-use Rattle.table.specs.Walk.{recordAt, recordsFrom, records, entries}
+use Rattle.action.specs.Actions.{actionsOf}
+use Rattle.entry.specs.Entry.{Entry, entryKey}
+use Rattle.table.specs.Sound.{mostOctets}
+use Rattle.table.specs.Walk.{entries}
 use Rattle.flowspec.specs.declared.Change.the-variants.{Done, Refused}
 use Rattle.flowspec.specs.declared.Looked.{Looked}
 use Rattle.request.specs.declared.Request.the-variants.{Announce}
 use Rattle.request.specs.Request.{requestOf}
-use Rattle.flowspec.specs.Announce.{changeOf, announcing, withdrawing}
-use Rattle.request.specs.Judging.{readWithRoutes, isFeasible}
-use Rattle.flowspec.specs.Feasibility.{judgement}
-use Rattle.lookup.specs.Opening.{opening}
-use Rattle.flowspec.specs.Look.{lookingUp, firstMatch, matchPlace}
+use Rattle.flowspec.specs.Announce.{announcing, withdrawing}
+use Rattle.flowspec.specs.Look.{lookingUp}
 use Rattle.flowspec.specs.Told.{lookupTold, done}
 use Rattle.flowspec.specs.Promise.{LooksUp}
 use Rattle.flowspec.proofs.TableLaws.{announce-kept, withdraw-kept}
-use Rattle.rule.specs.Shape.{shapeOf}
-use Rattle.rate.specs.Rate.{scaled, numberFor, numberOfParts, rateOfParts, rateOf, fitsSignificand, rateGiven}
-use Rattle.order.specs.Precedence.{bodyOrder, componentOrder, componentsOrder, plainOrder, precedence}
-use Rattle.attribute.specs.Head.{afiOf, isOfFamily, isReach, isUnreach}
-use Rattle.attribute.specs.Rules.{ruleAt, rulesFrom}
 use Rattle.update.specs.declared.Applied.the-variants.{Done as DoneAll}
 use Rattle.update.specs.Apply.{reaching, unreaching}
-use Rattle.history.specs.History.{announced, withdrew, deedOf, emptyTable, endOf, lastCounted, inForceAfter, SamePolicy, Agree, FromEmpty, HoldsExactly, EndAlike}
+use Rattle.history.specs.History.{Made, announced, withdrew, deedOf, emptyTable, endOf, lastCounted, inForceAfter, SamePolicy, Agree, FromEmpty, HoldsExactly, EndAlike}
 use Rattle.history.specs.Attributes.{reach, unreach, single, endOfEvents, singlesOf, EventsFromEmpty}
-use Rattle.history.specs.Worked.{policy, mail, mailValue, mailSpelled, ping, pingValue, dropping, droppingSpelled, drops, marks, mailEntry, mailTable, pingTable, bothTable, owned, foreign, respelled, pinged, worked, other, droppedTable, bothReached, pingUnreached, attributes, pingDropped, standing, mailTo}
+use Rattle.history.specs.Worked.{Scene, dropping, droppingSpelled, drops, marks, entry, otherEntry, owned, foreign, respelled, marked, markedDropped, unrouted, worked, other, bothReached, attributes, standing, rerouted}
 use Rattle.history.proofs.HistoryLaws.{history-holds}
 use Rattle.history.proofs.AgreeLaws.{tie, histories-alike}
 use Rattle.history.proofs.AttributeLaws.{singles-from-empty, lent-events, events-alike}
 use Rattle.history.proofs.AttributesHappen.{left-promised}
 
 -- octets, by a test
-pub octets-each : (s : List ℕ) → every (λ x. ltb x 256) s ≡ true → Octets s
+abbrev AreOctets : List ℕ → Type 0
+AreOctets s = every (λ x. ltb x 256) s ≡ true
+
+octets-each : (s : List ℕ) → AreOctets s → Octets s
 unfolding every
 octets-each [] e = λ i. omega arith
 octets-each (x ∷ s) e =
@@ -84,207 +60,209 @@ octets-each (x ∷ s) e =
     first h zero = ltb-true x 256 (both (ltb x 256) (every (λ x. ltb x 256) s) e .0)
     first h (suc i) = h i
 
--- all that is computed: what each call answers and leaves, what it asks, that rules and their keys are as they look, and two lookups
-record Computed : Type 0 where
-  pub announces : announcing ipv4 policy owned (emptyTable 96) ≡ record { answer = Done; table = mailTable }
-  pub adds : announcing ipv4 policy pinged mailTable ≡ record { answer = Done; table = bothTable }
-  pub removes : announcing ipv4 policy foreign bothTable ≡ record { answer = Refused 8 0; table = pingTable }
-  pub again : announcing ipv4 policy owned pingTable ≡ record { answer = Done; table = bothTable }
-  pub withdraws : withdrawing ipv4 ping bothTable ≡ record { answer = Done; table = mailTable }
-  pub withdrawsNone : withdrawing ipv4 ping (emptyTable 96) ≡ record { answer = Refused 14 0; table = emptyTable 96 }
-  pub announcesSpelled : announcing ipv4 policy respelled (emptyTable 96) ≡ record { answer = Done; table = mailTable }
-  pub reaches : reaching ipv4 policy bothReached (emptyTable 96) (99 ∷ 99 ∷ 99 ∷ [])
-      ≡ record { answer = DoneAll 2; table = droppedTable; words = 0 ∷ 0 ∷ 99 ∷ [] }
-  pub unreaches : unreaching ipv4 pingUnreached droppedTable (99 ∷ []) ≡ record { answer = DoneAll 1; table = mailTable; words = 0 ∷ [] }
-  pub stands : singlesOf ipv4 (emptyTable 96) attributes ≡ standing
-  pub askedOwned : requestOf ipv4 policy owned ≡ Announce 1 12 drops true
-  pub askedForeign : requestOf ipv4 policy foreign ≡ Announce 1 12 drops false
-  pub askedSpelled : requestOf ipv4 policy respelled ≡ Announce 2 12 drops true
-  pub askedPinged : requestOf ipv4 policy pinged ≡ Announce 1 8 marks true
-  pub askedDropped : requestOf ipv4 policy pingDropped ≡ Announce 1 8 drops true
-  pub readPing : oneRule ipv4 ping ≡ Rule 1 8
-  pub plainMail : plain ipv4 mailValue ≡ mailValue
-  pub plainSpelled : plain ipv4 (valueOf mailSpelled 2 12) ≡ mailValue
-  pub plainPing : plain ipv4 pingValue ≡ pingValue
+-- all that is computed of a scene: what each call answers and leaves, what it asks, that rules and their keys are as they look, and two
+-- lookups
+pub record Computed (s : Scene) : Type 0 where
+  pub fits : leb (s .size) mostOctets ≡ true
+  pub announces : announcing (s .family) (s .policy) (owned s) (emptyTable (s .size)) ≡ record { answer = Done; table = s .one }
+  pub adds : announcing (s .family) (s .policy) (marked s) (s .one) ≡ record { answer = Done; table = s .both }
+  pub removes : announcing (s .family) (s .policy) (foreign s) (s .both) ≡ record { answer = Refused 8 0; table = s .another }
+  pub again : announcing (s .family) (s .policy) (owned s) (s .another) ≡ record { answer = Done; table = s .both }
+  pub withdraws : withdrawing (s .family) (s .otherRule) (s .both) ≡ record { answer = Done; table = s .one }
+  pub withdrawsNone : withdrawing (s .family) (s .otherRule) (emptyTable (s .size)) ≡ record { answer = Refused 14 0; table = emptyTable (s .size) }
+  pub announcesSpelled : announcing (s .family) (s .policy) (respelled s) (emptyTable (s .size)) ≡ record { answer = Done; table = s .one }
+  pub removesUnrouted : announcing (s .family) (unrouted s) (owned s) (s .both) ≡ record { answer = Refused 8 0; table = s .another }
+  pub reaches : reaching (s .family) (s .policy) (bothReached s) (emptyTable (s .size)) (99 ∷ 99 ∷ 99 ∷ [])
+      ≡ record { answer = DoneAll 2; table = s .dropped; words = 0 ∷ 0 ∷ 99 ∷ [] }
+  pub unreaches : unreaching (s .family) (s .unreachedOther) (s .dropped) (99 ∷ []) ≡ record { answer = DoneAll 1; table = s .one; words = 0 ∷ [] }
+  pub stands : singlesOf (s .family) (emptyTable (s .size)) (attributes s) ≡ standing s
+  pub askedOwned : requestOf (s .family) (s .policy) (owned s) ≡ Announce 1 (length (s .value)) drops true
+  pub askedForeign : requestOf (s .family) (s .policy) (foreign s) ≡ Announce 1 (length (s .value)) drops false
+  pub askedSpelled : requestOf (s .family) (s .policy) (respelled s) ≡ Announce 2 (length (s .value)) drops true
+  pub askedMarked : requestOf (s .family) (s .policy) (marked s) ≡ Announce 1 (length (s .otherValue)) marks true
+  pub askedDropped : requestOf (s .family) (s .policy) (markedDropped s) ≡ Announce 1 (length (s .otherValue)) drops true
+  pub readOther : oneRule (s .family) (s .otherRule) ≡ Rule 1 (length (s .otherValue))
+  pub plainOne : plain (s .family) (valueOf (s .rule) 1 (length (s .value))) ≡ s .value
+  pub plainSpelled : plain (s .family) (valueOf (s .spelled) 2 (length (s .value))) ≡ s .value
+  pub plainOther : plain (s .family) (valueOf (s .otherRule) 1 (length (s .otherValue))) ≡ s .otherValue
   pub read : actionsOf dropping ≡ Read drops
   pub readSpelled : actionsOf droppingSpelled ≡ Read drops
-  pub differ : isEq (keyOrder (keysOf ipv4 mailValue) (keysOf ipv4 pingValue)) ≡ false
-  pub octetsMail : every (λ x. ltb x 256) mail ≡ true
-  pub octetsSpelled : every (λ x. ltb x 256) mailSpelled ≡ true
-  pub octetsPing : every (λ x. ltb x 256) ping ≡ true
-  pub octetsReached : every (λ x. ltb x 256) (bothReached .attribute) ≡ true
-  pub inForce : inForceAfter ipv4 worked (entryKey ipv4 mailEntry) ≡ some mailEntry
-  pub gone : inForceAfter ipv4 worked (keysOf ipv4 pingValue) ≡ none
-  pub judgesMatched : lookupTold (lookingUp ipv4 mailTable (mailTo 5)) ≡ done (1 ∷ 1 ∷ 0 ∷ 0 ∷ 0 ∷ 0 ∷ [])
-  pub judgesUnmatched : lookupTold (lookingUp ipv4 mailTable (mailTo 200)) ≡ done (replicate 6 0)
+  pub differ : isEq (keyOrder (keysOf (s .family) (s .value)) (keysOf (s .family) (s .otherValue))) ≡ false
+  pub octetsOne : AreOctets (s .rule)
+  pub octetsSpelled : AreOctets (s .spelled)
+  pub octetsOther : AreOctets (s .otherRule)
+  pub octetsReached : AreOctets (s .reachedBoth)
+  pub inForce : inForceAfter (s .family) (worked s) (entryKey (s .family) (entry s)) ≡ some (entry s)
+  pub gone : inForceAfter (s .family) (worked s) (keysOf (s .family) (s .otherValue)) ≡ none
+  pub inForceUnrouted : inForceAfter (s .family) (rerouted s) (entryKey (s .family) (otherEntry s)) ≡ some (otherEntry s)
+  pub goneUnrouted : inForceAfter (s .family) (rerouted s) (keysOf (s .family) (s .value)) ≡ none
+  pub judgesMatched : lookupTold (lookingUp (s .family) (s .one) (s .met)) ≡ done (1 ∷ 1 ∷ 0 ∷ 0 ∷ 0 ∷ 0 ∷ [])
+  pub judgesUnmatched : lookupTold (lookingUp (s .family) (s .one) (s .missed)) ≡ done (replicate 6 0)
 
-computed : Computed
-unfolding
-    numberAt octetsOf every oneHolds allZero sameList walk bits coversAddress contains prefixOrder patternIn pairAt pairsFrom leadOf
-    offsetAt prefixEnd bodyEnd componentAt endsList sizeOf expectedAtStart bodyOf patternAfter operandAfter after withoutReserved
-    plainOperator plainOperand plainPattern clearedOctet plainFrom plain fieldSize fieldLength firstRule oneRule componentsFrom
-    components checkValue bodyKey keyOf keysOf destinationFor destinationAmong destinationOf coveredBy moreSpecific longer matched bestMatch
-    undisputed judged feasible numberInWords routeAt routesFrom routesOf plainPrefix rises rising soundRoutes ofType smallest first
-    ruleActions communitiesAt actionsOf flagsOf firstOf smallerOf allowed merged couldBe isUnusable ipv4Unusable fragmentData ipv4Fields holdsFor bodyHolds
-    fieldMatches fieldsFor bodyCovers componentMatches matches numericHolds bitmaskHolds fieldsOf packetOf groupsFrom groups listHolds
-    transportOctets transportFields plainValue possible writtenFields readFields headNumbers recordOf actionsIn entryOf goodRecord holds
-    removed inserted hasRoom withdrawn collected mergedOnto verdictOf verdictFor firstPlace recordsOf tableOf soundTable soundness recordAt
-    recordsFrom records entries changeOf requestOf announcing withdrawing readWithRoutes isFeasible judgement opening lookingUp firstMatch
-    matchPlace shapeOf scaled numberFor numberOfParts rateOfParts rateOf fitsSignificand rateGiven bodyOrder componentOrder componentsOrder
-    plainOrder precedence afiOf isOfFamily isReach isUnreach ruleAt rulesFrom reaching unreaching
-computed =
-    record {
-      announces = refl;
-      adds = refl;
-      removes = refl;
-      again = refl;
-      withdraws = refl;
-      withdrawsNone = refl;
-      announcesSpelled = refl;
-      reaches = refl;
-      unreaches = refl;
-      stands = refl;
-      askedOwned = refl;
-      askedForeign = refl;
-      askedSpelled = refl;
-      askedPinged = refl;
-      askedDropped = refl;
-      readPing = refl;
-      plainMail = refl;
-      plainSpelled = refl;
-      plainPing = refl;
-      read = refl;
-      readSpelled = refl;
-      differ = refl;
-      octetsMail = refl;
-      octetsSpelled = refl;
-      octetsPing = refl;
-      octetsReached = refl;
-      inForce = refl;
-      gone = refl;
-      judgesMatched = refl;
-      judgesUnmatched = refl;
-    }
+-- the table that a history of a scene leaves, and what is said of it
+module _ (s : Scene) (h : List Made) where
+  abbrev left : List ℕ
+  left = endOf (emptyTable (s .size)) h
 
--- **the histories happen**
-pub worked-happened : FromEmpty ipv4 96 worked
-worked-happened =
-    let rule = octets-each mail (computed .octetsMail) in
-    record {
-      fits = omega arith;
-      given = ((rule, omega arith), ((octets-each ping (computed .octetsPing), omega arith), ((rule, omega arith), ((rule, omega arith), (tt, tt)))));
-      happened = (
-        announce-kept ipv4 policy owned (emptyTable 96) _ Done mailTable (computed .announces) refl refl,
-        (
-          announce-kept ipv4 policy pinged mailTable _ Done bothTable (computed .adds) refl refl,
+  abbrev Holds : Type 0
+  Holds = HoldsExactly (s .family) (s .size) h left
+
+  abbrev Held : Entry → Type 0
+  Held e = List·Memᴰ e (entries left)
+
+  abbrev Gone : List ℕ → Type 0
+  Gone value = (e : Entry) → entryKey (s .family) e ≡ keysOf (s .family) value → Held e → ⊥
+
+  abbrev Judges : List ℕ → List ℕ → Type 0
+  Judges packet values = (answer : Looked) (kept : List (List ℕ)) → LooksUp (s .family) left packet answer kept → lookupTold answer ≡ done values
+
+-- **what is shown of a scene.** The first history ends in a table that holds exactly what is in force (`holds`): the one rule, with its
+-- originator and actions (`oneHeld`), and not the other (`otherGone`); a packet that the one rule meets is matched there by one rule, which
+-- drops it (`met`), and one that it does not meet is not (`missed`). The second history and the third, of attributes, end alike. The fourth,
+-- whose routes change, holds exactly what is in force (`reroutedHolds`): the other rule, and not the one.
+pub record Shown (s : Scene) : Type 0 where
+  pub holds : Holds s (worked s)
+  pub oneHeld : Held s (worked s) (entry s)
+  pub otherGone : Gone s (worked s) (s .otherValue)
+  pub met : Judges s (worked s) (s .met) (1 ∷ 1 ∷ 0 ∷ 0 ∷ 0 ∷ 0 ∷ [])
+  pub missed : Judges s (worked s) (s .missed) (replicate 6 0)
+  pub alike : EndAlike (s .family) (left s (worked s)) (left s (other s))
+  pub attributesAlike : EndAlike (s .family) (endOfEvents (emptyTable (s .size)) (attributes s)) (left s (worked s))
+  pub reroutedHolds : Holds s (rerouted s)
+  pub otherHeld : Held s (rerouted s) (otherEntry s)
+  pub oneGone : Gone s (rerouted s) (s .value)
+
+module _ (s : Scene) (c : Computed s) where
+  within : s .size ≤ mostOctets
+  within = leb-true (s .size) mostOctets (c .fits)
+
+  -- **the histories happen**
+  worked-happened : FromEmpty (s .family) (s .size) (worked s)
+  worked-happened =
+      let rule = octets-each (s .rule) (c .octetsOne) in
+      record {
+        fits = within;
+        given = ((rule, omega arith), ((octets-each (s .otherRule) (c .octetsOther), omega arith), ((rule, omega arith), ((rule, omega arith), (tt, tt)))));
+        happened = (
+          announce-kept (s .family) (s .policy) (owned s) (emptyTable (s .size)) _ Done (s .one) (c .announces) refl refl,
           (
-            announce-kept ipv4 policy foreign bothTable _ (Refused 8 0) pingTable (computed .removes) refl refl,
+            announce-kept (s .family) (s .policy) (marked s) (s .one) _ Done (s .both) (c .adds) refl refl,
             (
-              announce-kept ipv4 policy owned pingTable _ Done bothTable (computed .again) refl refl,
-              (withdraw-kept ipv4 ping bothTable _ Done mailTable (computed .withdraws) refl refl, tt),
+              announce-kept (s .family) (s .policy) (foreign s) (s .both) _ (Refused 8 0) (s .another) (c .removes) refl refl,
+              (
+                announce-kept (s .family) (s .policy) (owned s) (s .another) _ Done (s .both) (c .again) refl refl,
+                (withdraw-kept (s .family) (s .otherRule) (s .both) _ Done (s .one) (c .withdraws) refl refl, tt),
+              ),
             ),
           ),
-        ),
-      );
-    }
+        );
+      }
 
-pub other-happened : FromEmpty ipv4 96 other
-other-happened =
-    record {
-      fits = omega arith;
-      given = (tt, ((octets-each mailSpelled (computed .octetsSpelled), omega arith), tt));
-      happened = (
-        withdraw-kept ipv4 ping (emptyTable 96) _ (Refused 14 0) (emptyTable 96) (computed .withdrawsNone) refl refl,
-        (announce-kept ipv4 policy respelled (emptyTable 96) _ Done mailTable (computed .announcesSpelled) refl refl, tt),
-      );
-    }
+  other-happened : FromEmpty (s .family) (s .size) (other s)
+  other-happened =
+      record {
+        fits = within;
+        given = (tt, ((octets-each (s .spelled) (c .octetsSpelled), omega arith), tt));
+        happened = (
+          withdraw-kept (s .family) (s .otherRule) (emptyTable (s .size)) _ (Refused 14 0) (emptyTable (s .size)) (c .withdrawsNone) refl refl,
+          (announce-kept (s .family) (s .policy) (respelled s) (emptyTable (s .size)) _ Done (s .one) (c .announcesSpelled) refl refl, tt),
+        );
+      }
 
-pub attributes-happened : EventsFromEmpty ipv4 96 attributes
-attributes-happened =
-    record {
-      fits = omega arith;
-      given = ((octets-each (bothReached .attribute) (computed .octetsReached), omega arith), (tt, tt));
-      happened = (
-        left-promised ipv4 (reach policy bothReached) (emptyTable 96) (99 ∷ 99 ∷ 99 ∷ []) _ (computed .reaches),
-        (left-promised ipv4 (unreach pingUnreached) droppedTable (99 ∷ []) _ (computed .unreaches), tt),
-      );
-    }
+  attributes-happened : EventsFromEmpty (s .family) (s .size) (attributes s)
+  attributes-happened =
+      record {
+        fits = within;
+        given = ((octets-each (s .reachedBoth) (c .octetsReached), omega arith), (tt, tt));
+        happened = (
+          left-promised (s .family) (reach (s .policy) (bothReached s)) (emptyTable (s .size)) (99 ∷ 99 ∷ 99 ∷ []) _ (c .reaches),
+          (left-promised (s .family) (unreach (s .unreachedOther)) (s .dropped) (99 ∷ []) _ (c .unreaches), tt),
+        );
+      }
 
--- **the first ends in a table that holds exactly what is in force**: mail, with its originator and actions, and not ping
-pub worked-holds : HoldsExactly ipv4 96 worked (endOf (emptyTable 96) worked)
-worked-holds = history-holds ipv4 96 worked worked-happened
+  rerouted-happened : FromEmpty (s .family) (s .size) (rerouted s)
+  rerouted-happened =
+      let rule = octets-each (s .rule) (c .octetsOne) in
+      record {
+        fits = within;
+        given = ((rule, omega arith), ((octets-each (s .otherRule) (c .octetsOther), omega arith), ((rule, omega arith), tt)));
+        happened = (
+          announce-kept (s .family) (s .policy) (owned s) (emptyTable (s .size)) _ Done (s .one) (c .announces) refl refl,
+          (
+            announce-kept (s .family) (s .policy) (marked s) (s .one) _ Done (s .both) (c .adds) refl refl,
+            (announce-kept (s .family) (unrouted s) (owned s) (s .both) _ (Refused 8 0) (s .another) (c .removesUnrouted) refl refl, tt),
+          ),
+        );
+      }
 
-pub mail-held : List·Memᴰ mailEntry (entries (endOf (emptyTable 96) worked))
-mail-held = worked-holds .exactly mailEntry .1 (computed .inForce)
+  -- what is not in force is not held
+  none-held : (h : List Made) (value : List ℕ) → Holds s h → inForceAfter (s .family) h (keysOf (s .family) value) ≡ none → Gone s h value
+  none-held h value holds gone e same stands =
+      let nothing : none ≡ some e = sym gone ∙ ap (inForceAfter (s .family) h) (sym same) ∙ holds .exactly e .0 stands in
+      apart (cc)
 
-pub ping-gone : (e : Entry) → entryKey ipv4 e ≡ keysOf ipv4 pingValue → List·Memᴰ e (entries (endOf (emptyTable 96) worked)) → ⊥
-ping-gone e same stands =
-    let left : none ≡ some e = sym (computed .gone) ∙ ap (inForceAfter ipv4 worked) (sym same) ∙ worked-holds .exactly e .0 stands in
-    apart (cc)
+  -- the last counted calls of each, by the rule that they are about
+  module _ (k : RuleKey) where
+    abbrev aboutOne : Bool
+    aboutOne = isEq (keyOrder k (keysOf (s .family) (s .value)))
 
--- **a packet to mail's host is matched** there by one rule, which drops it; one to a host outside its prefix is not
-pub mail-matched : (answer : Looked) (kept : List (List ℕ)) → LooksUp ipv4 (endOf (emptyTable 96) worked) (mailTo 5) answer kept
-    → lookupTold answer ≡ done (1 ∷ 1 ∷ 0 ∷ 0 ∷ 0 ∷ 0 ∷ [])
-mail-matched answer kept p = ap lookupTold (p .is) ∙ computed .judgesMatched
+    abbrev aboutOther : Bool
+    aboutOther = isEq (keyOrder k (keysOf (s .family) (s .otherValue)))
 
-pub mail-unmatched : (answer : Looked) (kept : List (List ℕ)) → LooksUp ipv4 (endOf (emptyTable 96) worked) (mailTo 200) answer kept
-    → lookupTold answer ≡ done (replicate 6 0)
-mail-unmatched answer kept p = ap lookupTold (p .is) ∙ computed .judgesUnmatched
+    last-worked : deedOf (lastCounted (s .family) k (worked s))
+        ≡ cond aboutOther (some withdrew) (cond aboutOne (some (announced 7 (Read drops))) none)
+    last-worked =
+        rw (c .askedOwned, c .askedForeign, c .askedMarked, c .readOther, c .plainOne, c .plainOther)
+        (by-test aboutOther (λ e. rw e) (λ e. by-test aboutOne (λ f. rw (e, f, c .read)) (λ f. rw (e, f))))
 
--- the last counted calls of each, by the rule that they are about
-module _ (k : RuleKey) where
-  abbrev aboutMail : Bool
-  aboutMail = isEq (keyOrder k (keysOf ipv4 mailValue))
+    last-standing : deedOf (lastCounted (s .family) k (standing s))
+        ≡ cond aboutOther (some withdrew) (cond aboutOne (some (announced 7 (Read drops))) none)
+    last-standing =
+        rw (c .askedOwned, c .askedDropped, c .readOther, c .plainOne, c .plainOther)
+        (by-test aboutOther (λ e. rw e) (λ e. by-test aboutOne (λ f. rw (e, f, c .read)) (λ f. rw (e, f))))
 
-  abbrev aboutPing : Bool
-  aboutPing = isEq (keyOrder k (keysOf ipv4 pingValue))
+    last-other : deedOf (lastCounted (s .family) k (other s))
+        ≡ cond aboutOne (some (announced 7 (Read drops))) (cond aboutOther (some withdrew) none)
+    last-other =
+        rw (c .askedSpelled, c .readOther, c .plainSpelled, c .plainOther)
+        (by-test aboutOne (λ e. rw (e, c .readSpelled)) (λ e. by-test aboutOther (λ f. rw (e, f)) (λ f. rw (e, f))))
 
-  last-worked : deedOf (lastCounted ipv4 k worked)
-      ≡ cond aboutPing (some withdrew) (cond aboutMail (some (announced 7 (Read drops))) none)
-  last-worked =
-      rw (computed .askedOwned, computed .askedForeign, computed .askedPinged, computed .readPing, computed .plainMail, computed .plainPing)
-      (by-test aboutPing (λ e. rw e) (λ e. by-test aboutMail (λ f. rw (e, f, computed .read)) (λ f. rw (e, f))))
+    not-both : aboutOne ≡ true → aboutOther ≡ false
+    not-both e = rw (key-order .only k (keysOf (s .family) (s .value)) (tie _ e)) (c .differ)
 
-  last-standing : deedOf (lastCounted ipv4 k standing)
-      ≡ cond aboutPing (some withdrew) (cond aboutMail (some (announced 7 (Read drops))) none)
-  last-standing =
-      rw (computed .askedOwned, computed .askedDropped, computed .readPing, computed .plainMail, computed .plainPing)
-      (by-test aboutPing (λ e. rw e) (λ e. by-test aboutMail (λ f. rw (e, f, computed .read)) (λ f. rw (e, f))))
+    same-deed : deedOf (lastCounted (s .family) k (worked s)) ≡ deedOf (lastCounted (s .family) k (other s))
+    same-deed =
+        last-worked
+        ∙ by-test aboutOne (λ e. rw (e, not-both e)) (λ e. rw e)
+        ∙ sym last-other
 
-  last-other : deedOf (lastCounted ipv4 k other)
-      ≡ cond aboutMail (some (announced 7 (Read drops))) (cond aboutPing (some withdrew) none)
-  last-other =
-      rw (computed .askedSpelled, computed .readPing, computed .plainSpelled, computed .plainPing)
-      (by-test aboutMail (λ e. rw (e, computed .readSpelled)) (λ e. by-test aboutPing (λ f. rw (e, f)) (λ f. rw (e, f))))
+  -- all calls of the first two were lent one policy
+  worked-lent : SamePolicy (s .policy) (worked s)
+  worked-lent = (refl, (refl, (refl, (refl, (tt, tt)))))
 
-  not-both : aboutMail ≡ true → aboutPing ≡ false
-  not-both e = rw (key-order .only k (keysOf ipv4 mailValue) (tie _ e)) (computed .differ)
+  other-lent : SamePolicy (s .policy) (other s)
+  other-lent = (tt, (refl, tt))
 
-  same-deed : deedOf (lastCounted ipv4 k worked) ≡ deedOf (lastCounted ipv4 k other)
-  same-deed =
-      last-worked
-      ∙ by-test aboutMail (λ e. rw (e, not-both e)) (λ e. rw e)
-      ∙ sym last-other
+  -- the attributes stand for single calls that agree with the first
+  attributes-agree : Agree (s .family) (singlesOf (s .family) (emptyTable (s .size)) (attributes s)) (worked s)
+  attributes-agree k = ap (λ h. deedOf (lastCounted (s .family) k h)) (c .stands) ∙ last-standing k ∙ sym (last-worked k)
 
--- all calls were lent one policy
-worked-lent : SamePolicy policy worked
-worked-lent = (refl, (refl, (refl, (refl, (tt, tt)))))
-
-other-lent : SamePolicy policy other
-other-lent = (tt, (refl, tt))
-
--- **the first two agree, and end alike**
-pub worked-agree : Agree ipv4 worked other
-worked-agree k = same-deed k
-
-pub worked-alike : EndAlike ipv4 (endOf (emptyTable 96) worked) (endOf (emptyTable 96) other)
-worked-alike = histories-alike ipv4 policy ipv4-fits 96 worked other worked-happened other-happened worked-lent other-lent worked-agree
-
--- **the attributes stand for single calls that agree with the first, and end alike**
-pub attributes-agree : Agree ipv4 (singlesOf ipv4 (emptyTable 96) attributes) worked
-attributes-agree k = ap (λ h. deedOf (lastCounted ipv4 k h)) (computed .stands) ∙ last-standing k ∙ sym (last-worked k)
-
-pub attributes-alike : EndAlike ipv4 (endOfEvents (emptyTable 96) attributes) (endOf (emptyTable 96) worked)
-attributes-alike =
-    events-alike ipv4 96 ipv4-fits policy attributes (map single worked) attributes-happened
-    (singles-from-empty ipv4 96 worked worked-happened) (refl, (tt, tt)) (lent-events ipv4 policy worked worked-lent) attributes-agree
+  pub shown : Fits (s .family) → Shown s
+  shown fits =
+      let holds = history-holds (s .family) (s .size) (worked s) worked-happened in
+      let changed = history-holds (s .family) (s .size) (rerouted s) rerouted-happened in
+      record {
+        holds = holds;
+        oneHeld = holds .exactly (entry s) .1 (c .inForce);
+        otherGone = none-held (worked s) (s .otherValue) holds (c .gone);
+        met = λ answer kept p. ap lookupTold (p .is) ∙ c .judgesMatched;
+        missed = λ answer kept p. ap lookupTold (p .is) ∙ c .judgesUnmatched;
+        alike = histories-alike (s .family) (s .policy) fits (s .size) (worked s) (other s) worked-happened other-happened worked-lent other-lent same-deed;
+        attributesAlike =
+            events-alike (s .family) (s .size) fits (s .policy) (attributes s) (map single (worked s)) attributes-happened
+            (singles-from-empty (s .family) (s .size) (worked s) worked-happened) (refl, (tt, tt))
+            (lent-events (s .family) (s .policy) (worked s) worked-lent) attributes-agree;
+        reroutedHolds = changed;
+        otherHeld = changed .exactly (otherEntry s) .1 (c .inForceUnrouted);
+        oneGone = none-held (rerouted s) (s .value) changed (c .goneUnrouted);
+      }

@@ -1,5 +1,6 @@
--- The definitions of this crate.
+-- The definitions of this crate, in the order in which to read them.
 pub mod History
 pub mod Attributes
 pub mod Worked
-pub mod Worked6
+pub mod Scene4
+pub mod Scene6
