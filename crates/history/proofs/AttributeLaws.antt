@@ -23,17 +23,9 @@ use Rattle.history.specs.History.{Call, announcement, withdrawal, Made, 
 use Rattle.history.specs.Attributes.{Attribute, reach, unreach, Whole, Event, single, whole, leftBy, endOfEvents, callsIn, standsFor, AttributeCanBe, EventCanBe, AttributeLent, EventLent, SameThroughout, ActsAs, WholePromised, EventPromised, EventsHappened, leftOn, singlesIn, singlesOf, EventsFromEmpty}
 use Rattle.history.proofs.HistoryLaws.{history-holds}
 use Rattle.history.proofs.AgreeLaws.{histories-alike}
-use Rattle.history.proofs.Happens.{happens, each-given}
+use Rattle.history.proofs.Happens.{happens, each-given, end-append, given-append, happened-append}
 
 -- one history behind another
-end-append : (table : List ℕ) (h g : List Made) → endOf table (h ++ g) ≡ endOf (endOf table h) g
-end-append table [] g = refl
-end-append table (m ∷ h) g = end-append (m .left) h g
-
-given-append : (h g : List Made) → EachCanBe h → EachCanBe g → EachCanBe (h ++ g)
-given-append [] g can also = also
-given-append (m ∷ h) g can also = (can .0, given-append h g (can .1) also)
-
 same-append : (policy : Policy) (h g : List Made) → SamePolicy policy h → SamePolicy policy g → SamePolicy policy (h ++ g)
 same-append policy [] g same also = also
 same-append policy (m ∷ h) g same also = (same .0, same-append policy h g (same .1) also)
@@ -77,11 +69,6 @@ stands-lent family policy attribute (Done count) same = calls-lent family policy
 stands-lent family policy attribute (Refused number place) same = tt
 
 module _ (family : Family) where
-  happened-append : (h g : List Made) (table : List ℕ) → Happened family table h → Happened family (endOf table h) g
-      → Happened family table (h ++ g)
-  happened-append [] g table made also = also
-  happened-append (m ∷ h) g table made also = (made .0, happened-append h g (m .left) (made .1) also)
-
   -- one call for each rule leaves what the history of these calls does
   module _ (call : List ℕ → Call) where
     abbrev eachOf : List (List ℕ) → List ℕ → Singles
@@ -165,7 +152,7 @@ module _ (family : Family) where
   singles-happened [] table made = tt
   singles-happened (e ∷ es) table made =
       let rest = singlesOf family (leftBy e) es in
-      happened-append (singlesIn family table e) rest table (event-happened e table (made .0))
+      happened-append family (singlesIn family table e) rest table (event-happened e table (made .0))
       (subst (λ t. Happened family t rest) (sym (event-end e table (made .0))) (singles-happened es (leftBy e) (made .1)))
 
   pub singles-end : (es : List Event) (table : List ℕ) → EventsHappened family table es

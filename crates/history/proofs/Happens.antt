@@ -1,7 +1,7 @@
 -- **The premises of demand 3 are met.** What each call promises is what a history asks of it, and what it is lent is what a history says it
 -- is given; and whatever calls are made on whatever table, they have a history, which is the only one. Assumes nothing.
 use mathlib.Core.Path.{_≡_, refl, ap, ap₂, subst, _∙_}
-use mathlib.Core.List.{List, [], _∷_, map}
+use mathlib.Core.List.{List, [], _∷_, _++_, map}
 use Prim.Native.Nat.{ℕ, _^_, _<_, _≤_}
 use Rattle.octets.specs.Test.{Each}
 use Rattle.octets.proofs.Facts.{Octets}
@@ -11,7 +11,7 @@ use Rattle.flowspec.specs.declared.Change.{Change}
 use Rattle.request.specs.Input.{Announcement, Policy}
 use Rattle.flowspec.specs.Announce.{announcing, withdrawing}
 use Rattle.flowspec.specs.Promise.{Announces, Withdraws}
-use Rattle.history.specs.History.{Call, announcement, withdrawal, Made, CanBe, EachCanBe, Promised, Happened, outcomeOf, madeOn, historyOf, emptyTable, FromEmpty}
+use Rattle.history.specs.History.{Call, announcement, withdrawal, Made, CanBe, EachCanBe, endOf, Promised, Happened, outcomeOf, madeOn, historyOf, emptyTable, FromEmpty}
 use Rattle.flowspec.proofs.TableLaws.{announce-kept, withdraw-kept}
 
 -- what a call is lent by its types is what it can be given
@@ -21,7 +21,21 @@ announcement-given policy a o small = (o, small)
 pub withdrawal-given : (rule : List ℕ) → Octets rule → CanBe (withdrawal rule)
 withdrawal-given rule o = tt
 
+-- one history behind another
+pub end-append : (table : List ℕ) (h g : List Made) → endOf table (h ++ g) ≡ endOf (endOf table h) g
+end-append table [] g = refl
+end-append table (m ∷ h) g = end-append (m .left) h g
+
+pub given-append : (h g : List Made) → EachCanBe h → EachCanBe g → EachCanBe (h ++ g)
+given-append [] g can also = also
+given-append (m ∷ h) g can also = (can .0, given-append h g (can .1) also)
+
 module _ (family : Family) where
+  pub happened-append : (h g : List Made) (table : List ℕ) → Happened family table h → Happened family (endOf table h) g
+      → Happened family table (h ++ g)
+  happened-append [] g table made also = also
+  happened-append (m ∷ h) g table made also = (made .0, happened-append h g (m .left) (made .1) also)
+
   -- what a call promises is what a history asks of it
   pub announces-promised : (policy : Policy) (a : Announcement) (table : List ℕ) (answer : Change) (left : List ℕ) (kept : List (List ℕ))
       → Announces family policy a table answer left kept → Promised family (announcement policy a) table answer left

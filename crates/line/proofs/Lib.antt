@@ -2,3 +2,4 @@
 pub mod CutLaws
 pub mod FormLaws
 pub mod ReadLaws
+pub mod SaidLaws

@@ -150,6 +150,17 @@ octets-octetsIn (x ∷ []) o i = omega arith
 octets-octetsIn (x ∷ y ∷ t) o zero = omega (arith, value-small x (o 0), value-small y (o 1))
 octets-octetsIn (x ∷ y ∷ t) o (suc i) = octets-octetsIn t (λ j. o (suc (suc j))) i
 
+-- and so it is where digits alone are read
+pub digits-octets : (t : List ℕ) → areOctets t ≡ true → Octets (octetsIn t)
+unfolding areOctets every
+digits-octets t e =
+    octets-octetsIn t (signs t (and-eq-true-iff (eqb (length t % 2) 0) (every isHexDigit t) .0 e .1))
+  where
+    signs : (t : List ℕ) → every isHexDigit t ≡ true → Octets t
+    signs [] e i = omega arith
+    signs (x ∷ t) e zero = digit-octet x (and-eq-true-iff (isHexDigit x) (every isHexDigit t) .0 e .0)
+    signs (x ∷ t) e (suc i) = signs t (and-eq-true-iff (isHexDigit x) (every isHexDigit t) .0 e .1) i
+
 -- a test of each sign, from the first on
 module _ (test : ℕ → Bool) (s : List ℕ) (i : ℕ) (r : Bool) (so-far : r ≡ every test (drop i s)) where
   module _ (found : Bool) (is : found ≡ test (getD s i 0)) (inside : i < length s) where
