@@ -5,7 +5,7 @@ use mathlib.Core.List.{List, [], _∷_, _++_}
 use mathlib.Core.Logic.{⊎-elim}
 use types.Run.{OneOf}
 use denote.Enum.Declared.{tagOf}
-use Prim.Native.Nat.{ℕ, _+_, _-_, _*_, _^_, _<_, _≤_}
+use Prim.Native.Nat.{ℕ, _+_, _-_, _*_, _/_, _≤_}
 use native.Mathlib.Omega.{arith}
 use native.Mathlib.Nat.{add-zero}
 use lib.Dec.{leb}
@@ -29,11 +29,10 @@ use Rattle.table.proofs.EntryLaws.{length-there}
 use Rattle.text.specs.Spelling.{quoted}
 use Rattle.text.specs.Hex.{hexOf}
 use Rattle.text.specs.Print.{laid, Printed}
-use Rattle.text.proofs.DecimalLaws.{length-decimal}
 use Rattle.text.proofs.HexLaws.{length-hexOf}
 use Rattle.text.proofs.PrintLaws.{laid-append, laid-none, length-laid}
-use Rattle.answers.specs.Answer.{answerText, countText, ruleText, rulesText, listText, mostText}
-use Rattle.answers.proofs.PrintLaws.{printed-then, length-count}
+use Rattle.answers.specs.Answer.{answerText, countText, ruleText, rulesText, listText, mostAnswer, leastRecord, mostText}
+use Rattle.answers.proofs.PrintLaws.{printed-then, count-short}
 
 -- the records from a place on
 abbrev pub recordsLeft : List ℕ → ℕ → List (List ℕ)
@@ -79,51 +78,10 @@ pub length-rule : (held : List ℕ) → length (ruleText held) ≡ 2 * length he
 unfolding ruleText
 length-rule held = rw (length-append (hexOf held) (quoted "\n"), length-hexOf held) (omega arith)
 
--- some records are printed, and those from a place on are left
-pub record Printing (t out : List ℕ) (at place : ℕ) (now : List ℕ) (end : ℕ) : Type 0 where
-  pub within : place ≤ length t
-  pub few : end ≤ at + 3 * place
-  pub kept : length now ≡ length out
-  pub leaves : laid out at (rulesText (records t)) ≡ laid now end (rulesText (recordsLeft t place))
-  pub counts : at + length (rulesText (records t)) ≡ end + length (rulesText (recordsLeft t place))
-
-pub print-starts : (t out : List ℕ) (at : ℕ) → Printing t out at 0 out at
-unfolding records
-print-starts t out at = record { within = omega arith; few = omega arith; kept = refl; leaves = refl; counts = refl }
-
-module _ (t out : List ℕ) (at place : ℕ) (now : List ℕ) (end : ℕ) (printing : Printing t out at place now end) where
-  pub print-done : recordsLeft t place ≡ [] → Printed out at (rulesText (records t)) now end
-  unfolding rulesText
-  print-done e =
-      (sym (printing .leaves ∙ rw e (laid-none now end)), sym (printing .counts ∙ rw e (add-zero end)))
-
-  pub print-more : (next : ℕ) → recordAt t place ≡ Record next → (then : List ℕ) (stop : ℕ) → Printed now end (ruleText (between t place next)) then stop
-      → Printing t out at next then stop
-  unfolding rulesText
-  print-more next e then stop p =
-      let f = was-found t place next e in
-      let size = f .size in
-      let within = f .within in
-      let some = f .some in
-      let more = left-more t place next e in
-      let long = length-rule (between t place next) in
-      let there = length-there t place next e in
-      let text : List ℕ = ruleText (between t place next) in
-      let rest : List ℕ = rulesText (recordsLeft t next) in
-      let printed = p .1 in
-      let few = printing .few in
-      record {
-        within = omega (arith, printing .within);
-        few = omega arith;
-        kept = rw (p .0) (length-laid now end text ∙ printing .kept);
-        leaves = printing .leaves ∙ rw (more, p .0, p .1) (laid-append now end text rest);
-        counts = printing .counts ∙ rw (more, p .1, length-append text rest) (omega arith);
-      }
-
 -- how many records a table has at most, and how long their lines are
 abbrev Short : List ℕ → ℕ → Walk (List ℕ) Bool → Type 0
 Short t at w =
-    at ≤ length t → (33 * length (w .items) ≤ length t - at) × (length (rulesText (w .items)) ≤ 2 * (length t - at) + 6 * length (w .items))
+    at ≤ length t → (leastRecord * length (w .items) ≤ length t - at) × (length (rulesText (w .items)) ≤ 2 * (length t - at) + 6 * length (w .items))
 
 records-short : (t : List ℕ) → Short t 0 (recordsFrom t 0)
 unfolding rulesText
@@ -140,13 +98,53 @@ records-short t = records-ind t (Short t) (λ at e h. (omega arith, omega arith)
         let long = length-rule (between t at next) in
         (omega arith, rw (length-append (ruleText (between t at next)) (rulesText (w .items))) (omega arith))
 
-list-fits : (t : List ℕ) → length t ≤ mostOctets → length (countText (length (records t)) ++ rulesText (records t)) ≤ mostText
+rules-short : (t : List ℕ) → (length (records t) ≤ length t) × (length (rulesText (records t)) ≤ 2 * length t + 6 * (length t / leastRecord))
 unfolding records
+rules-short t = let k = records-short t (omega arith) in (omega arith, omega arith)
+
+-- some records are printed, and those from a place on are left
+pub record Printing (t out : List ℕ) (at place : ℕ) (now : List ℕ) (end : ℕ) : Type 0 where
+  pub within : place ≤ length t
+  pub kept : length now ≡ length out
+  pub leaves : laid out at (rulesText (records t)) ≡ laid now end (rulesText (recordsLeft t place))
+  pub counts : at + length (rulesText (records t)) ≡ end + length (rulesText (recordsLeft t place))
+
+pub print-starts : (t out : List ℕ) (at : ℕ) → Printing t out at 0 out at
+unfolding records
+print-starts t out at = record { within = omega arith; kept = refl; leaves = refl; counts = refl }
+
+module _ (t out : List ℕ) (at place : ℕ) (now : List ℕ) (end : ℕ) (printing : Printing t out at place now end) where
+  pub print-done : recordsLeft t place ≡ [] → Printed out at (rulesText (records t)) now end
+  unfolding rulesText
+  print-done e =
+      (sym (printing .leaves ∙ rw e (laid-none now end)), sym (printing .counts ∙ rw e (add-zero end)))
+
+  -- what is printed of a list that fits is no longer than the longest
+  pub print-within : length t ≤ mostOctets → at ≤ mostAnswer → end ≤ mostText mostOctets
+  print-within h k = let counts = printing .counts in omega (arith, rules-short t)
+
+  pub print-more : (next : ℕ) → recordAt t place ≡ Record next → (then : List ℕ) (stop : ℕ) → Printed now end (ruleText (between t place next)) then stop
+      → Printing t out at next then stop
+  unfolding rulesText
+  print-more next e then stop p =
+      let f = was-found t place next e in
+      let size = f .size in
+      let within = f .within in
+      let more = left-more t place next e in
+      let text : List ℕ = ruleText (between t place next) in
+      let rest : List ℕ = rulesText (recordsLeft t next) in
+      record {
+        within = omega (arith, printing .within);
+        kept = rw (p .0) (length-laid now end text ∙ printing .kept);
+        leaves = printing .leaves ∙ rw (more, p .0, p .1) (laid-append now end text rest);
+        counts = printing .counts ∙ rw (more, p .1, length-append text rest) (omega arith);
+      }
+
+-- a list: the line of its count, and those of the records
+list-fits : (t : List ℕ) → length t ≤ mostOctets → length (countText (length (records t)) ++ rulesText (records t)) ≤ mostText (length t)
 list-fits t h =
-    let k = records-short t (omega arith) in
-    let n : ℕ = length (recordsFrom t 0 .items) in
-    let few : n < 10 ^ 4 = omega arith in
-    rw (length-append (countText n) (rulesText (recordsFrom t 0 .items))) (omega (arith, length-count n, length-decimal 4 n (omega arith) few))
+    let k = rules-short t in
+    rw (length-append (countText (length (records t))) (rulesText (records t))) (omega (arith, count-short (length (records t)) (omega arith)))
 
 -- the table's text: a count and the records, or the answer for an unsound table
 module _ (t : List ℕ) (family : Family) (four : family ≡ ipv4) (sound : Soundness) (told : sound ≡ soundness family t) where
@@ -168,6 +166,6 @@ module _ (t : List ℕ) (family : Family) (four : family ≡ ipv4) (sound : Soun
       let z = was-sound ipv4 t sound is used e .0 in
       by-test (leb (length t) mostOctets) (λ h. leb-true (length t) mostOctets h) (λ h. let f : false ≡ true = rw h at z in apart (cc))
 
-  pub list-within : (used : ℕ) → sound ≡ Sound used → length (listText t) ≤ mostText
+  pub list-within : (used : ℕ) → sound ≡ Sound used → length (listText t) ≤ mostText (length t)
   unfolding listText
   list-within used e = rw (was-sound ipv4 t sound is used e .0) (list-fits t (list-short used e))

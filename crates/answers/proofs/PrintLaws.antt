@@ -12,9 +12,9 @@ use Rattle.octets.proofs.Cases.{by-test}
 use Rattle.text.specs.Spelling.{quoted}
 use Rattle.text.specs.Decimal.{decimalOf}
 use Rattle.text.specs.Print.{Printed}
-use Rattle.text.proofs.DecimalLaws.{decimal-short}
+use Rattle.text.proofs.DecimalLaws.{length-decimal, decimal-short}
 use Rattle.text.proofs.PrintLaws.{laid-behind, laid-none}
-use Rattle.answers.specs.Answer.{placeText, answerText, countText, mostText, Answered}
+use Rattle.answers.specs.Answer.{placeText, answerText, countText, mostAnswer, mostText, Answered}
 
 -- nothing was printed
 pub printed-none : (out : List ℕ) (at : ℕ) (text : List ℕ) → text ≡ [] → Printed out at text out at
@@ -28,8 +28,8 @@ module _ (out : List ℕ) (at : ℕ) (s t : List ℕ) where
       (laid-behind out middle exit s t at place (p .0) (p .1) (q .0), q .1 ∙ rw (p .1, length-append s t) (omega arith))
 
 -- at the front the place is the text's length
-pub printed-short : (out text exit : List ℕ) (next : ℕ) → Printed out 0 text exit next → length text ≤ mostText → Answered out text exit next
-printed-short out text exit next p h = let e = p .1 ∙ zero-add (length text) in (p .0, e, omega arith)
+pub printed-short : (most : ℕ) (out text exit : List ℕ) (next : ℕ) → Printed out 0 text exit next → length text ≤ most → Answered most out text exit next
+printed-short most out text exit next p h = let e = p .1 ∙ zero-add (length text) in (p .0, e, omega arith)
 
 -- which refusals have a place
 module _ (number place : ℕ) where
@@ -51,15 +51,19 @@ unfolding placeText
 place-short number place h =
     by-test (leb 3 number && leb number 7) (λ t. rw t (omega (arith, decimal-short place h))) (λ t. rw t (omega arith))
 
-pub length-count : (count : ℕ) → length (countText count) ≡ 7 + length (decimalOf count)
+length-count : (count : ℕ) → length (countText count) ≡ 7 + length (decimalOf count)
 unfolding countText
 length-count count = rw (length-append (decimalOf count) (quoted "\n")) (omega arith)
 
 pub count-short : (count : ℕ) → count < 2 ^ 64 → length (countText count) ≤ 27
 count-short count h = omega (arith, length-count count, decimal-short count h)
 
-pub answer-short : (number place : ℕ) → number < 2 ^ 64 → place < 2 ^ 64 → length (answerText number place) ≤ mostText
+pub answer-short : (number place : ℕ) → number < 10 ^ 3 → place < 2 ^ 64 → length (answerText number place) ≤ mostAnswer
 unfolding answerText
 answer-short number place h k =
     rw (length-append (decimalOf number) (placeText number place ++ quoted "\n"), length-append (placeText number place) (quoted "\n"))
-    (omega (arith, decimal-short number h, place-short number place k))
+    (omega (arith, length-decimal 3 number (omega arith) h, place-short number place k))
+
+-- an answer is no longer than a list may be, whatever the table's length
+pub answer-fits : (n printed : ℕ) → printed ≤ mostAnswer → printed ≤ mostText n
+answer-fits n printed h = omega arith

@@ -1,11 +1,12 @@
 -- What the program prints. Every line of it ends in LF.
-use Prim.Native.Nat.{ℕ, _≤_}
+use Prim.Native.Nat.{ℕ, _+_, _*_, _/_, _≤_}
 use mathlib.Core.Path.{_≡_}
 use mathlib.Core.Bool.{cond, _&&_}
 use mathlib.Core.List.{List, [], _∷_, _++_}
 use lib.Dec.{leb}
 use lib.ListN.{length}
 use Rattle.rule.specs.Family.{ipv4}
+use Rattle.entry.specs.Record.{headCost}
 use Rattle.table.specs.Walk.{records}
 use Rattle.table.specs.Sound.{soundTable}
 use Rattle.flowspec.specs.Told.{Told}
@@ -47,12 +48,21 @@ countText count = quoted "rules\t" ++ (decimalOf count ++ quoted "\n")
 unfoldable pub listText : List ℕ → List ℕ
 listText table = cond (soundTable ipv4 table) (countText (length (records table)) ++ rulesText (records table)) (answerText 10 0)
 
--- No text that the program prints is longer than this. 65,536 octets hold at most 1,985 records, since a record has at least 33; so a
--- list's first line has at most 11 octets, and the others have two for each octet of the records and six more each.
-abbrev pub mostText : ℕ
-mostText = 142993
+-- The most octets of an answer: `answer` and a tab, a number of at most 3 digits, a tab and a place of at most 20, and LF. The first line
+-- of a list, `rules` and a tab, a count of at most 20 digits and LF, has less.
+abbrev pub mostAnswer : ℕ
+mostAnswer = 32
+
+-- The least octets of a record: a head, and a value of one octet.
+abbrev pub leastRecord : ℕ
+leastRecord = headCost + 1
+
+-- The most octets that a line prints over a table of n octets: an answer, or a list, whose first line has no more than an answer, and whose
+-- others have two digits for each octet of the table and six more, `rule`, a tab and LF, for each record that n octets can hold.
+abbrev pub mostText : ℕ → ℕ
+mostText n = mostAnswer + (2 * n + 6 * (n / leastRecord))
 
 -- A text was printed to the front of a buffer, as far as that reaches: what the buffer holds then, and how long the text is, which is no
 -- more than the most.
-abbrev pub Answered : List ℕ → List ℕ → List ℕ → ℕ → Type 0
-Answered out text exit printed = (exit ≡ laid out 0 text) × (printed ≡ length text) × (printed ≤ mostText)
+abbrev pub Answered : ℕ → List ℕ → List ℕ → List ℕ → ℕ → Type 0
+Answered most out text exit printed = (exit ≡ laid out 0 text) × (printed ≡ length text) × (printed ≤ most)

@@ -7,20 +7,23 @@ ghost use Rattle.table.specs.Sound.{mostOctets};
 ghost use Rattle.table.specs.Walk.{records};
 ghost use Rattle.flowspec.specs.Told.{changeTold};
 ghost use Rattle.text.specs.Print.{Printed};
-ghost use Rattle.answers.specs.Answer.{placeText, answerText, unknownText, changeText, countText, ruleText, rulesText, listText, Answered};
+ghost use Rattle.answers.specs.Answer.{placeText, answerText, unknownText, changeText, countText, ruleText, rulesText, listText, mostAnswer, mostText, Answered};
 use flowspec::Change;
 use rule::AddressFamily;
 use table::NextRecord;
 use table::Soundness;
 
-// No text that a line prints has more octets than these, which `mostText` in specs/Answer.antt counts.
-pub const MOST_TEXT: usize = 142993;
+// The most octets of an answer, which `mostAnswer` in specs/Answer.antt counts.
+pub const MOST_ANSWER: usize = 32;
+
+// The least octets of a record: a head, and a value of one octet.
+pub const LEAST_RECORD: usize = entry::HEAD_COST + 1;
 
 // ---- Printing an answer ----
 
-// Prints the place of a refusal from 3 to 7 behind the answer's number, which ends within 100 octets: where to go on.
+// Prints the place of a refusal from 3 to 7 behind the answer's number, which ends within what an answer has: where to go on.
 fn put_place(out: &mut [u8], at: usize, number: u8, place: usize) -> usize
-    requires { ⌜ at ≤ 100 ⌝ }
+    requires { ⌜ at ≤ mostAnswer ⌝ }
     ensures { λ r. ⌜ Printed (now (out .entry)) at (placeText number place) (now (out .exit)) r ⌝ }
 {
     if number < 3 {
@@ -35,7 +38,7 @@ fn put_place(out: &mut [u8], at: usize, number: u8, place: usize) -> usize
 
 // Prints the answer of a call: how long the text is.
 fn put_answer(out: &mut [u8], number: u8, place: usize) -> usize
-    ensures { λ r. ⌜ Answered (now (out .entry)) (answerText number place) (now (out .exit)) r ⌝ }
+    ensures { λ r. ⌜ Answered mostAnswer (now (out .entry)) (answerText number place) (now (out .exit)) r ⌝ }
 {
     let start = text::put_octets(out, 0, b"answer\t");
     let end = text::put_decimal(out, start, number as u64);
@@ -45,7 +48,7 @@ fn put_answer(out: &mut [u8], number: u8, place: usize) -> usize
 
 // Prints the answer of a change of the table: how long the text is.
 pub fn put_change(out: &mut [u8], change: Change) -> usize
-    ensures { λ r. ⌜ Answered (now (out .entry)) (changeText (changeTold change)) (now (out .exit)) r ⌝ }
+    ensures { λ r. ⌜ Answered mostAnswer (now (out .entry)) (changeText (changeTold change)) (now (out .exit)) r ⌝ }
 {
     match change {
         Change::Done => put_answer(out, 0, 0),
@@ -55,7 +58,7 @@ pub fn put_change(out: &mut [u8], change: Change) -> usize
 
 // Prints the answer to a line of another form: how long the text is.
 pub fn put_unknown(out: &mut [u8]) -> usize
-    ensures { λ r. ⌜ Answered (now (out .entry)) unknownText (now (out .exit)) r ⌝ }
+    ensures { λ r. ⌜ Answered mostAnswer (now (out .entry)) unknownText (now (out .exit)) r ⌝ }
 {
     text::put_octets(out, 0, b"answer\t?\n")
 }
@@ -86,9 +89,10 @@ fn put_count(out: &mut [u8], count: usize) -> usize
     text::put_octets(out, end, b"\n")
 }
 
-// Prints a record, which is no longer than a table, from a place on in a list, which has less than a million octets: where to go on.
+// Prints a record, which is no longer than a table, from a place on in a list, which is no longer than that of the longest table: where
+// to go on.
 fn put_record(out: &mut [u8], at: usize, held: &[u8]) -> usize
-    requires { ⌜ (at ≤ 1000000) × (length (now held) ≤ mostOctets) ⌝ }
+    requires { ⌜ (at ≤ mostText mostOctets) × (length (now held) ≤ mostOctets) ⌝ }
     ensures { λ r. ⌜ Printed (now (out .entry)) at (ruleText (now (held .entry))) (now (out .exit)) r ⌝ }
 {
     let start = text::put_octets(out, at, b"rule\t");
@@ -96,9 +100,9 @@ fn put_record(out: &mut [u8], at: usize, held: &[u8]) -> usize
     text::put_octets(out, end, b"\n")
 }
 
-// Prints the records of a table behind their count, whose line ends within 100 octets: where to go on.
+// Prints the records of a table behind their count, whose line has no more octets than an answer: where to go on.
 fn put_records(table: &[u8], out: &mut [u8], at: usize) -> usize
-    requires { ⌜ (length (now table) ≤ mostOctets) × (at ≤ 100) ⌝ }
+    requires { ⌜ (length (now table) ≤ mostOctets) × (at ≤ mostAnswer) ⌝ }
     ensures { λ r. ⌜ Printed (now (out .entry)) at (rulesText (records (now (table .entry)))) (now (out .exit)) r ⌝ }
 {
     let mut place: usize = 0;
@@ -114,7 +118,7 @@ fn put_records(table: &[u8], out: &mut [u8], at: usize) -> usize
 
 // Prints the table: how long the text is.
 pub fn put_list(out: &mut [u8], table: &[u8]) -> usize
-    ensures { λ r. ⌜ Answered (now (out .entry)) (listText (now (table .entry))) (now (out .exit)) r ⌝ }
+    ensures { λ r. ⌜ Answered (mostText (length (now (table .entry)))) (now (out .entry)) (listText (now (table .entry))) (now (out .exit)) r ⌝ }
 {
     match table::sound_table(rule::family_of(AddressFamily::Ipv4), table) {
         Soundness::Unsound => put_answer(out, 10, 0),

@@ -15,7 +15,7 @@ use Rattle.request.specs.Input.{announcementOf, policyOf}
 use Rattle.line.specs.Line.{Line, route, announce, withdraw, list, other, lineOf}
 use Rattle.line.proofs.SaidLaws.{announced-could}
 use Rattle.lines.specs.Serve.{routeFits, served}
-use Rattle.lines.specs.Input.{State, firstState, linesOf, afterLine, afterLines, leftBy}
+use Rattle.lines.specs.Input.{State, programOctets, firstState, linesOf, afterLine, afterLines, leftBy}
 use Rattle.history.specs.History.{Call, Made, CanBe, EachCanBe, Happened, endOf, historyOf, emptyTable, FromEmpty, HoldsExactly}
 use Rattle.history.proofs.HistoryLaws.{history-holds}
 use Rattle.history.proofs.Happens.{end-append, given-append, happened-append, happens, each-given}
@@ -78,6 +78,6 @@ lines-hold n fits state empty lines =
     (history-holds ipv4 n (madeBy state lines) from)
 
 -- **so of the program, after any input**
-pub input-holds : (input : List ℕ) → HoldsExactly ipv4 mostOctets (madeBy firstState (linesOf input)) (leftBy input .table)
+pub input-holds : (input : List ℕ) → HoldsExactly ipv4 programOctets (madeBy (firstState programOctets) (linesOf input)) (leftBy programOctets input .table)
 unfolding firstState
-input-holds input = lines-hold mostOctets (omega arith) firstState refl (linesOf input)
+input-holds input = lines-hold programOctets (omega arith) (firstState programOctets) refl (linesOf input)

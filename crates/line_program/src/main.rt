@@ -4,14 +4,14 @@
 ghost use mathlib.Core.Path.{_≡_};
 ghost use mathlib.Core.Bool.{true};
 ghost use mathlib.Core.List.{List, _++_};
-ghost use Prim.Native.Nat.{ℕ, _+_, _<_};
+ghost use Prim.Native.Nat.{ℕ, _+_, _<_, _≤_};
 ghost use lib.IntN.{pos};
 ghost use lib.ListN.{length};
 ghost use lib.Signed.{_≤ℤ_};
 ghost use Rattle.text.specs.Print.{laid};
 ghost use Rattle.line.specs.Line.{mostSigns};
 ghost use Rattle.answers.specs.Answer.{mostText};
-ghost use Rattle.lines.specs.Input.{stateOf, firstState, lineText, afterLine, leftBy};
+ghost use Rattle.lines.specs.Input.{stateOf, programOctets, firstState, lineText, afterLine, leftBy};
 ghost use Rattle.lines.specs.Blocks.{LedBy, Led};
 use libc::STDERR_FILENO;
 use libc::STDIN_FILENO;
@@ -22,6 +22,13 @@ const BLOCK: usize = 65536;
 
 // The octets of the buffer for a line: one more than a line may have.
 const LINE: usize = line::MOST_SIGNS + 1;
+
+// The octets of the table.
+const TABLE: usize = 65536;
+
+// The octets of the buffer for what a line prints: the most that one prints over the table, which `mostText` in answers/specs/Answer.antt
+// counts.
+const TEXT: usize = answers::MOST_ANSWER + 2 * TABLE + 6 * (TABLE / answers::LEAST_RECORD);
 
 // Where the program stands: the octets of a line not ended yet that its buffer holds, the words of routes in use, and whether the output
 // still takes what is written.
@@ -39,7 +46,7 @@ fn answer(
     table: &mut [u8],
     out: &mut [u8],
 ) -> Progress
-    requires { ⌜ length (now out) ≡ mostText ⌝ }
+    requires { ⌜ mostText (length (now table)) ≤ length (now out) ⌝ }
     ensures { λ r. ⌜ (r .held ≡ 0) × (stateOf (r .used) (now (routes .exit)) (now (table .exit)) ≡ afterLine (stateOf used (now (routes .entry)) (now (table .entry))) (now (line .entry))) × (now (out .exit) ≡ laid (now (out .entry)) 0 (lineText (stateOf used (now (routes .entry)) (now (table .entry))) (now (line .entry)))) ⌝ }
 {
     let served = lines::serve(line, routes, used, table, out);
@@ -68,8 +75,8 @@ fn answer_block(
     out: &mut [u8],
     start: Progress,
 ) -> Progress
-    requires { ⌜ (length (now out) ≡ mostText) × Led (now line) (start .held) (start .used) (now routes) (now table) ⌝ }
-    ensures { λ r. ⌜ ((input : List ℕ) → LedBy input (now (line .entry)) (start .held) (start .used) (now (routes .entry)) (now (table .entry)) → r .open ≡ true → LedBy (input ++ now (block .entry)) (now (line .exit)) (r .held) (r .used) (now (routes .exit)) (now (table .exit))) ⌝ }
+    requires { ⌜ (mostText (length (now table)) ≤ length (now out)) × Led programOctets (now line) (start .held) (start .used) (now routes) (now table) ⌝ }
+    ensures { λ r. ⌜ ((input : List ℕ) → LedBy programOctets input (now (line .entry)) (start .held) (start .used) (now (routes .entry)) (now (table .entry)) → r .open ≡ true → LedBy programOctets (input ++ now (block .entry)) (now (line .exit)) (r .held) (r .used) (now (routes .exit)) (now (table .exit))) ⌝ }
 {
     let mut at = 0;
     let mut held = start.held;
@@ -103,8 +110,8 @@ fn answer_rest(
     out: &mut [u8],
     last: Progress,
 )
-    requires { ⌜ (got ≤ℤ pos 0) × (length (now out) ≡ mostText) × Led (now line) (last .held) (last .used) (now routes) (now table) ⌝ }
-    ensures { λ _. ⌜ (got ≡ pos 0 → (input : List ℕ) → LedBy input (now (line .entry)) (last .held) (last .used) (now (routes .entry)) (now (table .entry)) → (now (routes .exit) ≡ leftBy input .routes) × (now (table .exit) ≡ leftBy input .table)) ⌝ }
+    requires { ⌜ (got ≤ℤ pos 0) × (mostText (length (now table)) ≤ length (now out)) × Led programOctets (now line) (last .held) (last .used) (now routes) (now table) ⌝ }
+    ensures { λ _. ⌜ (got ≡ pos 0 → (input : List ℕ) → LedBy programOctets input (now (line .entry)) (last .held) (last .used) (now (routes .entry)) (now (table .entry)) → (now (routes .exit) ≡ leftBy programOctets input .routes) × (now (table .exit) ≡ leftBy programOctets input .table)) ⌝ }
 {
     if got < 0 {
         io::write_all(STDERR_FILENO, b"line_program: the input cannot be read\n");
@@ -120,7 +127,7 @@ fn answer_rest(
 // Reads the input block by block and serves its lines; since a proved loop has to end and nothing says that the input does, it counts its
 // turns down from a number that no run uses up.
 fn run(block: &mut [u8], line: &mut [u8], routes: &mut [u32], table: &mut [u8], out: &mut [u8])
-    requires { ⌜ (0 < length (now block)) × (length (now line) ≡ mostSigns + 1) × (stateOf 0 (now routes) (now table) ≡ firstState) × (length (now out) ≡ mostText) ⌝ }
+    requires { ⌜ (0 < length (now block)) × (length (now line) ≡ mostSigns + 1) × (stateOf 0 (now routes) (now table) ≡ firstState programOctets) × (mostText (length (now table)) ≤ length (now out)) ⌝ }
 {
     let mut progress = Progress {
         held: 0,
@@ -148,7 +155,7 @@ fn main() {
     let mut block = [0u8; BLOCK];
     let mut line = [0u8; LINE];
     let mut routes = [0u32; lines::MOST_WORDS];
-    let mut table = [0u8; table::MOST_OCTETS];
-    let mut out = [0u8; answers::MOST_TEXT];
+    let mut table = [0u8; TABLE];
+    let mut out = [0u8; TEXT];
     run(&mut block, &mut line, &mut routes, &mut table, &mut out);
 }

@@ -130,11 +130,11 @@ left-from rest state (x ∷ input) =
     (λ e. rw (lines-other rest x input e, after-other (standing rest state) x input e) (left-from (rest ++ (x ∷ [])) state input))
 
 -- a whole input: what it prints and what it leaves
-pub output-is : (input : List ℕ) → outputOf input ≡ blockText (standing [] firstState) input ++ endText (standingAfter input)
-output-is input = text-from [] firstState input
+pub output-is : (n : ℕ) (input : List ℕ) → outputOf n input ≡ blockText (standing [] (firstState n)) input ++ endText (standingAfter n input)
+output-is n input = text-from [] (firstState n) input
 
-pub left-is : (input : List ℕ) → leftBy input ≡ afterEnd (standingAfter input)
-left-is input = left-from [] firstState input
+pub left-is : (n : ℕ) (input : List ℕ) → leftBy n input ≡ afterEnd (standingAfter n input)
+left-is n input = left-from [] (firstState n) input
 
 -- an input in any number of blocks
 blocks-from : (s : Standing) (blocks : List (List ℕ)) → blockText s (joined blocks) ++ endText (afterBlock s (joined blocks)) ≡ blocksText s blocks
@@ -145,8 +145,8 @@ blocks-from s (block ∷ blocks) =
     (append-assoc (blockText s block) (blockText (afterBlock s block) (joined blocks)) (endText (afterBlock (afterBlock s block) (joined blocks)))
     ∙ ap (λ t. blockText s block ++ t) (blocks-from (afterBlock s block) blocks))
 
-pub any-cut : (blocks : List (List ℕ)) → blocksText (standing [] firstState) blocks ≡ outputOf (joined blocks)
-any-cut blocks = sym (output-is (joined blocks) ∙ blocks-from (standing [] firstState) blocks)
+pub any-cut : (n : ℕ) (blocks : List (List ℕ)) → blocksText (standing [] (firstState n)) blocks ≡ outputOf n (joined blocks)
+any-cut n blocks = sym (output-is n (joined blocks) ∙ blocks-from (standing [] (firstState n)) blocks)
 
 -- where the first LF stands
 place-here : (x : ℕ) (block : List ℕ) → eqb x 10 ≡ true → placeOf 10 (x ∷ block) ≡ 0
@@ -312,59 +312,59 @@ module _ (line : List ℕ) (used : ℕ) (routes table out : List ℕ) (answer : 
       let u = ap (λ (a : Served). a .used) (serves .is) in
       λ i. record { used = u i; routes = serves .leavesRoutes i; table = serves .leavesTable i }
 
-  pub serves-text : length out ≡ mostText → take (answer .printed) x ≡ lineText (stateOf used routes table) line
+  pub serves-text : mostText (length table) ≤ length out → take (answer .printed) x ≡ lineText (stateOf used routes table) line
   serves-text l =
       let p : answer .printed ≡ length (lineText (stateOf used routes table) line) = ap (λ (a : Served). a .printed) (serves .is) in
       let h = serves .short in
       front-is out x (lineText (stateOf used routes table) line) (answer .printed) (serves .prints) p (omega arith)
 
 -- the program's buffers: at the start, from turn to turn of a block, and at the end of the input
-pub led-first : (line routes table : List ℕ) → length line ≡ mostSigns + 1 → stateOf 0 routes table ≡ firstState → LedBy [] line 0 0 routes table
+pub led-first : (n : ℕ) (line routes table : List ℕ) → length line ≡ mostSigns + 1 → stateOf 0 routes table ≡ firstState n → LedBy n [] line 0 0 routes table
 unfolding afterBlock
-led-first line routes table l e = record { long = l; within = omega arith; rest = sym (take-nil (mostSigns + 1)); state = e }
+led-first n line routes table l e = record { long = l; within = omega arith; rest = sym (take-nil (mostSigns + 1)); state = e }
 
-part-on : (input block : List ℕ) (at taken : ℕ)
-    → afterBlock (standingAfter (input ++ take at block)) (take taken (take (length block - at) (drop at block))) ≡ standingAfter (input ++ take (at + taken) block)
-part-on input block at taken =
-    sym (block-append (standing [] firstState) (input ++ take at block) (take taken (take (length block - at) (drop at block))))
-    ∙ ap standingAfter
+part-on : (n : ℕ) (input block : List ℕ) (at taken : ℕ)
+    → afterBlock (standingAfter n (input ++ take at block)) (take taken (take (length block - at) (drop at block))) ≡ standingAfter n (input ++ take (at + taken) block)
+part-on n input block at taken =
+    sym (block-append (standing [] (firstState n)) (input ++ take at block) (take taken (take (length block - at) (drop at block))))
+    ∙ ap (standingAfter n)
     (ap (λ d. input ++ take at block ++ take taken d) (take-all (length block - at) (drop at block) (simp length-drop (omega arith)))
     ∙ append-assoc input (take at block) (take taken (drop at block)) ∙ ap (λ d. input ++ d) (sym (take-add at taken block)))
 
-module _ (input block : List ℕ) (at : ℕ) (line : List ℕ) (held used : ℕ) (routes table : List ℕ) (so-far : LedBy (input ++ take at block) line held used routes table) where
+module _ (n : ℕ) (input block : List ℕ) (at : ℕ) (line : List ℕ) (held used : ℕ) (routes table : List ℕ) (so-far : LedBy n (input ++ take at block) line held used routes table) where
   module _ (part : Gathered) (exit : List ℕ) (k : List (List ℕ)) (gathers : Gathers (take (length block - at) (drop at block)) line held part exit k) where
-    pub block-on : part .ended ≡ false → LedBy (input ++ take (at + part .taken) block) exit (part .held) used routes table
+    pub block-on : part .ended ≡ false → LedBy n (input ++ take (at + part .taken) block) exit (part .held) used routes table
     block-on e =
-        subst (λ m. Holds m exit (part .held) used routes table) (part-on input block at (part .taken))
-        (turn-open (standingAfter (input ++ take at block)) (take (length block - at) (drop at block)) line held used routes table so-far part exit k gathers e)
+        subst (λ m. Holds m exit (part .held) used routes table) (part-on n input block at (part .taken))
+        (turn-open (standingAfter n (input ++ take at block)) (take (length block - at) (drop at block)) line held used routes table so-far part exit k gathers e)
 
     pub block-answered : part .ended ≡ true → (u : ℕ) (r t : List ℕ) → stateOf u r t ≡ afterLine (stateOf used routes table) (take (part .held) exit)
-        → LedBy (input ++ take (at + part .taken) block) exit 0 u r t
+        → LedBy n (input ++ take (at + part .taken) block) exit 0 u r t
     block-answered e u r t is =
-        subst (λ m. Holds m exit 0 u r t) (part-on input block at (part .taken))
-        (turn-ended (standingAfter (input ++ take at block)) (take (length block - at) (drop at block)) line held used routes table so-far part exit k gathers e u r t is)
+        subst (λ m. Holds m exit 0 u r t) (part-on n input block at (part .taken))
+        (turn-ended (standingAfter n (input ++ take at block)) (take (length block - at) (drop at block)) line held used routes table so-far part exit k gathers e u r t is)
 
-  pub block-done : length block ≤ at → LedBy (input ++ block) line held used routes table
-  block-done h = subst (λ b. LedBy (input ++ b) line held used routes table) (take-all at block h) so-far
+  pub block-done : length block ≤ at → LedBy n (input ++ block) line held used routes table
+  block-done h = subst (λ b. LedBy n (input ++ b) line held used routes table) (take-all at block h) so-far
 
-pub block-first : (input block line : List ℕ) (held used : ℕ) (routes table : List ℕ) → LedBy input line held used routes table
-    → LedBy (input ++ take 0 block) line held used routes table
-block-first input block line held used routes table led = subst (λ b. LedBy b line held used routes table) (sym (append-nil input)) led
+pub block-first : (n : ℕ) (input block line : List ℕ) (held used : ℕ) (routes table : List ℕ) → LedBy n input line held used routes table
+    → LedBy n (input ++ take 0 block) line held used routes table
+block-first n input block line held used routes table led = subst (λ b. LedBy n b line held used routes table) (sym (append-nil input)) led
 
-module _ (input line : List ℕ) (held used : ℕ) (routes table : List ℕ) (led : LedBy input line held used routes table) where
-  rest-size : held ≡ min (mostSigns + 1) (length (standingAfter input .rest))
-  rest-size = sym (length-take-le held line (led .within)) ∙ ap length (led .rest) ∙ length-take (mostSigns + 1) (standingAfter input .rest)
+module _ (n : ℕ) (input line : List ℕ) (held used : ℕ) (routes table : List ℕ) (led : LedBy n input line held used routes table) where
+  rest-size : held ≡ min (mostSigns + 1) (length (standingAfter n input .rest))
+  rest-size = sym (length-take-le held line (led .within)) ∙ ap length (led .rest) ∙ length-take (mostSigns + 1) (standingAfter n input .rest)
 
-  pub end-empty : held ≡ 0 → stateOf used routes table ≡ leftBy input
+  pub end-empty : held ≡ 0 → stateOf used routes table ≡ leftBy n input
   end-empty e =
-      let n = rest-size in
-      let z : length (standingAfter input .rest) ≡ 0 = omega arith in
-      sym (left-is input ∙ ap (λ b. cond b (standingAfter input .state) (afterLine (standingAfter input .state) (standingAfter input .rest))) (eq-eqb (length (standingAfter input .rest)) 0 z) ∙ sym (led .state))
+      let k = rest-size in
+      let z : length (standingAfter n input .rest) ≡ 0 = omega arith in
+      sym (left-is n input ∙ ap (λ b. cond b (standingAfter n input .state) (afterLine (standingAfter n input .state) (standingAfter n input .rest))) (eq-eqb (length (standingAfter n input .rest)) 0 z) ∙ sym (led .state))
 
-  pub end-served : (held ≡ 0 → ⊥) → (u : ℕ) (r t : List ℕ) → stateOf u r t ≡ afterLine (stateOf used routes table) (take held line) → stateOf u r t ≡ leftBy input
+  pub end-served : (held ≡ 0 → ⊥) → (u : ℕ) (r t : List ℕ) → stateOf u r t ≡ afterLine (stateOf used routes table) (take held line) → stateOf u r t ≡ leftBy n input
   end-served e u r t is =
-      let n = rest-size in
-      let z : length (standingAfter input .rest) ≡ 0 → ⊥ = λ q. e (omega arith) in
-      is ∙ ap (afterLine (stateOf used routes table)) (led .rest) ∙ after-cut (stateOf used routes table) (standingAfter input .rest)
-      ∙ ap (λ q. afterLine q (standingAfter input .rest)) (led .state)
-      ∙ sym (left-is input ∙ ap (λ b. cond b (standingAfter input .state) (afterLine (standingAfter input .state) (standingAfter input .rest))) (ne-eqb (length (standingAfter input .rest)) 0 z))
+      let k = rest-size in
+      let z : length (standingAfter n input .rest) ≡ 0 → ⊥ = λ q. e (omega arith) in
+      is ∙ ap (afterLine (stateOf used routes table)) (led .rest) ∙ after-cut (stateOf used routes table) (standingAfter n input .rest)
+      ∙ ap (λ q. afterLine q (standingAfter n input .rest)) (led .state)
+      ∙ sym (left-is n input ∙ ap (λ b. cond b (standingAfter n input .state) (afterLine (standingAfter n input .state) (standingAfter n input .rest))) (ne-eqb (length (standingAfter n input .rest)) 0 z))

@@ -21,7 +21,8 @@ use Rattle.text.specs.Hex.{octetsIn}
 use Rattle.text.specs.Print.{laid}
 use Rattle.text.proofs.HexLaws.{length-octetsIn}
 use Rattle.text.proofs.PrintLaws.{laid-stored, length-laid, laid-none}
-use Rattle.answers.specs.Answer.{unknownText, changeText, listText, mostText, Answered}
+use Rattle.answers.specs.Answer.{unknownText, changeText, listText, mostAnswer, mostText, Answered}
+use Rattle.answers.proofs.PrintLaws.{answer-fits}
 use Rattle.lines.specs.declared.Served.{Served}
 use Rattle.line.specs.declared.Form.{Form}
 use Rattle.line.specs.declared.Form.the-variants.{Route, Announce, Withdraw, Listing, Unknown}
@@ -47,7 +48,7 @@ route-room routes used fits is t =
 
 -- a route line that was served
 module _ (routes : List ℕ) (used address size originator neighbour : ℕ) (out : List ℕ) (fits : Bool) (is : fits ≡ routeFits used routes) where
-  pub route-not-added : not fits ≡ true → (printed : ℕ) (x : List ℕ) → Answered out unknownText x printed
+  pub route-not-added : not fits ≡ true → (printed : ℕ) (x : List ℕ) → Answered mostAnswer out unknownText x printed
       → Adds (adding (address ∷ size ∷ originator ∷ neighbour ∷ []) used routes []) out (record { printed = printed; used = used }) routes x
   route-not-added t printed x p =
       rw (sym is ∙ not-true fits t)
@@ -97,7 +98,7 @@ module _ (room exit text : List ℕ) (count : ℕ) (reads : (exit ≡ laid room 
 
 -- a change of the table whose answer was printed
 pub changes : (o : Outcome) (out : List ℕ) (change : Change) (t x : List ℕ) (printed : ℕ) → change ≡ o .answer → t ≡ o .table
-    → Answered out (changeText (changeTold change)) x printed → Changes o out printed t x
+    → Answered mostAnswer out (changeText (changeTold change)) x printed → Changes o out printed t x
 changes o out change t x printed a e p = record { leaves = e; prints = rw (← a) p }
 
 -- the routes in use, where `used` may pass the buffer's end
@@ -133,7 +134,7 @@ module _ (line : List ℕ) (used : ℕ) (routes table out : List ℕ) (form : Fo
 
   -- a promise from the equation for what serving leaves
   serves : (o : Serving) → served line used routes table ≡ o → (answer : Served) (r t x : List ℕ) → answer ≡ servedTold o → r ≡ o .routes → t ≡ o .table
-      → x ≡ laid out 0 (o .text) → answer .printed ≤ mostText → Serves line used routes table out answer r t x (line ∷ [])
+      → x ≡ laid out 0 (o .text) → answer .printed ≤ mostText (length table) → Serves line used routes table out answer r t x (line ∷ [])
   serves o e answer r t x a b c d s = record { is = rw e a; leavesRoutes = rw e b; leavesTable = rw e c; prints = rw e d; short = s; keeps = refl }
 
   pub serve-routed : (address size originator neighbour : ℕ) → form ≡ Route address size originator neighbour → (answer : Served) (r x : List ℕ)
@@ -142,7 +143,7 @@ module _ (line : List ℕ) (used : ℕ) (routes table out : List ℕ) (form : Fo
   serve-routed address size originator neighbour is answer r x a =
       serves (with-table (adding (address ∷ size ∷ originator ∷ neighbour ∷ []) used routes []) table)
       (served-as (Route address size originator neighbour) is ∙ any-table (address ∷ size ∷ originator ∷ neighbour ∷ []) used routes table) _ _ _ _
-      (a .is) (a .leaves) refl (a .prints) (a .short)
+      (a .is) (a .leaves) refl (a .prints) (answer-fits _ _ (a .short))
 
   module _ (rule ruleEnd originator communities : ℕ) (is : form ≡ Announce rule ruleEnd originator communities) where
     pub serve-announced : (count printed : ℕ) (t x : List ℕ) → count ≡ min used (length routes)
@@ -151,25 +152,25 @@ module _ (line : List ℕ) (used : ℕ) (routes table out : List ℕ) (form : Fo
     serve-announced count printed t x e c =
         serves (changing (announcing ipv4 (policyOf (take count routes) false) (announcementOf (octetsIn (between line rule ruleEnd)) originator (octetsIn (between line communities (length line)))) table) used routes)
         (served-as (Announce rule ruleEnd originator communities) is ∙ rw (in-use used count routes e)) _ _ _ _
-        (λ i. record { printed = c .prints .1 i; used = used }) refl (c .leaves) (c .prints .0) (c .prints .2)
+        (λ i. record { printed = c .prints .1 i; used = used }) refl (c .leaves) (c .prints .0) (answer-fits _ _ (c .prints .2))
 
   module _ (rule : ℕ) (is : form ≡ Withdraw rule) where
     pub serve-withdrawn : (printed : ℕ) (t x : List ℕ) → Changes (withdrawing ipv4 (octetsIn (between line rule (length line))) table) out printed t x
         → Serves line used routes table out (record { printed = printed; used = used }) routes t x (line ∷ [])
     serve-withdrawn printed t x c =
         serves (changing (withdrawing ipv4 (octetsIn (between line rule (length line))) table) used routes) (served-as (Withdraw rule) is) _ _ _ _
-        (λ i. record { printed = c .prints .1 i; used = used }) refl (c .leaves) (c .prints .0) (c .prints .2)
+        (λ i. record { printed = c .prints .1 i; used = used }) refl (c .leaves) (c .prints .0) (answer-fits _ _ (c .prints .2))
 
   -- a line that prints and changes nothing
   serve-printed : (text : List ℕ) → served line used routes table ≡ printing text used routes table → (printed : ℕ) (x : List ℕ)
-      → Answered out text x printed
+      → Answered (mostText (length table)) out text x printed
       → Serves line used routes table out (record { printed = printed; used = used }) routes table x (line ∷ [])
   serve-printed text e printed x p = serves (printing text used routes table) e _ _ _ _ (λ i. record { printed = p .1 i; used = used }) refl refl (p .0) (p .2)
 
-  pub serve-listed : form ≡ Listing → (printed : ℕ) (x : List ℕ) → Answered out (listText table) x printed
+  pub serve-listed : form ≡ Listing → (printed : ℕ) (x : List ℕ) → Answered (mostText (length table)) out (listText table) x printed
       → Serves line used routes table out (record { printed = printed; used = used }) routes table x (line ∷ [])
   serve-listed is = serve-printed (listText table) (served-as Listing is)
 
-  pub serve-unknown : form ≡ Unknown → (printed : ℕ) (x : List ℕ) → Answered out unknownText x printed
+  pub serve-unknown : form ≡ Unknown → (printed : ℕ) (x : List ℕ) → Answered mostAnswer out unknownText x printed
       → Serves line used routes table out (record { printed = printed; used = used }) routes table x (line ∷ [])
-  serve-unknown is = serve-printed unknownText (served-as Unknown is)
+  serve-unknown is printed x p = serve-printed unknownText (served-as Unknown is) printed x (p .0, p .1, answer-fits _ _ (p .2))

@@ -56,9 +56,9 @@ unfoldable pub blocksText : Standing → List (List ℕ) → List ℕ
 blocksText s [] = endText s
 blocksText s (block ∷ blocks) = blockText s block ++ blocksText (afterBlock s block) blocks
 
--- Where the program stands behind an input, from its start on.
-abbrev pub standingAfter : List ℕ → Standing
-standingAfter input = afterBlock (standing [] firstState) input
+-- Where the program stands behind an input, from its start on, over a table of n octets.
+abbrev pub standingAfter : ℕ → List ℕ → Standing
+standingAfter n input = afterBlock (standing [] (firstState n)) input
 
 -- How the program's buffers hold where it stands: the line's buffer has one octet more than a line may have, and as much of the rest as
 -- fits.
@@ -68,10 +68,10 @@ pub record Holds (s : Standing) (line : List ℕ) (held used : ℕ) (routes tabl
   pub rest : take held line ≡ take (mostSigns + 1) (s .rest)
   pub state : stateOf used routes table ≡ s .state
 
--- An input leads to what the buffers hold.
-abbrev pub LedBy : List ℕ → List ℕ → ℕ → ℕ → List ℕ → List ℕ → Type 0
-LedBy input line held used routes table = Holds (standingAfter input) line held used routes table
+-- An input leads to what the buffers hold, over a table of n octets.
+abbrev pub LedBy : ℕ → List ℕ → List ℕ → ℕ → ℕ → List ℕ → List ℕ → Type 0
+LedBy n input line held used routes table = Holds (standingAfter n input) line held used routes table
 
 -- Some input does.
-abbrev pub Led : List ℕ → ℕ → ℕ → List ℕ → List ℕ → Type 0
-Led line held used routes table = (input : List ℕ) × LedBy input line held used routes table
+abbrev pub Led : ℕ → List ℕ → ℕ → ℕ → List ℕ → List ℕ → Type 0
+Led n line held used routes table = (input : List ℕ) × LedBy n input line held used routes table

@@ -1,12 +1,12 @@
 -- What is to be printed for a whole input, and what it leaves: the lines of the input are served one after the other, from an empty state
--- on. That the text is the same however the input is cut into blocks (Blocks.antt) is shown in proofs/InputLaws.antt; that the program
--- hands it to the operating system is run, as no contract can say what is written.
+-- on. The table may have any length; the program's has `programOctets`. That the text is the same however the input is cut into blocks
+-- (Blocks.antt) is shown in proofs/InputLaws.antt; that the program hands it to the operating system is run, as no contract can say what is
+-- written.
 use Prim.Native.Nat.{ℕ}
 use mathlib.Core.Bool.{cond}
 use mathlib.Core.List.{List, [], _∷_, _++_}
 use lib.Dec.{eqb}
 use lib.ListN.{replicate}
-use Rattle.table.specs.Sound.{mostOctets}
 use Rattle.text.specs.Field.{inFirst}
 use Rattle.lines.specs.Serve.{mostWords, served}
 
@@ -26,9 +26,13 @@ pub record State : Type 0 where
 abbrev pub stateOf : ℕ → List ℕ → List ℕ → State
 stateOf used routes table = record { used = used; routes = routes; table = table }
 
--- At the start there is no route, and no rule in the table. 01: "Its table is 65,536 octets."
-unfoldable pub firstState : State
-firstState = stateOf 0 (replicate mostWords 0) (replicate mostOctets 0)
+-- 01: "Its table is 65,536 octets."
+abbrev pub programOctets : ℕ
+programOctets = 65536
+
+-- At the start there is no route, and no rule in the table, which has n octets.
+unfoldable pub firstState : ℕ → State
+firstState n = stateOf 0 (replicate mostWords 0) (replicate n 0)
 
 -- What a line prints.
 abbrev pub lineText : State → List ℕ → List ℕ
@@ -50,10 +54,10 @@ unfoldable pub afterLines : State → List (List ℕ) → State
 afterLines state [] = state
 afterLines state (line ∷ lines) = afterLines (afterLine state line) lines
 
--- What a whole input prints.
-abbrev pub outputOf : List ℕ → List ℕ
-outputOf input = linesText firstState (linesOf input)
+-- What a whole input prints over a table of n octets.
+abbrev pub outputOf : ℕ → List ℕ → List ℕ
+outputOf n input = linesText (firstState n) (linesOf input)
 
 -- What a whole input leaves.
-abbrev pub leftBy : List ℕ → State
-leftBy input = afterLines firstState (linesOf input)
+abbrev pub leftBy : ℕ → List ℕ → State
+leftBy n input = afterLines (firstState n) (linesOf input)

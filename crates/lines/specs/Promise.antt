@@ -4,6 +4,7 @@
 use Prim.Native.Nat.{ℕ, _≤_}
 use mathlib.Core.Path.{_≡_}
 use mathlib.Core.List.{List, [], _∷_}
+use lib.ListN.{length}
 use Rattle.text.specs.Print.{laid}
 use Rattle.lines.specs.declared.Served.{Served}
 use Rattle.lines.specs.declared.Gathered.{Gathered}
@@ -12,14 +13,14 @@ use Rattle.lines.specs.Serve.{served, servedTold}
 use Rattle.lines.specs.Gather.{Gathering, gathered}
 
 -- Serving a line: the text stands at the front of the output's buffer, as far as that reaches, and the rest of it is kept. A buffer of
--- `mostText` octets takes every text whole.
+-- `mostText (length table)` octets takes every text whole.
 pub record Serves (line : List ℕ) (used : ℕ) (routes table out : List ℕ) (answer : Served) (routesExit tableExit outExit : List ℕ)
     (kept : List (List ℕ)) : Type 0 where
   pub is : answer ≡ servedTold (served line used routes table)
   pub leavesRoutes : routesExit ≡ served line used routes table .routes
   pub leavesTable : tableExit ≡ served line used routes table .table
   pub prints : outExit ≡ laid out 0 (served line used routes table .text)
-  pub short : answer .printed ≤ mostText
+  pub short : answer .printed ≤ mostText (length table)
   pub keeps : kept ≡ line ∷ []
 
 -- The answer for what was gathered.

@@ -14,7 +14,7 @@ use Rattle.flowspec.specs.Told.{changeTold}
 use Rattle.text.specs.Print.{laid}
 use Rattle.lines.specs.declared.Served.{Served}
 use Rattle.line.specs.Line.{Line, route, announce, withdraw, list, other, lineOf}
-use Rattle.answers.specs.Answer.{unknownText, changeText, listText, mostText, Answered}
+use Rattle.answers.specs.Answer.{unknownText, changeText, listText, mostAnswer, Answered}
 
 -- What serving a line leaves: the text that it prints, how many words of the routes' buffer are in use, that buffer's words, and the table.
 pub record Serving : Type 0 where
@@ -70,7 +70,7 @@ servedTold serving = record { printed = length (serving .text); used = serving .
 -- How the code holds what a line that changes the table leaves, which no promise names: the table, and the printed text.
 pub record Changes (changed : Outcome) (out : List ℕ) (printed : ℕ) (tableExit outExit : List ℕ) : Type 0 where
   pub leaves : tableExit ≡ changed .table
-  pub prints : Answered out (changeText (changeTold (changed .answer))) outExit printed
+  pub prints : Answered mostAnswer out (changeText (changeTold (changed .answer))) outExit printed
 
 -- How the code holds what a route line leaves, which no promise names: the routes, the printed text, and the answer. The table, which it
 -- leaves alone, is not lent to it.
@@ -78,4 +78,4 @@ pub record Adds (added : Serving) (out : List ℕ) (answer : Served) (routesExit
   pub is : answer ≡ servedTold added
   pub leaves : routesExit ≡ added .routes
   pub prints : outExit ≡ laid out 0 (added .text)
-  pub short : answer .printed ≤ mostText
+  pub short : answer .printed ≤ mostAnswer

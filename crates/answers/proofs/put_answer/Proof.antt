@@ -23,7 +23,7 @@ put-octets-requires-2 c κs = let a = start (c .before .before .before .before .
 returns : tie.Need-returns
 unfolding answerText
 returns c =
-    printed-short _ _ _ _
+    printed-short _ _ _ _ _
     (printed-then _ _ _ _ _ _ _ _ (c .before .before .before .before .before .before .before .before .before .before .before .before .before .before .before .put-octets .ensures)
     (printed-then _ _ _ _ _ _ _ _ (c .before .before .before .before .before .before .before .before .before .before .before .put-decimal .ensures) (printed-then _ _ _ _ _ _ _ _ (c .before .before .before .before .before .before .before .put-place .ensures) (c .before .before .put-octets2 .ensures)))) (answer-short _ _ (omega arith) (omega arith))
 

@@ -8,7 +8,7 @@ use Rattle.table.specs.declared.NextRecord.the-variants.{Record}
 use Rattle.table.specs.Walk.{recordAt}
 use Rattle.table.proofs.WalkLaws.{Found, was-found}
 use Rattle.table.proofs.EntryLaws.{length-there}
-use Rattle.answers.proofs.ListLaws.{left-none, Printing, print-starts, print-done, print-more}
+use Rattle.answers.proofs.ListLaws.{left-none, Printing, print-starts, print-done, print-within, print-more}
 use Rattle.answers.proofs.put_records.Statement.{statement}
 use Rattle.answers.proofs.put_records.Tie as tie
 
@@ -52,8 +52,8 @@ put-record-requires c κs =
     let k = c .before in
     let f = found k in
     let long = length-there _ (turn k .loop .place) _ (found-here k) in
-    let few = turn k .loop .inv .few in
-    (omega (arith, start k .pre), omega (arith, start k .pre))
+    let pre = start k .pre in
+    (print-within _ _ _ _ _ _ (turn k .loop .inv) (pre .0) (pre .1), omega (arith, pre))
 
 loop-less : tie.Need-loop-less Inv-loop μ-loop
 loop-less c = let k = c .before .before .before .before in omega (arith, found k)

@@ -10,6 +10,7 @@ use lib.Dec.{T}
 use borrow.Author.Tests.{not-true}
 use lib.ListN.{length, take, drop, length-take, length-drop}
 use lib.Seq.{length-take-le}
+use Rattle.lines.specs.Input.{programOctets}
 use Rattle.lines.specs.Blocks.{LedBy}
 use Rattle.lines.proofs.GatherLaws.{part-of}
 use Rattle.lines.proofs.InputLaws.{block-first, block-on, block-answered, block-done}
@@ -18,7 +19,7 @@ use Rattle.line_program.proofs.answer_block.Tie as tie
 
 abbrev Inv-loop : tie.InvT-loop
 Inv-loop block line₀ routes₀ table₀ out₀ at₀ held₀ used₀ line routes table out at held used =
-    (at ≤ length block) × (held ≤ length line) × (length line ≡ length line₀) × (length routes ≡ length routes₀) × (length table ≡ length table₀) × (length out ≡ length out₀) × ((input : List ℕ) → LedBy input line₀ held₀ used₀ routes₀ table₀ → LedBy (input ++ take at block) line held used routes table)
+    (at ≤ length block) × (held ≤ length line) × (length line ≡ length line₀) × (length routes ≡ length routes₀) × (length table ≡ length table₀) × (length out ≡ length out₀) × ((input : List ℕ) → LedBy programOctets input line₀ held₀ used₀ routes₀ table₀ → LedBy programOctets (input ++ take at block) line held used routes table)
 
 abbrev μ-loop : tie.MeasureT-loop
 μ-loop block line₀ routes₀ table₀ out₀ at₀ held₀ used₀ line routes table out at held used = length block - at
@@ -52,7 +53,7 @@ abbrev gathered : tie.Else2 Inv-loop μ-loop → tie.After-struct-known Inv-loop
 gathered c = c .before .before .before .before .before .before .before .before .before .before .before .before .before .before
 
 loop-holds : tie.Need-loop-holds Inv-loop μ-loop
-loop-holds c = (omega arith, search needs, refl, refl, refl, refl, λ input led. block-first input (block c) _ _ _ _ _ led)
+loop-holds c = (omega arith, search needs, refl, refl, refl, refl, λ input led. block-first programOctets input (block c) _ _ _ _ _ led)
 
 add-at : tie.Need-add-at Inv-loop μ-loop
 add-at c = omega (arith, taken c)
@@ -72,7 +73,7 @@ loop-less c = omega (arith, taken (gathered c))
 loop-again : tie.Need-loop-again Inv-loop μ-loop
 loop-again c = let k = gathered c in
     let t = taken k in
-    (omega arith, omega arith, search needs, search needs, search needs, search needs, λ input led. block-answered input _ _ _ _ _ _ _ (turn k .loop .inv .6 input led) _ _ _ (k .before .before .before .gather .ensures) (search needs) _ _ _ (c .before .before .before .before .before .before .before .before .answer .ensures .1))
+    (omega arith, omega arith, search needs, search needs, search needs, search needs, λ input led. block-answered programOctets input _ _ _ _ _ _ _ (turn k .loop .inv .6 input led) _ _ _ (k .before .before .before .gather .ensures) (search needs) _ _ _ (c .before .before .before .before .before .before .before .before .answer .ensures .1))
 
 loop-less-2 : tie.Need-loop-less-2 Inv-loop μ-loop
 loop-less-2 c = omega (arith, taken (c .before))
@@ -80,10 +81,10 @@ loop-less-2 c = omega (arith, taken (c .before))
 loop-again-2 : tie.Need-loop-again-2 Inv-loop μ-loop
 loop-again-2 c = let k = c .before in
     let t = taken k in
-    (omega arith, omega arith, search needs, search needs, search needs, search needs, λ input led. block-on input _ _ _ _ _ _ _ (turn k .loop .inv .6 input led) _ _ _ (k .before .before .before .gather .ensures) (search needs))
+    (omega arith, omega arith, search needs, search needs, search needs, search needs, λ input led. block-on programOctets input _ _ _ _ _ _ _ (turn k .loop .inv .6 input led) _ _ _ (k .before .before .before .gather .ensures) (search needs))
 
 returns-2 : tie.Need-returns-2 Inv-loop μ-loop
-returns-2 c = λ input led still. block-done input _ _ _ _ _ _ _ (c .before .loop .inv .6 input led) (c .loop-test .left)
+returns-2 c = λ input led still. block-done programOctets input _ _ _ _ _ _ _ (c .before .loop .inv .6 input led) (c .loop-test .left)
 
 pub answer-block-spec : {M : Type 1} → statement M
 answer-block-spec =

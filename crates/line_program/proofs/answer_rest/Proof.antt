@@ -8,7 +8,7 @@ use lib.Signed.{ltZ}
 use mir.Syntax.{w64}
 use mir.Val.{toZ, ofZ}
 use lib.Dec.{T}
-use Rattle.lines.specs.Input.{State}
+use Rattle.lines.specs.Input.{State, programOctets}
 use Rattle.lines.proofs.InputLaws.{end-empty, end-served}
 use Rattle.line_program.proofs.answer_rest.Statement.{statement}
 use Rattle.line_program.proofs.answer_rest.Tie as tie
@@ -25,13 +25,13 @@ returns : tie.Need-returns
 returns c = λ zero input led. absurd (below-zero _ (c .before .before .if1 .taken) zero)
 
 returns-2 : tie.Need-returns-2
-returns-2 c = λ zero input led. parts _ _ (end-empty input _ _ _ _ _ led (search needs))
+returns-2 c = λ zero input led. parts _ _ (end-empty programOctets input _ _ _ _ _ led (search needs))
 
 slice-aggregate-answer : tie.Need-slice-aggregate-answer
 slice-aggregate-answer c = sym (length-take-le _ _ (c .before .before .before .before .before .before .before .pre .2 .1 .within))
 
 returns-3 : tie.Need-returns-3
-returns-3 c = λ zero input led. parts _ _ (end-served input _ _ _ _ _ led (search needs) _ _ _ (c .before .before .before .before .before .before .answer .ensures .1))
+returns-3 c = λ zero input led. parts _ _ (end-served programOctets input _ _ _ _ _ led (search needs) _ _ _ (c .before .before .before .before .before .before .answer .ensures .1))
 
 pub answer-rest-spec : {M : Type 1} → statement M
 answer-rest-spec =

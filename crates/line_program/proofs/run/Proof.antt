@@ -10,6 +10,7 @@ use lib.Dec.{T}
 use lib.Signed.{_≤ℤ_}
 use borrow.Author.Tests.{not-false, le-leb}
 use Rattle.io.specs.Counts.{clamped}
+use Rattle.lines.specs.Input.{programOctets}
 use Rattle.lines.specs.Blocks.{Led}
 use Rattle.lines.proofs.InputLaws.{led-first}
 use Rattle.line_program.proofs.run.Statement.{statement}
@@ -17,7 +18,7 @@ use Rattle.line_program.proofs.run.Tie as tie
 
 abbrev Inv-loop : tie.InvT-loop
 Inv-loop block₀ line₀ routes₀ table₀ out₀ progress₀ turns₀ block line routes table out progress turns =
-    (Led line (progress .held) (progress .used) routes table) × (length block ≡ length block₀) × (length line ≡ length line₀) × (length routes ≡ length routes₀) × (length table ≡ length table₀) × (length out ≡ length out₀)
+    (Led programOctets line (progress .held) (progress .used) routes table) × (length block ≡ length block₀) × (length line ≡ length line₀) × (length routes ≡ length routes₀) × (length table ≡ length table₀) × (length out ≡ length out₀)
 
 abbrev μ-loop : tie.MeasureT-loop
 μ-loop block₀ line₀ routes₀ table₀ out₀ progress₀ turns₀ block line routes table out progress turns =
@@ -29,7 +30,7 @@ none-read (pos k) count most e z h = record { le = subst T (sym (le-leb k 0 (ome
 none-read (negsuc k) count most e z h = record { le = tt }
 
 loop-holds : tie.Need-loop-holds Inv-loop μ-loop
-loop-holds c = (([], led-first _ _ _ (search needs) (search needs)), refl, refl, refl, refl, refl)
+loop-holds c = (([], led-first programOctets _ _ _ (search needs) (search needs)), refl, refl, refl, refl, refl)
 
 answer-rest-requires : tie.Need-answer-rest-requires Inv-loop μ-loop
 answer-rest-requires c κs = (search (none-read, needs), search needs, c .before .before .before .before .before .before .before .before .before .before .before .before .loop .inv .0)
