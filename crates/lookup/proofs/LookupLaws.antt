@@ -31,7 +31,7 @@ use Rattle.lookup.specs.declared.Verdict.the-variants.{Unmatched, Matche
 use Rattle.entry.specs.Entry.{Entry}
 use Rattle.entry.specs.Record.{headCost, entryOf}
 use Rattle.table.specs.Walk.{recordAt, records, entries}
-use Rattle.lookup.specs.Lookup.{hit, collected, mergedOnto, verdictOf, verdictFor, hitOf, firstPlace}
+use Rattle.lookup.specs.Lookup.{underHead, componentsMatch, hit, collected, mergedOnto, verdictOf, verdictFor, hitOf, firstPlace}
 use Rattle.table.proofs.WalkLaws.{was-found}
 use Rattle.table.proofs.EntryLaws.{entriesFrom, cost-there}
 use Rattle.table.proofs.FindLaws.{left-more, left-end, left-unsound}
@@ -66,17 +66,24 @@ module _ (family : Family) (head r : List ℕ) (packet : Packet) (same : Bool)
   unfolding entryOf
   record-hit h says told = let e = rw whole at is in rw (← e, not-false same h) (rw whole at told)
 
--- a family that has no head: a packet asked for under none hits where the components match
-pub no-head : (family : Family) → family .head ≡ 0 → (packet : Packet) (e : Entry) → hit family [] packet e ≡ matches family (e .value) packet
+-- a family that has no head: every rule stands under none, so that a packet looked up under none hits where the components match
+pub under-none : (family : Family) → family .head ≡ 0 → (e : Entry) → underHead family [] e ≡ true
 unfolding sameList
-no-head family none packet e = ap (λ n. sameList (take n (e .value)) [] && matches family (e .value) packet) none
+under-none family none e = ap (λ n. sameList (take n (e .value)) []) none
 
--- rules of one plain spelling are hit alike, whatever head is asked for: the plain spelling has the same head
+pub no-head : (family : Family) → family .head ≡ 0 → (packet : Packet) (e : Entry) → hit family [] packet e ≡ componentsMatch family packet e
+no-head family none packet e = ap (λ (b : Bool). b && componentsMatch family packet e) (under-none family none e)
+
+-- rules of one plain spelling stand under the same heads, and are hit alike, whatever head is asked for
+pub under-plain : (family : Family) (head : List ℕ) (e f : Entry) → plain family (e .value) ≡ plain family (f .value)
+    → underHead family head e ≡ underHead family head f
+under-plain family head e f same =
+    ap (λ (l : List ℕ). sameList l head) (sym (head-kept family (e .value)) ∙ ap (headOf family) same ∙ head-kept family (f .value))
+
 pub hit-plain : (family : Family) → Fits family → (head : List ℕ) (packet : Packet) (e f : Entry) → Octets (e .value) → Octets (f .value)
     → plain family (e .value) ≡ plain family (f .value) → hit family head packet e ≡ hit family head packet f
 hit-plain family fits head packet e f o p same =
-    let heads = sym (head-kept family (e .value)) ∙ ap (headOf family) same ∙ head-kept family (f .value) in
-    ap₂ (λ (l : List ℕ) (b : Bool). sameList l head && b) heads (plain-alone family fits packet (e .value) (f .value) o p same)
+    ap₂ (λ (a b : Bool). a && b) (under-plain family head e f same) (plain-alone family fits packet (e .value) (f .value) o p same)
 
 -- how `hit_of_record` comes to its answers
 module _ (family : Family) (head r : List ℕ) (packet : Packet) (says : Bool) (is : says ≡ hit family head packet (entryOf r)) where

@@ -21,10 +21,17 @@ use Rattle.table.specs.declared.Place.{Place}
 use Rattle.entry.specs.Entry.{Entry}
 use Rattle.table.specs.Sound.{cost}
 
--- Whether a packet, looked up under a head, matches an entry's rule: the value's head (the octets before its first component; none in
--- IPv4 and IPv6) is that head, and its components match.
+-- Whether an entry's rule stands under a head: its value's head (the octets before its first component; none in IPv4 and IPv6) is that one.
+abbrev pub underHead : Family → List ℕ → Entry → Bool
+underHead family head e = sameList (headOf family (e .value)) head
+
+-- Whether a packet matches the components of an entry's rule (RFC 8955 section 4.2).
+abbrev pub componentsMatch : Family → Packet → Entry → Bool
+componentsMatch family packet e = matches family (e .value) packet
+
+-- Whether a packet, looked up under a head, matches an entry's rule: the rule stands under that head, and its components match.
 abbrev pub hit : Family → List ℕ → Packet → Entry → Bool
-hit family head packet e = sameList (headOf family (e .value)) head && matches family (e .value) packet
+hit family head packet e = underHead family head e && componentsMatch family packet e
 
 -- The entries collected: those that match, down to the first of them without T.
 unfoldable pub collected : (Entry → Bool) → List Entry → List Entry
