@@ -1,3 +1,4 @@
 -- The laws of this crate.
 pub mod OpeningLaws
 pub mod LookupLaws
+pub mod LeavingLaws
