@@ -1,20 +1,23 @@
 -- Worked examples of what an IPv6 packet shows, written from 2026-04's words and RFC 8200: they hold the definitions from outside. Each claim
 -- is computed. Assumes nothing.
-use mathlib.Core.Path.{_≡_, refl}
+use mathlib.Core.Path.{_≡_, refl, sym, _∙_}
 use mathlib.Core.Bool.{true, false}
-use mathlib.Core.List.{List, [], _∷_, _++_, map}
+use mathlib.Core.List.{List, [], _∷_, _++_, map, List·Memᴰ·head, List·Memᴰ·tail}
 use Prim.Native.Nat.{ℕ}
 use lib.ListN.{take, replicate}
 use Rattle.octets.specs.Number.{numberAt}
 use Rattle.octets.specs.Walk.{walk}
+use Rattle.octets.proofs.Cases.{apart}
 use Rattle.rule.specs.Family.{ipv6}
-use Rattle.extension.specs.Extension.{extensionAt, fragmentAt, headerAt, headersFrom, upperLayer}
+use Rattle.extension.specs.Extension.{offsetOfFragment, extensionAt, fragmentAt, headerAt, headersFrom, upperLayer}
+use Rattle.extension.proofs.FragmentLaws.{walkedOver, beforeFragment}
 use Rattle.packet.specs.declared.Field.{Field}
 use Rattle.packet.specs.declared.Field.the-variants.{Shown, Hidden}
 use Rattle.packet.specs.declared.Packet.{Packet}
-use Rattle.packet.specs.Header6.{ipv6Unusable, upperOctets}
+use Rattle.packet.specs.Header6.{ipv6Unusable, counted, upperOctets}
 use Rattle.packet.specs.Transport.{hasPorts, hasIcmp, transportFields}
 use Rattle.packet.specs.Packet.{fragmentData, ipv6Fields}
+use Rattle.packet.proofs.Theorems6.{LaterFragment}
 
 -- an IPv6 header by its first octet, its payload length and its next header, and what follows
 abbrev own : ℕ → ℕ → ℕ → List ℕ → List ℕ
@@ -110,6 +113,26 @@ pub fragments : map seenIn
     ∷ []
 unfolding numberAt walk extensionAt fragmentAt headerAt headersFrom upperLayer upperOctets transportFields fragmentData ipv6Fields
 fragments = refl
+
+-- a later fragment: a header 60 and behind it, at 48, a fragment header with offset 1 and M; the walk comes over both, so that the law of later
+-- fragments speaks of it, and what that says is what is computed
+abbrev middle : List ℕ
+middle = own 0x60 20 60 (options 44 (fragment 17 9 ports))
+
+middle-walk : walkedOver (counted middle) ≡ record { kind = 60; at = 40; fragmented = false; field = 0 } ∷ beforeFragment 48 ∷ []
+unfolding numberAt walk extensionAt fragmentAt headerAt headersFrom
+middle-walk = refl
+
+middle-offset : offsetOfFragment (numberAt 2 middle 50) ≡ 1
+unfolding numberAt
+middle-offset = refl
+
+pub middle-later : LaterFragment middle 48
+middle-later = record { walked = rw middle-walk (List·Memᴰ·tail (List·Memᴰ·head refl)); later = λ z. apart (sym z ∙ middle-offset) }
+
+pub middle-seen : seenIn middle ≡ seen (Shown 17) 0x02 Hidden
+unfolding numberAt walk extensionAt fragmentAt headerAt headersFrom upperLayer upperOctets transportFields fragmentData ipv6Fields
+middle-seen = refl
 
 -- ICMPv6 is protocol 58, and ICMP's number shows no type
 pub icmp : hasIcmp ipv6 58 2 ∷ hasIcmp ipv6 58 1 ∷ hasIcmp ipv6 1 60 ∷ hasPorts 58 60 ∷ [] ≡ true ∷ false ∷ false ∷ false ∷ []
