@@ -18,9 +18,11 @@ use Rattle.action.specs.declared.Actions.{Actions}
 use Rattle.action.specs.declared.Given.{Given}
 use Rattle.action.specs.declared.Kind.{Kind}
 use Rattle.action.specs.declared.Kind.the-variants.{ByteRate, PacketRate, TrafficAction, Redirect, Marking, Other}
+use Rattle.action.specs.declared.Limit.{Limit}
 use Rattle.action.specs.declared.Reading.{Reading}
 use Rattle.action.specs.declared.Reading.the-variants.{Read, Unsound}
-use Rattle.action.specs.Given.{given, smallerOf, firstOf}
+use Rattle.action.specs.Given.{given, firstOf}
+use Rattle.action.specs.Limit.{limit, smallerOf}
 use Rattle.action.specs.Actions.{noActions, isRedirect, rateIn, communitiesAt, wrongLength, actionsOf}
 use Rattle.action.specs.Reading.{kindOf, withByteRate, withPacketRate, withFlags, withMarking, withRedirect, withRate, withKind, withCommunity, withCommunities, andThen}
 use Rattle.action.proofs.ReadingLaws.{by-reading}
@@ -48,15 +50,15 @@ module _ (a : Actions) (c x : ℕ) (k : Kind) (here : x ≡ c) (kind : k ≡ kin
     refuses-packet-rate h = known PacketRate _ h (rw (← read, is))
 
   module _ (b : Actions) where
-    pub takes-byte-rate : (r : Rate) (n : ℕ) (g s : Given) → k ≡ ByteRate → r ≡ rateIn x → r ≡ Number n → g ≡ given n
-        → s ≡ smallerOf (a .bytes) g → b ≡ withByteRate a s → withCommunity a c ≡ Read b
+    pub takes-byte-rate : (r : Rate) (n : ℕ) (l s : Limit) → k ≡ ByteRate → r ≡ rateIn x → r ≡ Number n → l ≡ limit n
+        → s ≡ smallerOf (a .bytes) l → b ≡ withByteRate a s → withCommunity a c ≡ Read b
     unfolding withKind withRate
-    takes-byte-rate r n g s h read is g-is s-is b-is = known ByteRate _ h (rw (← read, is, b-is, s-is, g-is))
+    takes-byte-rate r n l s h read is l-is s-is b-is = known ByteRate _ h (rw (← read, is, b-is, s-is, l-is))
 
-    pub takes-packet-rate : (r : Rate) (n : ℕ) (g s : Given) → k ≡ PacketRate → r ≡ rateIn x → r ≡ Number n → g ≡ given n
-        → s ≡ smallerOf (a .packets) g → b ≡ withPacketRate a s → withCommunity a c ≡ Read b
+    pub takes-packet-rate : (r : Rate) (n : ℕ) (l s : Limit) → k ≡ PacketRate → r ≡ rateIn x → r ≡ Number n → l ≡ limit n
+        → s ≡ smallerOf (a .packets) l → b ≡ withPacketRate a s → withCommunity a c ≡ Read b
     unfolding withKind withRate
-    takes-packet-rate r n g s h read is g-is s-is b-is = known PacketRate _ h (rw (← read, is, b-is, s-is, g-is))
+    takes-packet-rate r n l s h read is l-is s-is b-is = known PacketRate _ h (rw (← read, is, b-is, s-is, l-is))
 
     pub takes-flags : k ≡ TrafficAction → b ≡ withFlags a (a .sample || has x 0x02) (a .onward || has x 0x01) → withCommunity a c ≡ Read b
     unfolding withKind

@@ -10,7 +10,8 @@ use Rattle.rate.specs.Rate.{scaled, numberFor, numberOfParts, rateOfParts, rate
 use Rattle.action.specs.declared.Actions.{Actions}
 use Rattle.action.specs.declared.Reading.{Reading}
 use Rattle.action.specs.declared.Reading.the-variants.{Read, Unsound}
-use Rattle.action.specs.Given.{given, firstOf, smallerOf}
+use Rattle.action.specs.Given.{given, firstOf}
+use Rattle.action.specs.Limit.{limit, smallerOf}
 use Rattle.action.specs.Actions.{ofType, smallest, first, ruleActions, communitiesAt, wrongLength, actionsOf, noActions, flagsOf, valuesOf}
 use Rattle.action.specs.Merging.{merged}
 use Rattle.action.specs.Reading.{withByteRate, withPacketRate, withFlags, withMarking, withRedirect}
@@ -78,7 +79,7 @@ rules = refl
 
 -- Each flag of a record by itself.
 pub each-flag : map flagsOf
-    (withByteRate noActions (given 0) ∷ withPacketRate noActions (given 0) ∷ withFlags noActions true false ∷ withFlags noActions false true
+    (withByteRate noActions (limit 0) ∷ withPacketRate noActions (limit 0) ∷ withFlags noActions true false ∷ withFlags noActions false true
     ∷ withMarking noActions (given 0)
     ∷ withRedirect noActions (given 0)
     ∷ noActions
@@ -92,8 +93,8 @@ each-flag = refl
 abbrev three : Actions
 three =
     merged
-    (merged (withByteRate (withFlags noActions false true) (given 5)) (withMarking (withFlags noActions true true) (given 7)))
-    (withMarking (withByteRate (withFlags noActions false true) (given 3)) (given 9))
+    (merged (withByteRate (withFlags noActions false true) (limit 5)) (withMarking (withFlags noActions true true) (given 7)))
+    (withMarking (withByteRate (withFlags noActions false true) (limit 3)) (given 9))
 
 pub merging : valuesOf three ≡ 21 ∷ 7 ∷ 3 ∷ 0 ∷ 0 ∷ []
 unfolding merged firstOf smallerOf flagsOf

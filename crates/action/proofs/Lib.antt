@@ -1,5 +1,6 @@
 -- The laws of this crate.
 pub mod GivenLaws
+pub mod LimitLaws
 pub mod ReadingLaws
 pub mod Communities
 pub mod PossibleLaws

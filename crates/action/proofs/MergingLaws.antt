@@ -1,14 +1,14 @@
 -- Laws of merging: it is associative, merging with no actions changes nothing but T, and T is never carried.
 use mathlib.Core.Path.{_≡_, refl}
 use mathlib.Core.Bool.{true, false, or-false}
-use Rattle.rate.specs.Rate.{rateGiven}
 use Rattle.action.specs.declared.Actions.{Actions}
-use Rattle.action.specs.Given.{smallerOf, firstOf}
+use Rattle.action.specs.Given.{firstOf}
 use Rattle.action.specs.Actions.{noActions}
 use Rattle.action.specs.Merging.{merged}
 use Rattle.action.specs.Possible.{couldBe}
 use Rattle.action.specs.Reading.{withFlags}
-use Rattle.action.proofs.GivenLaws.{smaller-assoc, first-assoc, or-assoc, fine-smaller, fine-first, smaller-absent, first-absent}
+use Rattle.action.proofs.GivenLaws.{first-assoc, or-assoc, fine-first, first-absent}
+use Rattle.action.proofs.LimitLaws.{smaller-assoc, smaller-before, smaller-behind, smaller-could}
 use Rattle.action.proofs.PossibleLaws.{could, could-be, sixBits, redirectType}
 
 pub merged-assoc : (a b c : Actions) → merged (merged a b) c ≡ merged a (merged b c)
@@ -29,8 +29,8 @@ merged-no-T a b = refl
 
 -- Nothing before changes nothing but T.
 pub merged-nothing-before : (a : Actions) → merged noActions a ≡ withFlags a (a .sample) false
-unfolding merged smallerOf firstOf
-merged-nothing-before a = refl
+unfolding merged firstOf
+merged-nothing-before a = rw (smaller-before (a .bytes), smaller-before (a .packets))
 
 -- Nothing after changes nothing but T, of actions that some communities could give.
 pub merged-nothing-after : (a : Actions) → couldBe a ≡ true → merged a noActions ≡ withFlags a (a .sample) false
@@ -38,8 +38,8 @@ unfolding merged
 merged-nothing-after a h =
     let p = could a h in
     rw (
-      smaller-absent rateGiven (a .bytes) (p .bytes),
-      smaller-absent rateGiven (a .packets) (p .packets),
+      smaller-behind (a .bytes) (p .bytes),
+      smaller-behind (a .packets) (p .packets),
       or-false (a .sample),
       first-absent sixBits (a .marking) (p .marks),
       first-absent redirectType (a .redirect) (p .redirects),
@@ -53,8 +53,8 @@ could-merged a b h k =
     let q = could b k in
     could-be (merged a b)
     (record {
-      bytes = fine-smaller rateGiven (a .bytes) (b .bytes) (p .bytes) (q .bytes);
-      packets = fine-smaller rateGiven (a .packets) (b .packets) (p .packets) (q .packets);
+      bytes = smaller-could (a .bytes) (b .bytes) (p .bytes) (q .bytes);
+      packets = smaller-could (a .packets) (b .packets) (p .packets) (q .packets);
       marks = fine-first sixBits (a .marking) (b .marking) (p .marks) (q .marks);
       redirects = fine-first redirectType (a .redirect) (b .redirect) (p .redirects) (q .redirects);
     })

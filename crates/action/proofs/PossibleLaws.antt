@@ -10,14 +10,15 @@ use lib.ListN.{length}
 use Rattle.octets.proofs.Cases.{by-test, apart}
 use Rattle.rate.specs.declared.Rate.{Rate}
 use Rattle.rate.specs.declared.Rate.the-variants.{Number, NotANumber}
-use Rattle.rate.specs.Rate.{rateGiven}
 use Rattle.rate.proofs.RatesGiven.{complete}
 use Rattle.action.specs.declared.Actions.{Actions}
 use Rattle.action.specs.declared.Reading.the-variants.{Read, Unsound}
-use Rattle.action.specs.Given.{given, allowed}
+use Rattle.action.specs.Given.{allowed}
+use Rattle.action.specs.Limit.{limit, couldBeLimit}
 use Rattle.action.specs.Actions.{isByteRate, isPacketRate, isMarking, isRedirect, ofType, rateIn, ratesOf, markingIn, smallest, first, ruleActions, wrongRate, wrongLength, communitiesOf, actionsOf}
 use Rattle.action.specs.Possible.{couldBe}
-use Rattle.action.proofs.GivenLaws.{Fine, fine-absent, fine-given, fine-smaller}
+use Rattle.action.proofs.GivenLaws.{Fine, fine-absent, fine-given}
+use Rattle.action.proofs.LimitLaws.{none-could, rate-could, smaller-could}
 
 -- What is asked of a marking and of a redirect.
 abbrev pub sixBits : ℕ → Bool
@@ -28,35 +29,35 @@ redirectType n = isRedirect (n / 2 ^ 48)
 
 -- The four parts of `couldBe`.
 pub record Could (a : Actions) : Type 0 where
-  pub bytes : Fine rateGiven (a .bytes)
-  pub packets : Fine rateGiven (a .packets)
+  pub bytes : couldBeLimit (a .bytes) ≡ true
+  pub packets : couldBeLimit (a .packets) ≡ true
   pub marks : Fine sixBits (a .marking)
   pub redirects : Fine redirectType (a .redirect)
 
 pub could : (a : Actions) → couldBe a ≡ true → Could a
 unfolding couldBe
 could a h =
-    let r = and-eq-true-iff _ (allowed (a .redirect) (isRedirect (a .redirect .number / 2 ^ 48))) .0 h in
-    let m = and-eq-true-iff _ (allowed (a .marking) (ltb (a .marking .number) (2 ^ 6))) .0 (r .0) in
-    let p = and-eq-true-iff _ (allowed (a .packets) (rateGiven (a .packets .number))) .0 (m .0) in
+    let r = and-eq-true-iff _ (allowed (a .redirect .present) (a .redirect .number) (isRedirect (a .redirect .number / 2 ^ 48))) .0 h in
+    let m = and-eq-true-iff _ (allowed (a .marking .present) (a .marking .number) (ltb (a .marking .number) (2 ^ 6))) .0 (r .0) in
+    let p = and-eq-true-iff _ (couldBeLimit (a .packets)) .0 (m .0) in
     record { bytes = p .0; packets = p .1; marks = m .1; redirects = r .1 }
 
 pub could-be : (a : Actions) → Could a → couldBe a ≡ true
 unfolding couldBe
 could-be a c = rw (c .bytes, c .packets, c .marks, c .redirects)
 
--- A rate read that passes, and others, the smallest of which passes.
-fine-rate : (c : ℕ) (rates : List Rate) → Fine rateGiven (smallest rates) → (r : Rate) → rateIn c ≡ r → Fine rateGiven (smallest (r ∷ rates))
+-- A rate read could be the limit, where the smallest of the others could.
+rate-smallest : (c : ℕ) (rates : List Rate) → couldBeLimit (smallest rates) ≡ true → (r : Rate) → rateIn c ≡ r → couldBeLimit (smallest (r ∷ rates)) ≡ true
 unfolding smallest
-fine-rate c rates p (Number n) h = fine-smaller rateGiven (given n) (smallest rates) (fine-given rateGiven n (complete (c % 2 ^ 32) n h)) p
-fine-rate c rates p NotANumber h = p
+rate-smallest c rates p (Number n) h = smaller-could (limit n) (smallest rates) (rate-could n (complete (c % 2 ^ 32) n h)) p
+rate-smallest c rates p NotANumber h = p
 
--- Of rates read, the smallest passes.
-fine-rates : (test : ℕ → Bool) (cs : List ℕ) → Fine rateGiven (smallest (ratesOf test cs))
+-- The smallest of rates read could be.
+rates-could : (test : ℕ → Bool) (cs : List ℕ) → couldBeLimit (smallest (ratesOf test cs)) ≡ true
 unfolding ofType smallest
-fine-rates test [] = fine-absent rateGiven
-fine-rates test (c ∷ cs) =
-    by-test (test (c / 2 ^ 48)) (λ h. rw h (fine-rate c (ratesOf test cs) (fine-rates test cs) (rateIn c) refl)) (λ h. rw h (fine-rates test cs))
+rates-could test [] = none-could
+rates-could test (c ∷ cs) =
+    by-test (test (c / 2 ^ 48)) (λ h. rw h (rate-smallest c (ratesOf test cs) (rates-could test cs) (rateIn c) refl)) (λ h. rw h (rates-could test cs))
 
 -- The first of several numbers passes where what is made of a community of their type does.
 fine-first-of : (test type : ℕ → Bool) (make : ℕ → ℕ) → ((c : ℕ) → type (c / 2 ^ 48) ≡ true → test (make c) ≡ true)
@@ -70,8 +71,8 @@ rule-could : (cs : List ℕ) → Could (ruleActions cs)
 unfolding ruleActions
 rule-could cs =
     record {
-      bytes = fine-rates isByteRate cs;
-      packets = fine-rates isPacketRate cs;
+      bytes = rates-could isByteRate cs;
+      packets = rates-could isPacketRate cs;
       marks = fine-first-of sixBits isMarking markingIn (λ c h. lt-ltb (markingIn c) (2 ^ 6) (mod-lt c (lit< tt))) cs;
       redirects = rw (map-id (ofType isRedirect cs)) at (fine-first-of redirectType isRedirect (λ c. c) (λ c h. h) cs);
     }

@@ -13,12 +13,15 @@ use Rattle.action.specs.declared.Actions.{Actions}
 use Rattle.action.specs.declared.Given.{Given}
 use Rattle.action.specs.declared.Kind.{Kind}
 use Rattle.action.specs.declared.Kind.the-variants.{ByteRate, PacketRate, TrafficAction, Redirect, Marking, Other}
+use Rattle.action.specs.declared.Limit.{Limit}
 use Rattle.action.specs.declared.Reading.{Reading}
 use Rattle.action.specs.declared.Reading.the-variants.{Read, Unsound}
-use Rattle.action.specs.Given.{absent, given, smallerOf, firstOf}
+use Rattle.action.specs.Given.{absent, given, firstOf}
+use Rattle.action.specs.Limit.{noLimit, limit, smallerOf}
 use Rattle.action.specs.Actions.{noActions, isByteRate, isPacketRate, isTrafficAction, isMarking, isRedirect, ofType, rateIn, ratesOf, setsS, setsT, markingIn, smallest, first, ruleActions, wrongRate, wrongLength, communitiesOf, actionsOf}
 use Rattle.action.specs.Reading.{kindOf, withByteRate, withPacketRate, withMarking, withRedirect, withRate, withKind, withCommunity, withCommunities, andThen}
-use Rattle.action.proofs.GivenLaws.{smaller-assoc, first-assoc, first-one, or-assoc}
+use Rattle.action.proofs.GivenLaws.{first-assoc, first-one, or-assoc}
+use Rattle.action.proofs.LimitLaws.{smaller-assoc, smaller-one}
 
 -- What the five tests say of a type.
 record Tests (type : ℕ) (b p t m r : Bool) : Type 0 where
@@ -62,17 +65,13 @@ together a b =
 
 -- What is missing stands as 0.
 record Tidy (a : Actions) : Type 0 where
-  bytes : smallerOf (a .bytes) absent ≡ a .bytes
-  packets : smallerOf (a .packets) absent ≡ a .packets
+  bytes : smallerOf (a .bytes) noLimit ≡ a .bytes
+  packets : smallerOf (a .packets) noLimit ≡ a .packets
   marking : firstOf (a .marking) absent ≡ a .marking
   redirect : firstOf (a .redirect) absent ≡ a .redirect
 
-smaller-one : (n : ℕ) → smallerOf (given n) absent ≡ given n
-unfolding smallerOf firstOf
-smaller-one n = refl
-
-tidy-smaller : (g : Given) (n : ℕ) → smallerOf (smallerOf g (given n)) absent ≡ smallerOf g (given n)
-tidy-smaller g n = rw (smaller-assoc g (given n) absent, smaller-one n)
+tidy-smaller : (l : Limit) (n : ℕ) → smallerOf (smallerOf l (limit n)) noLimit ≡ smallerOf l (limit n)
+tidy-smaller l n = rw (smaller-assoc l (limit n) noLimit, smaller-one n)
 
 tidy-first : (g : Given) (n : ℕ) → firstOf (firstOf g (given n)) absent ≡ firstOf g (given n)
 tidy-first g n = rw (first-assoc g (given n) absent, first-one n absent)
@@ -83,18 +82,18 @@ answer a cs = cond (wrongRate cs) Unsound (Read (together a (ruleActions cs)))
 
 module _ (a : Actions) (tidy : Tidy a) (c : ℕ) (cs : List ℕ) (later : (b : Actions) → Tidy b → withCommunities b cs ≡ answer b cs) where
   byte-step : (r : Rate) → rateIn c ≡ r → Of ByteRate (c / 2 ^ 48)
-      → andThen (withRate (λ n. withByteRate a (smallerOf (a .bytes) (given n))) r) (λ b. withCommunities b cs) ≡ answer a (c ∷ cs)
+      → andThen (withRate (λ n. withByteRate a (smallerOf (a .bytes) (limit n))) r) (λ b. withCommunities b cs) ≡ answer a (c ∷ cs)
   unfolding withRate ruleActions ofType smallest oneHolds
   byte-step (Number n) h t =
-      rw (t .bytes, t .packets, t .traffic, t .marking, t .redirect, h, ← (smaller-assoc (a .bytes) (given n) (smallest (ratesOf isByteRate cs))))
+      rw (t .bytes, t .packets, t .traffic, t .marking, t .redirect, h, ← (smaller-assoc (a .bytes) (limit n) (smallest (ratesOf isByteRate cs))))
       (later _ (record { bytes = tidy-smaller (a .bytes) n; packets = tidy .packets; marking = tidy .marking; redirect = tidy .redirect }))
   byte-step NotANumber h t = rw (t .bytes, h)
 
   packet-step : (r : Rate) → rateIn c ≡ r → Of PacketRate (c / 2 ^ 48)
-      → andThen (withRate (λ n. withPacketRate a (smallerOf (a .packets) (given n))) r) (λ b. withCommunities b cs) ≡ answer a (c ∷ cs)
+      → andThen (withRate (λ n. withPacketRate a (smallerOf (a .packets) (limit n))) r) (λ b. withCommunities b cs) ≡ answer a (c ∷ cs)
   unfolding withRate ruleActions ofType smallest oneHolds
   packet-step (Number n) h t =
-      rw (t .bytes, t .packets, t .traffic, t .marking, t .redirect, h, ← (smaller-assoc (a .packets) (given n) (smallest (ratesOf isPacketRate cs))))
+      rw (t .bytes, t .packets, t .traffic, t .marking, t .redirect, h, ← (smaller-assoc (a .packets) (limit n) (smallest (ratesOf isPacketRate cs))))
       (later _ (record { bytes = tidy .bytes; packets = tidy-smaller (a .packets) n; marking = tidy .marking; redirect = tidy .redirect }))
   packet-step NotANumber h t = rw (t .packets, h, or-true)
 

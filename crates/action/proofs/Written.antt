@@ -4,6 +4,7 @@ use Prim.Native.Nat.{ℕ, zero, suc, _+_, _*_, _/_, _%_, _^_, _<_, _≤_}
 use mathlib.Core.Path.{_≡_, refl, _∙_}
 use mathlib.Core.Bool.{Bool, true, false}
 use mathlib.Core.List.{List, [], _∷_, _++_}
+use mathlib.Core.Logic.{_⊎_, inl, inr}
 use native.Mathlib.Nat.{add-assoc}
 use native.Mathlib.Omega.{arith}
 use borrow.Author.Tests.{eqb-true, eq-eqb, ltb-true, le-ltb}
@@ -14,18 +15,20 @@ use Rattle.octets.specs.Number.{octetsOf}
 use Rattle.octets.proofs.Cases.{by-test}
 use Rattle.octets.proofs.Facts.{Octets, octets-append}
 use Rattle.octets.proofs.NumberLaws.{number-behind, length-octetsOf, octets-octetsOf, number-octets}
-use Rattle.rate.specs.Rate.{rateGiven}
 use Rattle.rate.proofs.RatesGiven.{sound}
 use Rattle.action.specs.declared.Actions.{Actions}
 use Rattle.action.specs.declared.Given.{Given}
 use Rattle.action.specs.declared.Kind.{Kind}
 use Rattle.action.specs.declared.Kind.the-variants.{ByteRate, PacketRate, TrafficAction, Redirect, Marking}
+use Rattle.action.specs.declared.Limit.{Limit}
 use Rattle.action.specs.declared.Reading.the-variants.{Read}
-use Rattle.action.specs.Given.{absent, given, smallerOf, firstOf}
+use Rattle.action.specs.Given.{absent, given, firstOf}
+use Rattle.action.specs.Limit.{noLimit, limit, smallerOf, couldBeLimit}
 use Rattle.action.specs.Actions.{noActions, isRedirect, rateIn, wrongLength, communitiesAt, actionsOf}
 use Rattle.action.specs.Possible.{couldBe}
 use Rattle.action.specs.Reading.{kindOf, withByteRate, withPacketRate, withFlags, withMarking, withRedirect, withRate, withKind, withCommunity, withCommunities}
 use Rattle.action.proofs.GivenLaws.{Fine, by-fine}
+use Rattle.action.proofs.LimitLaws.{smaller-before, by-limit}
 use Rattle.action.proofs.ReadingLaws.{by-reading}
 use Rattle.action.proofs.PossibleLaws.{Could, could, sixBits, redirectType}
 
@@ -91,14 +94,15 @@ say n a b z c s =
       reads = rw (c .adds) (s .reads);
     }
 
--- A number that may be missing is said by one community or by none.
-say-field : (n : ℕ) (test : ℕ → Bool) (change : Given → Actions) (g : Given) (z : Actions) → Fine test g
-    → ((m : ℕ) → test m ≡ true → Adds (change absent) (change (given m))) → Says n (change g) z → Says (suc n) (change absent) z
-say-field n test change g z h find s =
-    by-fine test (λ g. Says n (change g) z → Says (suc n) (change absent) z)
-    (λ m q r. say n (change absent) (change (given m)) z (find m q) r)
-    (λ r. say-no-more n (change absent) z r)
-    g h s
+-- A field is added by one community, or is missing.
+abbrev Said : {T : Type 0} → (T → Actions) → T → T → Type 0
+Said change none field = Adds (change none) (change field) ⊎ (field ≡ none)
+
+-- So it is said by one community or by none.
+say-field : {T : Type 0} (n : ℕ) (change : T → Actions) (none field : T) (z : Actions) → Said change none field → Says n (change field) z
+    → Says (suc n) (change none) z
+say-field n change none field z (inl adds) s = say n (change none) (change field) z adds s
+say-field n change none field z (inr gone) s = say-no-more n (change none) z (rw gone at s)
 
 -- A community of a type, with what it carries.
 adds-kind : (kind : Kind) (type low : ℕ) (a b : Actions) → type < 2 ^ 16 → low < 2 ^ 48 → kindOf type ≡ kind
@@ -107,23 +111,29 @@ unfolding withCommunity
 adds-kind kind type low a b p q h k =
     record { community = type * 2 ^ 48 + low; fits = omega arith; adds = rw (high type 48 {lo = low} q, h) k }
 
--- A rate that some single gives, of either kind.
-adds-rate : (kind : Kind) (type : ℕ) (change : Given → Actions) → type < 2 ^ 16 → kindOf type ≡ kind
-    → ((c : ℕ) → withKind kind (change absent) c ≡ withRate (λ n. change (smallerOf absent (given n))) (rateIn c))
-    → (m : ℕ) → rateGiven m ≡ true → Adds (change absent) (change (given m))
-unfolding smallerOf firstOf withRate
-adds-rate kind type change p h same m g =
+-- A limit that could be, of either kind.
+said-limit : (kind : Kind) (type : ℕ) (change : Limit → Actions) → type < 2 ^ 16 → kindOf type ≡ kind
+    → ((c : ℕ) → withKind kind (change noLimit) c ≡ withRate (λ n. change (smallerOf noLimit (limit n))) (rateIn c))
+    → (l : Limit) → couldBeLimit l ≡ true → Said change noLimit l
+unfolding withRate
+said-limit kind type change p h same =
+    by-limit (Said change noLimit)
+    (λ m g.
     let s = sound m g in
     let below = s .1 in
     let last : (type * 2 ^ 48 + s .0) % 2 ^ 32 ≡ s .0 = omega arith in
-    adds-kind kind type (s .0) (change absent) (change (given m)) p (omega arith) h (same (type * 2 ^ 48 + s .0) ∙ rw (last, s .2))
+    inl (adds-kind kind type (s .0) (change noLimit) (change (limit m)) p (omega arith) h (same (type * 2 ^ 48 + s .0) ∙ rw (last, s .2, smaller-before (limit m)))))
+    (inr refl)
 
-adds-marking : (a : Actions) (m : ℕ) → sixBits m ≡ true → Adds (withMarking a absent) (withMarking a (given m))
+said-marking : (a : Actions) (g : Given) → Fine sixBits g → Said (withMarking a) absent g
 unfolding withKind kindOf firstOf
-adds-marking a m h =
+said-marking a =
+    by-fine sixBits (Said (withMarking a) absent)
+    (λ m h.
     let below = ltb-true m (2 ^ 6) h in
     let last : (0x8009 * 2 ^ 48 + m) % 2 ^ 6 ≡ m = omega arith in
-    adds-kind Marking 0x8009 m (withMarking a absent) (withMarking a (given m)) (lit< tt) (omega arith) refl (rw last)
+    inl (adds-kind Marking 0x8009 m (withMarking a absent) (withMarking a (given m)) (lit< tt) (omega arith) refl (rw last)))
+    (inr refl)
 
 -- S and T are said by one community.
 adds-flags : (a : Actions) (s t : Bool) → Adds (withFlags a false false) (withFlags a s t)
@@ -140,12 +150,15 @@ redirect-number type h =
     (λ n. by-test (eqb type 0x8108) (λ e. rw (eqb-true type 0x8108 e) (lit< tt, refl))
     (λ m. rw (eqb-true type 0x8208 (rw (n, m) at h)) (lit< tt, refl)))
 
-adds-redirect : (a : Actions) (m : ℕ) → redirectType m ≡ true → Adds (withRedirect a absent) (withRedirect a (given m))
+said-redirect : (a : Actions) (g : Given) → Fine redirectType g → Said (withRedirect a) absent g
 unfolding withCommunity withKind firstOf
-adds-redirect a m h =
+said-redirect a =
+    by-fine redirectType (Said (withRedirect a) absent)
+    (λ m h.
     let r = redirect-number (m / 2 ^ 48) h in
     let below = r .0 in
-    record { community = m; fits = omega arith; adds = rw (r .1) }
+    inl (record { community = m; fits = omega arith; adds = rw (r .1) }))
+    (inr refl)
 
 -- Actions that could be are said by at most five communities.
 says : (a : Actions) → Could a → Says 5 noActions a
@@ -155,13 +168,13 @@ says a c =
     let a₂ = withPacketRate a₁ (a .packets) in
     let a₃ = withFlags a₂ (a .sample) (a .onward) in
     let a₄ = withMarking a₃ (a .marking) in
-    say-field 4 rateGiven (withByteRate noActions) (a .bytes) a (c .bytes)
-    (adds-rate ByteRate 0x8006 (withByteRate noActions) (lit< tt) refl (λ n. refl))
-    (say-field 3 rateGiven (withPacketRate a₁) (a .packets) a (c .packets)
-    (adds-rate PacketRate 0x800c (withPacketRate a₁) (lit< tt) refl (λ n. refl))
+    say-field 4 (withByteRate noActions) noLimit (a .bytes) a
+    (said-limit ByteRate 0x8006 (withByteRate noActions) (lit< tt) refl (λ n. refl) (a .bytes) (c .bytes))
+    (say-field 3 (withPacketRate a₁) noLimit (a .packets) a
+    (said-limit PacketRate 0x800c (withPacketRate a₁) (lit< tt) refl (λ n. refl) (a .packets) (c .packets))
     (say 2 a₂ a₃ a (adds-flags a₂ (a .sample) (a .onward))
-    (say-field 1 sixBits (withMarking a₃) (a .marking) a (c .marks) (adds-marking a₃)
-    (say-field 0 redirectType (withRedirect a₄) (a .redirect) a (c .redirects) (adds-redirect a₄) (say-nothing a)))))
+    (say-field 1 (withMarking a₃) absent (a .marking) a (said-marking a₃ (a .marking) (c .marks))
+    (say-field 0 (withRedirect a₄) absent (a .redirect) a (said-redirect a₄ (a .redirect) (c .redirects)) (say-nothing a)))))
 
 right-length : (octets count : ℕ) → octets ≡ 8 * count → count ≤ 64 → wrongLength octets ≡ false
 right-length octets count h p = rw (le-ltb 512 octets (omega arith), eq-eqb (octets % 8) 0 (omega arith))

@@ -14,9 +14,11 @@ use Rattle.rate.specs.declared.Rate.the-variants.{Number, NotANumber}
 use Rattle.rate.specs.Rate.{rateOf}
 use Rattle.action.specs.declared.Actions.{Actions}
 use Rattle.action.specs.declared.Given.{Given}
+use Rattle.action.specs.declared.Limit.{Limit}
 use Rattle.action.specs.declared.Reading.{Reading}
 use Rattle.action.specs.declared.Reading.the-variants.{Read, Unsound}
-use Rattle.action.specs.Given.{absent, given, smallerOf}
+use Rattle.action.specs.Given.{absent, given}
+use Rattle.action.specs.Limit.{noLimit, limit, smallerOf}
 
 -- 01: "Known: 0x8006 byte rate, 0x800c packet rate, 0x8007, 0x8008/0x8108/0x8208 redirect, 0x8009 marking" (section 7, table 8). First the
 -- type of a byte rate (section 7.1); of each type both octets count.
@@ -64,10 +66,10 @@ setsS c = has c 0x02
 abbrev pub markingIn : ℕ → ℕ
 markingIn c = c % 2 ^ 6
 
--- The smallest of several rates; one that is not a number does not count.
-unfoldable pub smallest : List Rate → Given
-smallest [] = absent
-smallest (Number n ∷ rates) = smallerOf (given n) (smallest rates)
+-- The smallest of several rates, the first of those that are equal; one that is not a number does not count.
+unfoldable pub smallest : List Rate → Limit
+smallest [] = noLimit
+smallest (Number n ∷ rates) = smallerOf (limit n) (smallest rates)
 smallest (NotANumber ∷ rates) = smallest rates
 
 -- The first of several numbers.
@@ -118,7 +120,7 @@ actionsOf s =
 -- Actions that ask for nothing.
 abbrev pub noActions : Actions
 noActions =
-    record { bytes = absent; packets = absent; sample = false; onward = false; marking = absent; redirect = absent }
+    record { bytes = noLimit; packets = noLimit; sample = false; onward = false; marking = absent; redirect = absent }
 
 -- 01: "flags (1: 1 byte rate, 2 packet rate, 4 S, 8 T, 16 marking, 32 redirect)".
 unfoldable pub flagsOf : Actions → ℕ

@@ -1,6 +1,6 @@
--- Numbers that may be missing, as a rule need not limit, mark or redirect. A missing number stands as 0, and a present 0 is another thing.
-use Prim.Native.Nat.{ℕ, min}
-use mathlib.Core.Bool.{Bool, true, false, cond, _&&_}
+-- Numbers that may be missing, as a rule need not mark or redirect. A missing number stands as 0, and a present 0 is another thing.
+use Prim.Native.Nat.{ℕ}
+use mathlib.Core.Bool.{Bool, true, false, cond}
 use lib.Dec.{eqb}
 use Rattle.action.specs.declared.Given.{Given}
 
@@ -16,10 +16,6 @@ given n = record { present = true; number = n }
 unfoldable pub firstOf : Given → Given → Given
 firstOf a b = cond (a .present) a b
 
--- 01: "smallest rate of each kind": the smaller of two that are there, or the one that is.
-unfoldable pub smallerOf : Given → Given → Given
-smallerOf a b = cond (a .present && b .present) (given (min (a .number) (b .number))) (firstOf a b)
-
--- A number that is there passes the test; one that is absent is 0.
-unfoldable pub allowed : Given → Bool → Bool
-allowed g passes = cond (g .present) passes (eqb (g .number) 0)
+-- A number that is there passes the test; one that is missing is 0.
+unfoldable pub allowed : Bool → ℕ → Bool → Bool
+allowed present number passes = cond present passes (eqb number 0)

@@ -1,5 +1,6 @@
 -- The definitions of this crate, in the order in which to read them.
 pub mod Given
+pub mod Limit
 pub mod Actions
 pub mod Merging
 pub mod Possible

@@ -2,7 +2,8 @@
 -- from the first that has one"). Merged actions carry no T, which only says whether the walk goes on.
 use mathlib.Core.Bool.{false, _||_}
 use Rattle.action.specs.declared.Actions.{Actions}
-use Rattle.action.specs.Given.{smallerOf, firstOf}
+use Rattle.action.specs.Given.{firstOf}
+use Rattle.action.specs.Limit.{smallerOf}
 
 -- The actions of an earlier and of a later rule.
 unfoldable pub merged : Actions → Actions → Actions

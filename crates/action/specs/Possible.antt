@@ -2,14 +2,14 @@
 use Prim.Native.Nat.{_/_, _^_}
 use mathlib.Core.Bool.{Bool, _&&_}
 use lib.Dec.{ltb}
-use Rattle.rate.specs.Rate.{rateGiven}
 use Rattle.action.specs.declared.Actions.{Actions}
 use Rattle.action.specs.Given.{allowed}
+use Rattle.action.specs.Limit.{couldBeLimit}
 use Rattle.action.specs.Actions.{isRedirect}
 
 -- Rates are numbers that some single gives, a marking has six bits, a redirect is a community of that type, and a missing number is 0.
 unfoldable pub couldBe : Actions → Bool
 couldBe a =
-    allowed (a .bytes) (rateGiven (a .bytes .number)) && allowed (a .packets) (rateGiven (a .packets .number))
-    && allowed (a .marking) (ltb (a .marking .number) (2 ^ 6))
-    && allowed (a .redirect) (isRedirect (a .redirect .number / 2 ^ 48))
+    couldBeLimit (a .bytes) && couldBeLimit (a .packets)
+    && allowed (a .marking .present) (a .marking .number) (ltb (a .marking .number) (2 ^ 6))
+    && allowed (a .redirect .present) (a .redirect .number) (isRedirect (a .redirect .number / 2 ^ 48))

@@ -9,9 +9,11 @@ use Rattle.action.specs.declared.Actions.{Actions}
 use Rattle.action.specs.declared.Given.{Given}
 use Rattle.action.specs.declared.Kind.{Kind}
 use Rattle.action.specs.declared.Kind.the-variants.{ByteRate, PacketRate, TrafficAction, Redirect, Marking, Other}
+use Rattle.action.specs.declared.Limit.{Limit}
 use Rattle.action.specs.declared.Reading.{Reading}
 use Rattle.action.specs.declared.Reading.the-variants.{Read, Unsound}
-use Rattle.action.specs.Given.{given, smallerOf, firstOf}
+use Rattle.action.specs.Given.{given, firstOf}
+use Rattle.action.specs.Limit.{limit, smallerOf}
 use Rattle.action.specs.Actions.{isByteRate, isPacketRate, isTrafficAction, isMarking, isRedirect, rateIn, setsS, setsT, markingIn}
 
 -- The kind of a type.
@@ -22,14 +24,14 @@ kindOf type =
     (cond (isTrafficAction type) TrafficAction (cond (isMarking type) Marking (cond (isRedirect type) Redirect Other))))
 
 -- The actions with another byte rate.
-abbrev pub withByteRate : Actions → Given → Actions
-withByteRate a g =
-    record { bytes = g; packets = a .packets; sample = a .sample; onward = a .onward; marking = a .marking; redirect = a .redirect }
+abbrev pub withByteRate : Actions → Limit → Actions
+withByteRate a l =
+    record { bytes = l; packets = a .packets; sample = a .sample; onward = a .onward; marking = a .marking; redirect = a .redirect }
 
 -- The actions with another packet rate.
-abbrev pub withPacketRate : Actions → Given → Actions
-withPacketRate a g =
-    record { bytes = a .bytes; packets = g; sample = a .sample; onward = a .onward; marking = a .marking; redirect = a .redirect }
+abbrev pub withPacketRate : Actions → Limit → Actions
+withPacketRate a l =
+    record { bytes = a .bytes; packets = l; sample = a .sample; onward = a .onward; marking = a .marking; redirect = a .redirect }
 
 -- The actions with another S and T.
 abbrev pub withFlags : Actions → Bool → Bool → Actions
@@ -53,8 +55,8 @@ withRate change NotANumber = Unsound
 
 -- What a community of a kind adds to the actions told so far.
 unfoldable pub withKind : Kind → Actions → ℕ → Reading
-withKind ByteRate a c = withRate (λ n. withByteRate a (smallerOf (a .bytes) (given n))) (rateIn c)
-withKind PacketRate a c = withRate (λ n. withPacketRate a (smallerOf (a .packets) (given n))) (rateIn c)
+withKind ByteRate a c = withRate (λ n. withByteRate a (smallerOf (a .bytes) (limit n))) (rateIn c)
+withKind PacketRate a c = withRate (λ n. withPacketRate a (smallerOf (a .packets) (limit n))) (rateIn c)
 withKind TrafficAction a c = Read (withFlags a (a .sample || setsS c) (a .onward || setsT c))
 withKind Marking a c = Read (withMarking a (firstOf (a .marking) (given (markingIn c))))
 withKind Redirect a c = Read (withRedirect a (firstOf (a .redirect) (given c)))

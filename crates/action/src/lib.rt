@@ -1,7 +1,7 @@
 // Filtering actions (RFC 8955 section 7): the actions of a rule's communities, and merging over several matching rules.
 ghost use mathlib.Core.Path.{_≡_};
-ghost use Prim.Native.Nat.{min};
-ghost use Rattle.action.specs.Given.{given, smallerOf, firstOf, allowed};
+ghost use Rattle.action.specs.Given.{given, firstOf, allowed};
+ghost use Rattle.action.specs.Limit.{limit, smallerOf, couldBeLimit};
 ghost use Rattle.action.specs.Actions.{noActions, isRedirect, rateIn, actionsOf};
 ghost use Rattle.action.specs.Merging.{merged};
 ghost use Rattle.action.specs.Possible.{couldBe};
@@ -14,10 +14,16 @@ pub struct Given {
     pub number: u64,
 }
 
+// A rate that actions limit to, which may be missing; a missing one is 0.
+pub struct Limit {
+    pub present: bool,
+    pub number: u64,
+}
+
 // What rules ask for: limits, S as `sample`, T as `onward`, a marking, and the redirect community.
 pub struct Actions {
-    pub bytes: Given,
-    pub packets: Given,
+    pub bytes: Limit,
+    pub packets: Limit,
     pub sample: bool,
     pub onward: bool,
     pub marking: Given,
@@ -50,11 +56,14 @@ fn given_of(number: u64) -> Given
     }
 }
 
-// The lesser of two numbers.
-fn lesser(a: u64, b: u64) -> u64
-    ensures { λ r. ⌜ r ≡ min a b ⌝ }
+// A limit that is there.
+fn limit_of(number: u64) -> Limit
+    ensures { λ r. ⌜ r ≡ limit number ⌝ }
 {
-    if a < b { a } else { b }
+    Limit {
+        present: true,
+        number,
+    }
 }
 
 // The first of two that is there; its parts are put together anew, since a copy of the whole is slower.
@@ -70,14 +79,20 @@ fn first_of(first: Given, second: Given) -> Given
     }
 }
 
-// The smaller of two rates that are there, or the one that is.
-fn smaller_of(first: Given, second: Given) -> Given
+// The first of two limits where it is there and the second is missing or no smaller, else the second; put together anew, as in `first_of`.
+fn smaller_of(first: Limit, second: Limit) -> Limit
     ensures { λ r. ⌜ r ≡ smallerOf first second ⌝ }
 {
-    if first.present & second.present {
-        return given_of(lesser(first.number, second.number));
+    if first.present & (!second.present | (first.number <= second.number)) {
+        return Limit {
+            present: first.present,
+            number: first.number,
+        };
     }
-    first_of(first, second)
+    Limit {
+        present: second.present,
+        number: second.number,
+    }
 }
 
 // A rule that asks for nothing.
@@ -88,9 +103,13 @@ pub fn no_actions() -> Actions
         present: false,
         number: 0,
     };
+    let no_limit = Limit {
+        present: false,
+        number: 0,
+    };
     Actions {
-        bytes: absent,
-        packets: absent,
+        bytes: no_limit,
+        packets: no_limit,
         sample: false,
         onward: false,
         marking: absent,
@@ -150,13 +169,13 @@ pub fn actions_of(communities: &[u8]) -> Reading
                 let Rate::Number(rate) = rate_in(community) else {
                     return Reading::Unsound;
                 };
-                actions.bytes = smaller_of(actions.bytes, given_of(rate));
+                actions.bytes = smaller_of(actions.bytes, limit_of(rate));
             }
             Kind::PacketRate => {
                 let Rate::Number(rate) = rate_in(community) else {
                     return Reading::Unsound;
                 };
-                actions.packets = smaller_of(actions.packets, given_of(rate));
+                actions.packets = smaller_of(actions.packets, limit_of(rate));
             }
             Kind::TrafficAction => {
                 actions.sample = actions.sample | (community & 0x02 != 0);
@@ -195,23 +214,32 @@ pub fn merge(earlier: Actions, later: Actions) -> Actions
 }
 
 // Does a number that is there pass, and does a missing one stand as 0?
-fn is_allowed(given: Given, passes: bool) -> bool
-    ensures { λ r. ⌜ r ≡ allowed given passes ⌝ }
+fn is_allowed(present: bool, number: u64, passes: bool) -> bool
+    ensures { λ r. ⌜ r ≡ allowed present number passes ⌝ }
 {
-    if given.present {
-        passes
-    } else {
-        given.number == 0
-    }
+    if present { passes } else { number == 0 }
+}
+
+// Could a limit be that of some communities?
+fn could_be_limit(limit: Limit) -> bool
+    ensures { λ r. ⌜ r ≡ couldBeLimit limit ⌝ }
+{
+    is_allowed(limit.present, limit.number, rate::is_rate(limit.number))
 }
 
 // Could these be the actions of some communities?
 pub fn could_be(actions: Actions) -> bool
     ensures { λ r. ⌜ r ≡ couldBe actions ⌝ }
 {
-    let bytes = is_allowed(actions.bytes, rate::is_rate(actions.bytes.number));
-    let packets = is_allowed(actions.packets, rate::is_rate(actions.packets.number));
-    let marking = is_allowed(actions.marking, actions.marking.number < 64);
-    let redirect = is_allowed(actions.redirect, is_redirect(actions.redirect.number >> 48));
+    let bytes = could_be_limit(actions.bytes);
+    let packets = could_be_limit(actions.packets);
+    let dscp = actions.marking.number;
+    let community = actions.redirect.number;
+    let marking = is_allowed(actions.marking.present, dscp, dscp < 64);
+    let redirect = is_allowed(
+        actions.redirect.present,
+        community,
+        is_redirect(community >> 48),
+    );
     bytes & packets & marking & redirect
 }

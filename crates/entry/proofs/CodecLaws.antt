@@ -17,12 +17,12 @@ use Rattle.octets.proofs.Facts.{Octets, below}
 use Rattle.octets.proofs.NumberLaws.{number-small, one-octet}
 use Rattle.rule.specs.declared.Family.{Family}
 use Rattle.action.specs.declared.Actions.{Actions}
-use Rattle.action.specs.declared.Given.{Given}
 use Rattle.octets.specs.Bit.{bitIf}
+use Rattle.action.specs.Given.{allowed}
 use Rattle.action.specs.Actions.{flagsOf}
 use Rattle.rate.specs.Rate.{rateGiven}
 use Rattle.rate.proofs.RatesGiven.{at-most}
-use Rattle.action.proofs.GivenLaws.{Fine, by-fine}
+use Rattle.action.proofs.GivenLaws.{by-allowed}
 use Rattle.action.proofs.PossibleLaws.{could, sixBits, redirectType}
 use Rattle.action.specs.Possible.{couldBe}
 use Rattle.entry.specs.Entry.{Entry, plainValue, possible}
@@ -111,8 +111,9 @@ abbrev place : ℕ → ℕ
 place field = widthOf (take field headWidths)
 
 -- every number fits the width of its field
-fine-small : (test : ℕ → Bool) (limit : ℕ) → ((n : ℕ) → test n ≡ true → n < limit) → 0 < limit → (g : Given) → Fine test g → g .number < limit
-fine-small test limit small some = by-fine test (λ g. g .number < limit) small some
+allowed-small : (test : ℕ → Bool) (most : ℕ) → ((n : ℕ) → test n ≡ true → n < most) → 0 < most → (p : Bool) (n : ℕ)
+    → allowed p n (test n) ≡ true → n < most
+allowed-small test most small some = by-allowed test (λ p n. n < most) small some
 
 rate-small : (n : ℕ) → rateGiven n ≡ true → n < 256 ^ 8
 rate-small n h = omega (arith, at-most n h)
@@ -131,10 +132,10 @@ head-fits family e p =
     let o = p .originates in
     let c = could (e .actions) (p .acts) in
     let f = flags-small (e .actions) in
-    let marks = fine-small sixBits 256 (λ n h. let t = ltb-true n (2 ^ 6) h in omega arith) (omega arith) (e .actions .marking) (c .marks) in
-    let bytes = fine-small rateGiven (256 ^ 8) rate-small (omega arith) (e .actions .bytes) (c .bytes) in
-    let packets = fine-small rateGiven (256 ^ 8) rate-small (omega arith) (e .actions .packets) (c .packets) in
-    let redirects = fine-small redirectType (256 ^ 8) redirect-small (omega arith) (e .actions .redirect) (c .redirects) in
+    let marks = allowed-small sixBits 256 (λ n h. let t = ltb-true n (2 ^ 6) h in omega arith) (omega arith) _ (e .actions .marking .number) (c .marks) in
+    let bytes = allowed-small rateGiven (256 ^ 8) rate-small (omega arith) _ (e .actions .bytes .number) (c .bytes) in
+    let packets = allowed-small rateGiven (256 ^ 8) rate-small (omega arith) _ (e .actions .packets .number) (c .packets) in
+    let redirects = allowed-small redirectType (256 ^ 8) redirect-small (omega arith) _ (e .actions .redirect .number) (c .redirects) in
     (omega arith, (omega arith, (omega arith, (marks, (bytes, (packets, (redirects, tt)))))))
 
 -- how `record_actions` comes to its answer

@@ -11,6 +11,7 @@ use Rattle.octets.specs.Test.{sameList}
 use Rattle.rule.specs.declared.Family.{Family}
 use Rattle.action.specs.declared.Actions.{Actions}
 use Rattle.action.specs.declared.Given.{Given}
+use Rattle.action.specs.declared.Limit.{Limit}
 use Rattle.action.specs.Actions.{valuesOf}
 use Rattle.entry.specs.Entry.{Entry, possible}
 
@@ -55,12 +56,16 @@ recordOf e = writtenFields headWidths (headNumbers e) ++ e .value
 abbrev pub fieldIf : ℕ → ℕ → ℕ → Given
 fieldIf flags bit number = record { present = has flags bit; number = number }
 
+-- A rate and whether its flag is set, likewise.
+abbrev pub limitIf : ℕ → ℕ → ℕ → Limit
+limitIf flags bit number = record { present = has flags bit; number = number }
+
 -- The actions that fields stand for; 01: "1 byte rate, 2 packet rate, 4 S, 8 T, 16 marking, 32 redirect".
 unfoldable pub actionsIn : ℕ → ℕ → ℕ → ℕ → ℕ → Actions
 actionsIn flags dscp bytes packets redirect =
     record {
-      bytes = fieldIf flags 1 bytes;
-      packets = fieldIf flags 2 packets;
+      bytes = limitIf flags 1 bytes;
+      packets = limitIf flags 2 packets;
       sample = has flags 4;
       onward = has flags 8;
       marking = fieldIf flags 16 dscp;

@@ -11,9 +11,10 @@ ghost use Rattle.rule.specs.Component.{pairsFrom, prefixEnd, bodyEnd};
 ghost use Rattle.spelling.specs.Plain.{Length, Operator, bodyOf, plainFrom};
 ghost use Rattle.action.specs.Actions.{flagsOf, valuesOf};
 ghost use Rattle.entry.specs.Entry.{entryFor, plainValue};
-ghost use Rattle.entry.specs.Record.{headCost, writtenFields, recordOf, fieldIf, actionsIn, entryOf, Measured, goodRecord};
+ghost use Rattle.entry.specs.Record.{headCost, writtenFields, recordOf, fieldIf, limitIf, actionsIn, entryOf, Measured, goodRecord};
 use action::Actions;
 use action::Given;
+use action::Limit;
 use action::could_be;
 use octets::bit_if;
 use octets::number_at;
@@ -148,12 +149,22 @@ fn field_if(flags: u8, bit: u8, number: u64) -> Given
     }
 }
 
+// A rate with its flag.
+fn limit_if(flags: u8, bit: u8, number: u64) -> Limit
+    ensures { λ r. ⌜ r ≡ limitIf flags bit number ⌝ }
+{
+    Limit {
+        present: flags & bit != 0,
+        number,
+    }
+}
+
 // The actions that fields stand for.
 fn actions_in(flags: u8, dscp: u64, bytes: u64, packets: u64, redirect: u64) -> Actions
     ensures { λ r. ⌜ r ≡ actionsIn flags dscp bytes packets redirect ⌝ }
 {
-    let byte_rate = field_if(flags, 1, bytes);
-    let packet_rate = field_if(flags, 2, packets);
+    let byte_rate = limit_if(flags, 1, bytes);
+    let packet_rate = limit_if(flags, 2, packets);
     let marking = field_if(flags, 16, dscp);
     let community = field_if(flags, 32, redirect);
     Actions {

@@ -15,7 +15,8 @@ use Rattle.route.specs.Destination.{destinationFor, destinationAmong, destinati
 use Rattle.route.specs.Feasible.{coveredBy, moreSpecific, longer, matched, bestMatch, undisputed, judged, feasible}
 use Rattle.route.specs.Route.{routeAt, routesOf, plainPrefix, rises, rising, soundRoutes, numberInWords, routesFrom}
 use Rattle.action.specs.Actions.{communitiesAt, actionsOf, flagsOf, ofType, smallest, first, ruleActions}
-use Rattle.action.specs.Given.{smallerOf, firstOf, allowed}
+use Rattle.action.specs.Given.{firstOf, allowed}
+use Rattle.action.specs.Limit.{smallerOf}
 use Rattle.action.specs.Merging.{merged}
 use Rattle.action.specs.Possible.{couldBe}
 use Rattle.packet.specs.Header.{ipv4Unusable}

@@ -8,6 +8,7 @@ use mathlib.Core.List.{List, [], _∷_}
 use Rattle.rule.specs.declared.Family.{Family}
 use Rattle.action.specs.declared.Actions.{Actions}
 use Rattle.action.specs.Given.{given}
+use Rattle.action.specs.Limit.{limit}
 use Rattle.action.specs.Actions.{noActions}
 use Rattle.action.specs.Reading.{withByteRate, withMarking}
 use Rattle.entry.specs.Entry.{Entry}
@@ -55,7 +56,7 @@ droppingSpelled = 0x00 ∷ 0x02 ∷ 0xfd ∷ 0xe8 ∷ 0 ∷ 0 ∷ 0 ∷ 1 ∷ dr
 
 -- The byte rate of 0 as read.
 abbrev pub drops : Actions
-drops = withByteRate noActions (given 0)
+drops = withByteRate noActions (limit 0)
 
 -- The marking as read.
 abbrev pub marks : Actions

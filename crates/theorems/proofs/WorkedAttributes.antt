@@ -24,7 +24,8 @@ use Rattle.route.specs.Feasible.{coveredBy, moreSpecific, longer, matched, best
 use Rattle.route.specs.Route.{routeAt, routesOf, plainPrefix, rises, rising, soundRoutes, numberInWords, routesFrom}
 use Rattle.rate.specs.Rate.{scaled, numberFor, numberOfParts, rateOfParts, rateOf, fitsSignificand, rateGiven}
 use Rattle.action.specs.Actions.{communitiesAt, actionsOf, flagsOf, ofType, smallest, first, ruleActions}
-use Rattle.action.specs.Given.{smallerOf, firstOf, allowed}
+use Rattle.action.specs.Given.{firstOf, allowed}
+use Rattle.action.specs.Limit.{smallerOf}
 use Rattle.action.specs.Possible.{couldBe}
 use Rattle.entry.specs.Entry.{plainValue, possible}
 use Rattle.entry.specs.Record.{writtenFields, readFields, headNumbers, recordOf, actionsIn, entryOf, goodRecord}
