@@ -1,10 +1,7 @@
 // The public calls for C and Rust. A slice is a pointer and a length, and `&mut [u64; 2]` is a `uint64_t out[2]`. Each function is the call in
 // words of its name (crate calls) for the family of its number, 4 for IPv4 and 6 for IPv6, and promises what that call does.
-ghost use mathlib.Core.List.{[], _∷_};
 ghost use Rattle.rule.specs.Family.{ipv4, ipv6};
-ghost use Rattle.request.specs.Input.{announcementOf, policyOf};
-ghost use Rattle.update.specs.Singles.{reachOf};
-ghost use Rattle.calls.specs.Word.{isOn};
+ghost use Rattle.calls.specs.Word.{settingIn, originatorIn};
 ghost use Rattle.calls.specs.Promise.{ReadCall, WriteCall, CompareCall, FeasibleCall, ActionsCall, AnnounceCall, WithdrawCall, ReachCall, UnreachCall, LookupCall, FirstMatchCall};
 use rule::AddressFamily;
 
@@ -13,25 +10,34 @@ use rule::AddressFamily;
 // Reads one rule.
 #[no_mangle]
 pub extern "C" fn flowspec4_read(rule: &[u8], out: &mut [u64; 2]) -> u64
-    ensures { λ r. ⌜ ReadCall ipv4 (now (rule .entry)) (now (out .entry)) r (now (out .exit)) (now (rule .exit) ∷ []) ⌝ }
+    ensures { λ r. ⌜ ReadCall ipv4
+        (record { rule = now (rule .entry); out = now (out .entry) })
+        r
+        (record { rule = now (rule .exit); out = now (out .exit) }) ⌝ }
 {
     calls::read(AddressFamily::Ipv4, rule, out)
 }
 
 // Writes one rule from its value to the front of a buffer.
 #[no_mangle]
-pub extern "C" fn flowspec4_write(value: &[u8], buffer: &mut [u8], out: &mut [u64; 1]) -> u64
-    ensures { λ r. ⌜ WriteCall ipv4 (now (value .entry)) (now (buffer .entry)) (now (out .entry)) r (now (buffer .exit)) (now (out .exit)) (now (value .exit) ∷ []) ⌝ }
+pub extern "C" fn flowspec4_write(value: &[u8], buf: &mut [u8], out: &mut [u64; 1]) -> u64
+    ensures { λ r. ⌜ WriteCall ipv4
+        (record { value = now (value .entry); buf = now (buf .entry); out = now (out .entry) })
+        r
+        (record { value = now (value .exit); buf = now (buf .exit); out = now (out .exit) }) ⌝ }
 {
-    calls::write(AddressFamily::Ipv4, value, buffer, out)
+    calls::write(AddressFamily::Ipv4, value, buf, out)
 }
 
 // Compares two rules by their precedence.
 #[no_mangle]
-pub extern "C" fn flowspec4_compare(first: &[u8], second: &[u8], out: &mut [u64; 1]) -> u64
-    ensures { λ r. ⌜ CompareCall ipv4 (now (first .entry)) (now (second .entry)) (now (out .entry)) r (now (out .exit)) (now (first .exit) ∷ now (second .exit) ∷ []) ⌝ }
+pub extern "C" fn flowspec4_compare(a: &[u8], b: &[u8], out: &mut [u64; 1]) -> u64
+    ensures { λ r. ⌜ CompareCall ipv4
+        (record { a = now (a .entry); b = now (b .entry); out = now (out .entry) })
+        r
+        (record { a = now (a .exit); b = now (b .exit); out = now (out .exit) }) ⌝ }
 {
-    calls::compare(AddressFamily::Ipv4, first, second, out)
+    calls::compare(AddressFamily::Ipv4, a, b, out)
 }
 
 // Judges whether a rule is feasible for an originator by the lent routes.
@@ -42,7 +48,10 @@ pub extern "C" fn flowspec4_feasible(
     rule: &[u8],
     originator: u32,
 ) -> u64
-    ensures { λ r. ⌜ FeasibleCall ipv4 (policyOf (now (routes .entry)) (isOn «allow_no_destination»)) (now (rule .entry)) originator r (now (routes .exit) ∷ now (rule .exit) ∷ []) ⌝ }
+    ensures { λ r. ⌜ FeasibleCall ipv4 (settingIn «allow_no_destination») (originatorIn originator)
+        (record { routes = now (routes .entry); rule = now (rule .entry) })
+        r
+        (record { routes = now (routes .exit); rule = now (rule .exit) }) ⌝ }
 {
     calls::feasible(
         AddressFamily::Ipv4,
@@ -56,7 +65,10 @@ pub extern "C" fn flowspec4_feasible(
 // Reads the filtering actions of a rule's communities, whatever the rule's family.
 #[no_mangle]
 pub extern "C" fn flowspec4_actions(communities: &[u8], out: &mut [u64; 5]) -> u64
-    ensures { λ r. ⌜ ActionsCall (now (communities .entry)) (now (out .entry)) r (now (out .exit)) (now (communities .exit) ∷ []) ⌝ }
+    ensures { λ r. ⌜ ActionsCall
+        (record { communities = now (communities .entry); out = now (out .entry) })
+        r
+        (record { communities = now (communities .exit); out = now (out .exit) }) ⌝ }
 {
     calls::actions(communities, out)
 }
@@ -71,7 +83,20 @@ pub extern "C" fn flowspec4_announce(
     originator: u32,
     communities: &[u8],
 ) -> u64
-    ensures { λ r. ⌜ AnnounceCall ipv4 (now (table .entry)) (policyOf (now (routes .entry)) (isOn «allow_no_destination»)) (announcementOf (now (rule .entry)) originator (now (communities .entry))) r (now (table .exit)) (now (routes .exit) ∷ now (rule .exit) ∷ now (communities .exit) ∷ []) ⌝ }
+    ensures { λ r. ⌜ AnnounceCall ipv4 (settingIn «allow_no_destination») (originatorIn originator)
+        (record {
+          table = now (table .entry);
+          routes = now (routes .entry);
+          rule = now (rule .entry);
+          communities = now (communities .entry);
+        })
+        r
+        (record {
+          table = now (table .exit);
+          routes = now (routes .exit);
+          rule = now (rule .exit);
+          communities = now (communities .exit);
+        }) ⌝ }
 {
     calls::announce(
         AddressFamily::Ipv4,
@@ -87,7 +112,10 @@ pub extern "C" fn flowspec4_announce(
 // Withdraws a rule from a table.
 #[no_mangle]
 pub extern "C" fn flowspec4_withdraw(table: &mut [u8], rule: &[u8]) -> u64
-    ensures { λ r. ⌜ WithdrawCall ipv4 (now (table .entry)) (now (rule .entry)) r (now (table .exit)) (now (rule .exit) ∷ []) ⌝ }
+    ensures { λ r. ⌜ WithdrawCall ipv4
+        (record { table = now (table .entry); rule = now (rule .entry) })
+        r
+        (record { table = now (table .exit); rule = now (rule .exit) }) ⌝ }
 {
     calls::withdraw(AddressFamily::Ipv4, table, rule)
 }
@@ -104,7 +132,24 @@ pub extern "C" fn flowspec4_reach(
     answers: &mut [u32],
     out: &mut [u64; 1],
 ) -> u64
-    ensures { λ r. ⌜ ReachCall ipv4 (now (table .entry)) (policyOf (now (routes .entry)) (isOn «allow_no_destination»)) (reachOf (now (attribute .entry)) originator (now (communities .entry))) (now (answers .entry)) (now (out .entry)) r (now (table .exit)) (now (answers .exit)) (now (out .exit)) (now (routes .exit) ∷ now (attribute .exit) ∷ now (communities .exit) ∷ []) ⌝ }
+    ensures { λ r. ⌜ ReachCall ipv4 (settingIn «allow_no_destination») (originatorIn originator)
+        (record {
+          table = now (table .entry);
+          routes = now (routes .entry);
+          attribute = now (attribute .entry);
+          communities = now (communities .entry);
+          answers = now (answers .entry);
+          out = now (out .entry);
+        })
+        r
+        (record {
+          table = now (table .exit);
+          routes = now (routes .exit);
+          attribute = now (attribute .exit);
+          communities = now (communities .exit);
+          answers = now (answers .exit);
+          out = now (out .exit);
+        }) ⌝ }
 {
     calls::reach(
         AddressFamily::Ipv4,
@@ -127,7 +172,20 @@ pub extern "C" fn flowspec4_unreach(
     answers: &mut [u32],
     out: &mut [u64; 1],
 ) -> u64
-    ensures { λ r. ⌜ UnreachCall ipv4 (now (table .entry)) (now (attribute .entry)) (now (answers .entry)) (now (out .entry)) r (now (table .exit)) (now (answers .exit)) (now (out .exit)) (now (attribute .exit) ∷ []) ⌝ }
+    ensures { λ r. ⌜ UnreachCall ipv4
+        (record {
+          table = now (table .entry);
+          attribute = now (attribute .entry);
+          answers = now (answers .entry);
+          out = now (out .entry);
+        })
+        r
+        (record {
+          table = now (table .exit);
+          attribute = now (attribute .exit);
+          answers = now (answers .exit);
+          out = now (out .exit);
+        }) ⌝ }
 {
     calls::unreach(AddressFamily::Ipv4, table, attribute, answers, out)
 }
@@ -135,7 +193,10 @@ pub extern "C" fn flowspec4_unreach(
 // Looks a packet up in a table.
 #[no_mangle]
 pub extern "C" fn flowspec4_lookup(table: &[u8], packet: &[u8], out: &mut [u64; 6]) -> u64
-    ensures { λ r. ⌜ LookupCall ipv4 (now (table .entry)) (now (packet .entry)) (now (out .entry)) r (now (out .exit)) (now (table .exit) ∷ now (packet .exit) ∷ []) ⌝ }
+    ensures { λ r. ⌜ LookupCall ipv4
+        (record { table = now (table .entry); packet = now (packet .entry); out = now (out .entry) })
+        r
+        (record { table = now (table .exit); packet = now (packet .exit); out = now (out .exit) }) ⌝ }
 {
     calls::lookup(AddressFamily::Ipv4, table, packet, out)
 }
@@ -143,7 +204,10 @@ pub extern "C" fn flowspec4_lookup(table: &[u8], packet: &[u8], out: &mut [u64; 
 // Locates the first match's record in a table.
 #[no_mangle]
 pub extern "C" fn flowspec4_first_match(table: &[u8], packet: &[u8], out: &mut [u64; 2]) -> u64
-    ensures { λ r. ⌜ FirstMatchCall ipv4 (now (table .entry)) (now (packet .entry)) (now (out .entry)) r (now (out .exit)) (now (table .exit) ∷ now (packet .exit) ∷ []) ⌝ }
+    ensures { λ r. ⌜ FirstMatchCall ipv4
+        (record { table = now (table .entry); packet = now (packet .entry); out = now (out .entry) })
+        r
+        (record { table = now (table .exit); packet = now (packet .exit); out = now (out .exit) }) ⌝ }
 {
     calls::first_match(AddressFamily::Ipv4, table, packet, out)
 }
@@ -153,25 +217,34 @@ pub extern "C" fn flowspec4_first_match(table: &[u8], packet: &[u8], out: &mut [
 // Reads one rule.
 #[no_mangle]
 pub extern "C" fn flowspec6_read(rule: &[u8], out: &mut [u64; 2]) -> u64
-    ensures { λ r. ⌜ ReadCall ipv6 (now (rule .entry)) (now (out .entry)) r (now (out .exit)) (now (rule .exit) ∷ []) ⌝ }
+    ensures { λ r. ⌜ ReadCall ipv6
+        (record { rule = now (rule .entry); out = now (out .entry) })
+        r
+        (record { rule = now (rule .exit); out = now (out .exit) }) ⌝ }
 {
     calls::read(AddressFamily::Ipv6, rule, out)
 }
 
 // Writes one rule from its value to the front of a buffer.
 #[no_mangle]
-pub extern "C" fn flowspec6_write(value: &[u8], buffer: &mut [u8], out: &mut [u64; 1]) -> u64
-    ensures { λ r. ⌜ WriteCall ipv6 (now (value .entry)) (now (buffer .entry)) (now (out .entry)) r (now (buffer .exit)) (now (out .exit)) (now (value .exit) ∷ []) ⌝ }
+pub extern "C" fn flowspec6_write(value: &[u8], buf: &mut [u8], out: &mut [u64; 1]) -> u64
+    ensures { λ r. ⌜ WriteCall ipv6
+        (record { value = now (value .entry); buf = now (buf .entry); out = now (out .entry) })
+        r
+        (record { value = now (value .exit); buf = now (buf .exit); out = now (out .exit) }) ⌝ }
 {
-    calls::write(AddressFamily::Ipv6, value, buffer, out)
+    calls::write(AddressFamily::Ipv6, value, buf, out)
 }
 
 // Compares two rules by their precedence.
 #[no_mangle]
-pub extern "C" fn flowspec6_compare(first: &[u8], second: &[u8], out: &mut [u64; 1]) -> u64
-    ensures { λ r. ⌜ CompareCall ipv6 (now (first .entry)) (now (second .entry)) (now (out .entry)) r (now (out .exit)) (now (first .exit) ∷ now (second .exit) ∷ []) ⌝ }
+pub extern "C" fn flowspec6_compare(a: &[u8], b: &[u8], out: &mut [u64; 1]) -> u64
+    ensures { λ r. ⌜ CompareCall ipv6
+        (record { a = now (a .entry); b = now (b .entry); out = now (out .entry) })
+        r
+        (record { a = now (a .exit); b = now (b .exit); out = now (out .exit) }) ⌝ }
 {
-    calls::compare(AddressFamily::Ipv6, first, second, out)
+    calls::compare(AddressFamily::Ipv6, a, b, out)
 }
 
 // Judges whether a rule is feasible for an originator by the lent routes.
@@ -182,7 +255,10 @@ pub extern "C" fn flowspec6_feasible(
     rule: &[u8],
     originator: u32,
 ) -> u64
-    ensures { λ r. ⌜ FeasibleCall ipv6 (policyOf (now (routes .entry)) (isOn «allow_no_destination»)) (now (rule .entry)) originator r (now (routes .exit) ∷ now (rule .exit) ∷ []) ⌝ }
+    ensures { λ r. ⌜ FeasibleCall ipv6 (settingIn «allow_no_destination») (originatorIn originator)
+        (record { routes = now (routes .entry); rule = now (rule .entry) })
+        r
+        (record { routes = now (routes .exit); rule = now (rule .exit) }) ⌝ }
 {
     calls::feasible(
         AddressFamily::Ipv6,
@@ -203,7 +279,20 @@ pub extern "C" fn flowspec6_announce(
     originator: u32,
     communities: &[u8],
 ) -> u64
-    ensures { λ r. ⌜ AnnounceCall ipv6 (now (table .entry)) (policyOf (now (routes .entry)) (isOn «allow_no_destination»)) (announcementOf (now (rule .entry)) originator (now (communities .entry))) r (now (table .exit)) (now (routes .exit) ∷ now (rule .exit) ∷ now (communities .exit) ∷ []) ⌝ }
+    ensures { λ r. ⌜ AnnounceCall ipv6 (settingIn «allow_no_destination») (originatorIn originator)
+        (record {
+          table = now (table .entry);
+          routes = now (routes .entry);
+          rule = now (rule .entry);
+          communities = now (communities .entry);
+        })
+        r
+        (record {
+          table = now (table .exit);
+          routes = now (routes .exit);
+          rule = now (rule .exit);
+          communities = now (communities .exit);
+        }) ⌝ }
 {
     calls::announce(
         AddressFamily::Ipv6,
@@ -219,7 +308,10 @@ pub extern "C" fn flowspec6_announce(
 // Withdraws a rule from a table.
 #[no_mangle]
 pub extern "C" fn flowspec6_withdraw(table: &mut [u8], rule: &[u8]) -> u64
-    ensures { λ r. ⌜ WithdrawCall ipv6 (now (table .entry)) (now (rule .entry)) r (now (table .exit)) (now (rule .exit) ∷ []) ⌝ }
+    ensures { λ r. ⌜ WithdrawCall ipv6
+        (record { table = now (table .entry); rule = now (rule .entry) })
+        r
+        (record { table = now (table .exit); rule = now (rule .exit) }) ⌝ }
 {
     calls::withdraw(AddressFamily::Ipv6, table, rule)
 }
@@ -236,7 +328,24 @@ pub extern "C" fn flowspec6_reach(
     answers: &mut [u32],
     out: &mut [u64; 1],
 ) -> u64
-    ensures { λ r. ⌜ ReachCall ipv6 (now (table .entry)) (policyOf (now (routes .entry)) (isOn «allow_no_destination»)) (reachOf (now (attribute .entry)) originator (now (communities .entry))) (now (answers .entry)) (now (out .entry)) r (now (table .exit)) (now (answers .exit)) (now (out .exit)) (now (routes .exit) ∷ now (attribute .exit) ∷ now (communities .exit) ∷ []) ⌝ }
+    ensures { λ r. ⌜ ReachCall ipv6 (settingIn «allow_no_destination») (originatorIn originator)
+        (record {
+          table = now (table .entry);
+          routes = now (routes .entry);
+          attribute = now (attribute .entry);
+          communities = now (communities .entry);
+          answers = now (answers .entry);
+          out = now (out .entry);
+        })
+        r
+        (record {
+          table = now (table .exit);
+          routes = now (routes .exit);
+          attribute = now (attribute .exit);
+          communities = now (communities .exit);
+          answers = now (answers .exit);
+          out = now (out .exit);
+        }) ⌝ }
 {
     calls::reach(
         AddressFamily::Ipv6,
@@ -259,7 +368,20 @@ pub extern "C" fn flowspec6_unreach(
     answers: &mut [u32],
     out: &mut [u64; 1],
 ) -> u64
-    ensures { λ r. ⌜ UnreachCall ipv6 (now (table .entry)) (now (attribute .entry)) (now (answers .entry)) (now (out .entry)) r (now (table .exit)) (now (answers .exit)) (now (out .exit)) (now (attribute .exit) ∷ []) ⌝ }
+    ensures { λ r. ⌜ UnreachCall ipv6
+        (record {
+          table = now (table .entry);
+          attribute = now (attribute .entry);
+          answers = now (answers .entry);
+          out = now (out .entry);
+        })
+        r
+        (record {
+          table = now (table .exit);
+          attribute = now (attribute .exit);
+          answers = now (answers .exit);
+          out = now (out .exit);
+        }) ⌝ }
 {
     calls::unreach(AddressFamily::Ipv6, table, attribute, answers, out)
 }
@@ -267,7 +389,10 @@ pub extern "C" fn flowspec6_unreach(
 // Looks a packet up in a table.
 #[no_mangle]
 pub extern "C" fn flowspec6_lookup(table: &[u8], packet: &[u8], out: &mut [u64; 6]) -> u64
-    ensures { λ r. ⌜ LookupCall ipv6 (now (table .entry)) (now (packet .entry)) (now (out .entry)) r (now (out .exit)) (now (table .exit) ∷ now (packet .exit) ∷ []) ⌝ }
+    ensures { λ r. ⌜ LookupCall ipv6
+        (record { table = now (table .entry); packet = now (packet .entry); out = now (out .entry) })
+        r
+        (record { table = now (table .exit); packet = now (packet .exit); out = now (out .exit) }) ⌝ }
 {
     calls::lookup(AddressFamily::Ipv6, table, packet, out)
 }
@@ -275,7 +400,10 @@ pub extern "C" fn flowspec6_lookup(table: &[u8], packet: &[u8], out: &mut [u64; 
 // Locates the first match's record in a table.
 #[no_mangle]
 pub extern "C" fn flowspec6_first_match(table: &[u8], packet: &[u8], out: &mut [u64; 2]) -> u64
-    ensures { λ r. ⌜ FirstMatchCall ipv6 (now (table .entry)) (now (packet .entry)) (now (out .entry)) r (now (out .exit)) (now (table .exit) ∷ now (packet .exit) ∷ []) ⌝ }
+    ensures { λ r. ⌜ FirstMatchCall ipv6
+        (record { table = now (table .entry); packet = now (packet .entry); out = now (out .entry) })
+        r
+        (record { table = now (table .exit); packet = now (packet .exit); out = now (out .exit) }) ⌝ }
 {
     calls::first_match(AddressFamily::Ipv6, table, packet, out)
 }

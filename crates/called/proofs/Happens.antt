@@ -2,73 +2,114 @@
 -- it was lent; every history at the door is one of calls in words; so whatever is asked of whatever table has one, of exactly this, with the
 -- door's answers, and demand 3 holds of it. Assumes nothing.
 use mathlib.Core.Path.{_≡_, refl, sym, ap, subst, _∙_}
+use mathlib.Core.Bool.{Bool}
 use mathlib.Core.List.{List, [], _∷_, map}
 use Prim.Native.Nat.{ℕ, _≤_}
 use Rattle.octets.specs.Test.{Each}
 use Rattle.rule.specs.declared.Family.{Family}
 use Rattle.table.specs.Sound.{mostOctets}
-use Rattle.request.specs.Input.{Announcement, Policy}
+use Rattle.request.specs.Input.{Policy, announcementOf, policyOf}
 use Rattle.flowspec.specs.declared.Change.{Change}
 use Rattle.flowspec.specs.Told.{changeTold}
 use Rattle.update.specs.declared.Applied.{Applied}
-use Rattle.update.specs.Singles.{Reach}
+use Rattle.update.specs.Singles.{reachOf}
 use Rattle.update.specs.Apply.{appliedTold}
 use Rattle.history.specs.History.{Call, announcement, withdrawal, Promised, emptyTable, HoldsExactly}
 use Rattle.history.specs.Attributes.{Attribute, reach, unreach, Event, single, whole, Asked, askedBy, endOfEvents, AskedCanBe, EventCanBe, WholePromised, EventsHappened, eventsOf, singlesOf}
 use Rattle.history.proofs.AttributesHappen.{events-happen, of-these-asks, events-happen-from-empty, events-happen-only}
 use Rattle.calls.specs.Word.{wordOf, outAfter}
-use Rattle.calls.specs.Promise.{Returns, AnnounceCall, WithdrawCall, ReachCall, UnreachCall}
-use Rattle.called.specs.History.{WholeCalled, answered, Returned, WholeReturned, AllReturned, asCalled, calledOf}
+use Rattle.calls.specs.Buffers.{AnnounceBuffers, WithdrawBuffers, ReachBuffers, UnreachBuffers}
+use Rattle.calls.specs.Promise.{AnnounceCall, WithdrawCall, ReachCall, UnreachCall}
+use Rattle.calls.proofs.CallLaws.{Tells, with-out, reaches, unreaches, announces, withdraws}
+use Rattle.called.specs.History.{answered, Returned, WholeReturned, AllReturned, asCalled, calledOf}
 use Rattle.called.proofs.HistoryLaws.{returned-happened, returned-holds}
 
--- the call with an attribute that was lent and left this
-abbrev calledWith : Attribute → List ℕ → List ℕ → ℕ → List ℕ → List ℕ → List ℕ → WholeCalled
-calledWith attribute lent entry result left words exit =
-    record { attribute = attribute; lent = lent; entry = entry; result = result; exit = exit; words = words; left = left }
+-- ---- what a call ensures is what a history asks of it ----
 
--- the word of an answer and `out` after it are what is promised of this answer
-told-returns : (a b : Applied) → a ≡ b → (out : List ℕ) → Returns (appliedTold b) out (wordOf (appliedTold a)) (outAfter (appliedTold a) out)
-told-returns a b e out = record { is = ap (λ (x : Applied). wordOf (appliedTold x)) e; out = ap (λ (x : Applied). outAfter (appliedTold x) out) e }
+module _ (family : Family) (setting : Bool) (originator : ℕ) where
+  pub announce-returned : (lent : AnnounceBuffers) (result : ℕ) (left : AnnounceBuffers) → AnnounceCall family setting originator lent result left
+      → Returned family (policyOf (lent .routes) setting) (announcement (announcementOf (lent .rule) originator (lent .communities))) (lent .table) result (left .table)
+  announce-returned lent result left p =
+      record { is = p .is; leaves = ap (λ (b : AnnounceBuffers). announces (b .table) (lent .routes) (lent .rule) (lent .communities)) (p .leaves) }
+
+  pub reach-returned : (lent : ReachBuffers) (result : ℕ) (left : ReachBuffers) → ReachCall family setting originator lent result left
+      → let r = reachOf (lent .attribute) originator (lent .communities) in
+      WholeReturned family (policyOf (lent .routes) setting) (reach r) (lent .table)
+      (record {
+        attribute = reach r;
+        lent = lent .answers;
+        entry = lent .out;
+        result = result;
+        exit = left .out;
+        words = left .answers;
+        left = left .table;
+      })
+  reach-returned lent result left p =
+      record {
+        is = p .is;
+        leaves = ap (λ (b : ReachBuffers). reaches (b .table) (lent .routes) (lent .attribute) (lent .communities) (b .answers) (b .out)) (p .leaves);
+      }
 
 module _ (family : Family) (policy : Policy) where
-  -- what a call ensures is what a history asks of it
-  pub announce-returned : (a : Announcement) (table : List ℕ) (result : ℕ) (left : List ℕ) (kept : List (List ℕ))
-      → AnnounceCall family table policy a result left kept → Returned family policy (announcement a) table result left
-  announce-returned a table result left kept p = subst (λ k. AnnounceCall family table policy a result left k) (p .keeps) p
+  pub withdraw-returned : (lent : WithdrawBuffers) (result : ℕ) (left : WithdrawBuffers) → WithdrawCall family lent result left
+      → Returned family policy (withdrawal (lent .rule)) (lent .table) result (left .table)
+  withdraw-returned lent result left p = record { is = p .is; leaves = ap (λ (b : WithdrawBuffers). withdraws (b .table) (lent .rule)) (p .leaves) }
 
-  pub withdraw-returned : (rule table : List ℕ) (result : ℕ) (left : List ℕ) (kept : List (List ℕ))
-      → WithdrawCall family table rule result left kept → Returned family policy (withdrawal rule) table result left
-  withdraw-returned rule table result left kept p = subst (λ k. WithdrawCall family table rule result left k) (p .keeps) p
+  pub unreach-returned : (lent : UnreachBuffers) (result : ℕ) (left : UnreachBuffers) → UnreachCall family lent result left
+      → WholeReturned family policy (unreach (lent .attribute)) (lent .table)
+      (record {
+        attribute = unreach (lent .attribute);
+        lent = lent .answers;
+        entry = lent .out;
+        result = result;
+        exit = left .out;
+        words = left .answers;
+        left = left .table;
+      })
+  unreach-returned lent result left p =
+      record {
+        is = p .is;
+        leaves = ap (λ (b : UnreachBuffers). unreaches (b .table) (lent .attribute) (b .answers) (b .out)) (p .leaves);
+      }
 
-  pub reach-returned : (r : Reach) (table answers entry : List ℕ) (result : ℕ) (left words exit : List ℕ) (kept : List (List ℕ))
-      → ReachCall family table policy r answers entry result left words exit kept
-      → WholeReturned family policy (reach r) table (calledWith (reach r) answers entry result left words exit)
-  reach-returned r table answers entry result left words exit kept p =
-      subst (λ k. ReachCall family table policy r answers entry result left words exit k) (p .keeps) p
+-- ---- a history at the door is one of calls in words ----
 
-  pub unreach-returned : (attribute table answers entry : List ℕ) (result : ℕ) (left words exit : List ℕ) (kept : List (List ℕ))
-      → UnreachCall family table attribute answers entry result left words exit kept
-      → WholeReturned family policy (unreach attribute) table (calledWith (unreach attribute) answers entry result left words exit)
-  unreach-returned attribute table answers entry result left words exit kept p =
-      subst (λ k. UnreachCall family table attribute answers entry result left words exit k) (p .keeps) p
+-- the word of an answer and `out` after it are what is promised of this answer
+told-tells : (a b : Applied) → a ≡ b → (out : List ℕ) → Tells (appliedTold b) out (wordOf (appliedTold a)) (outAfter (appliedTold a) out)
+told-tells a b e out = record { is = ap (λ (x : Applied). wordOf (appliedTold x)) e; out = ap (λ (x : Applied). outAfter (appliedTold x) out) e }
 
+module _ (family : Family) (policy : Policy) where
   -- what is promised at the door is what a call in words returns, with the answer's word
   promised-returned : (call : Call) (table : List ℕ) (answer : Change) (left : List ℕ) → Promised family policy call table answer left
       → Returned family policy call table (wordOf (changeTold answer)) left
   promised-returned (announcement a) table answer left p =
-      record { is = ap (λ (c : Change). wordOf (changeTold c)) (p .is); leaves = p .leaves; keeps = p .keeps }
+      record {
+        is = ap (λ (c : Change). wordOf (changeTold c)) (p .is);
+        leaves = ap (λ (t : List ℕ). announces t (policy .routes) (a .rule) (a .communities)) (p .leaves);
+      }
   promised-returned (withdrawal rule) table answer left p =
-      record { is = ap (λ (c : Change). wordOf (changeTold c)) (p .is); leaves = p .leaves; keeps = p .keeps }
+      record {
+        is = ap (λ (c : Change). wordOf (changeTold c)) (p .is);
+        leaves = ap (λ (t : List ℕ). withdraws t rule) (p .leaves);
+      }
 
   module _ (out : List ℕ) where
     whole-returned : (attribute : Attribute) (table lent : List ℕ) (answer : Applied) (left words : List ℕ)
         → WholePromised family policy attribute table lent answer left words
         → WholeReturned family policy attribute table
-        (calledWith attribute lent out (wordOf (appliedTold answer)) left words (outAfter (appliedTold answer) out))
+        (record {
+          attribute = attribute;
+          lent = lent;
+          entry = out;
+          result = wordOf (appliedTold answer);
+          exit = outAfter (appliedTold answer) out;
+          words = words;
+          left = left;
+        })
     whole-returned (reach r) table lent answer left words p =
-        record { returns = told-returns answer _ (p .is) out; leaves = p .leaves; lists = p .lists; keeps = p .keeps }
+        rw (p .leaves, p .lists) (with-out (reaches _ _ _ _ _) (told-tells answer _ (p .is) out))
     whole-returned (unreach attribute) table lent answer left words p =
-        record { returns = told-returns answer _ (p .is) out; leaves = p .leaves; lists = p .lists; keeps = p .keeps }
+        rw (p .leaves, p .lists) (with-out (unreaches _ _ _) (told-tells answer _ (p .is) out))
 
     -- **a history at the door is one of calls in words**
     pub happened-returned : (es : List Event) (table : List ℕ) → EventsHappened family policy table es → AllReturned family policy table (map (asCalled out) es)

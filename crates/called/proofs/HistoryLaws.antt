@@ -25,9 +25,10 @@ use Rattle.history.specs.History.{Call, announcement, withdrawal, Promised, emp
 use Rattle.history.specs.Attributes.{Attribute, reach, unreach, endOfEvents, EventCanBe, WholePromised, EventPromised, EventsHappened, singlesOf, EventsFromEmpty}
 use Rattle.history.proofs.AttributeLaws.{events-hold, events-alike}
 use Rattle.calls.specs.Word.{wordOf}
-use Rattle.calls.specs.Promise.{Returns}
+use Rattle.calls.specs.Buffers.{AnnounceBuffers, WithdrawBuffers, ReachBuffers, UnreachBuffers}
 use Rattle.called.specs.History.{WholeCalled, CalledEvent, one, all, answerIn, appliedIn, answeredEvent, answered, Returned, WholeReturned, EventReturned, AllReturned}
 use Rattle.calls.proofs.Halves.{low-half, high-half}
+use Rattle.calls.proofs.CallLaws.{Tells}
 use Rattle.calls.proofs.Places.{not-announced, not-withdrawn}
 use Rattle.calls.proofs.AttributePlaces.{not-reached, not-unreached}
 
@@ -41,7 +42,7 @@ word-says (Refused number place) h =
 
 -- the same of a word and `out` of a whole attribute
 applied-says : (a : Applied) → ((number place : ℕ) → a ≡ NotApplied number place → Refusal number place) → (entry : List ℕ) (result : ℕ) (exit : List ℕ)
-    → Returns (appliedTold a) entry result exit → appliedIn result exit ≡ a
+    → Tells (appliedTold a) entry result exit → appliedIn result exit ≡ a
 applied-says (AllDone count) h entry result exit p = rw (p .is, p .out)
 applied-says (NotApplied number place) h entry result exit p =
     let listed = h number place refl in
@@ -55,23 +56,35 @@ module _ (family : Family) (policy : Policy) where
   returned-promised (announcement a) table result left p =
       announce-kept family policy a table (announcing family policy a table) (answerIn result) left refl
       (rw (p .is) (word-says (announcing family policy a table .answer) (not-announced family policy a table)))
-      (p .leaves)
+      (ap (λ (b : AnnounceBuffers). b .table) (p .leaves))
   returned-promised (withdrawal rule) table result left p =
       withdraw-kept family rule table (withdrawing family rule table) (answerIn result) left refl
       (rw (p .is) (word-says (withdrawing family rule table .answer) (not-withdrawn family rule table)))
-      (p .leaves)
+      (ap (λ (b : WithdrawBuffers). b .table) (p .leaves))
 
   -- the same of a whole attribute
   pub whole-promised : (attribute : Attribute) (table : List ℕ) (w : WholeCalled) → WholeReturned family policy attribute table w
       → WholePromised family policy attribute table (w .lent) (appliedIn (w .result) (w .exit)) (w .left) (w .words)
   whole-promised (reach r) table w p =
       let is : appliedIn (w .result) (w .exit) ≡ reaching family policy r table (w .lent) .answer
-      = applied-says _ (not-reached family policy r table (w .lent)) (w .entry) (w .result) (w .exit) (p .returns) in
-      record { is = is; tells = ap appliedTold is ∙ reach-tells family policy r table (w .lent); leaves = p .leaves; lists = p .lists; keeps = p .keeps }
+      = applied-says _ (not-reached family policy r table (w .lent)) (w .entry) (w .result) (w .exit) (record { is = p .is; out = ap (λ (b : ReachBuffers). b .out) (p .leaves) }) in
+      record {
+        is = is;
+        tells = ap appliedTold is ∙ reach-tells family policy r table (w .lent);
+        leaves = ap (λ (b : ReachBuffers). b .table) (p .leaves);
+        lists = ap (λ (b : ReachBuffers). b .answers) (p .leaves);
+        keeps = refl;
+      }
   whole-promised (unreach attribute) table w p =
       let is : appliedIn (w .result) (w .exit) ≡ unreaching family attribute table (w .lent) .answer
-      = applied-says _ (not-unreached family attribute table (w .lent)) (w .entry) (w .result) (w .exit) (p .returns) in
-      record { is = is; tells = ap appliedTold is ∙ unreach-tells family attribute table (w .lent); leaves = p .leaves; lists = p .lists; keeps = p .keeps }
+      = applied-says _ (not-unreached family attribute table (w .lent)) (w .entry) (w .result) (w .exit) (record { is = p .is; out = ap (λ (b : UnreachBuffers). b .out) (p .leaves) }) in
+      record {
+        is = is;
+        tells = ap appliedTold is ∙ unreach-tells family attribute table (w .lent);
+        leaves = ap (λ (b : UnreachBuffers). b .table) (p .leaves);
+        lists = ap (λ (b : UnreachBuffers). b .answers) (p .leaves);
+        keeps = refl;
+      }
 
   event-promised : (e : CalledEvent) (table : List ℕ) → EventReturned family policy table e → EventPromised family policy table (answeredEvent e)
   event-promised (one m) table p = returned-promised (m .call) table (m .result) (m .left) p

@@ -76,17 +76,42 @@ asCalled out (whole w) =
     all (record { attribute = w .attribute; lent = w .lent; entry = out; result = wordOf told; exit = outAfter told out; words = w .words; left = w .left })
 
 module _ (family : Family) (policy : Policy) where
-  -- A call's promise, with a table at entry.
+  -- A call's promise, with a table at entry and one at exit: what else it is lent it leaves as it was.
   abbrev pub Returned : Call → List ℕ → ℕ → List ℕ → Type 0
-  Returned (announcement a) table result left = AnnounceCall family table policy a result left (policy .routes ∷ a .rule ∷ a .communities ∷ [])
-  Returned (withdrawal rule) table result left = WithdrawCall family table rule result left (rule ∷ [])
+  Returned (announcement a) table result left =
+      AnnounceCall family (policy .allowsNoDestination) (a .originator)
+      (record { table = table; routes = policy .routes; rule = a .rule; communities = a .communities })
+      result
+      (record { table = left; routes = policy .routes; rule = a .rule; communities = a .communities })
+  Returned (withdrawal rule) table result left =
+      WithdrawCall family (record { table = table; rule = rule }) result (record { table = left; rule = rule })
 
   -- The promise of a call with a whole attribute.
   abbrev pub WholeReturned : Attribute → List ℕ → WholeCalled → Type 0
   WholeReturned (reach r) table w =
-      ReachCall family table policy r (w .lent) (w .entry) (w .result) (w .left) (w .words) (w .exit) (policy .routes ∷ r .attribute ∷ r .communities ∷ [])
+      ReachCall family (policy .allowsNoDestination) (r .originator)
+      (record {
+        table = table;
+        routes = policy .routes;
+        attribute = r .attribute;
+        communities = r .communities;
+        answers = w .lent;
+        out = w .entry;
+      })
+      (w .result)
+      (record {
+        table = w .left;
+        routes = policy .routes;
+        attribute = r .attribute;
+        communities = r .communities;
+        answers = w .words;
+        out = w .exit;
+      })
   WholeReturned (unreach attribute) table w =
-      UnreachCall family table attribute (w .lent) (w .entry) (w .result) (w .left) (w .words) (w .exit) (attribute ∷ [])
+      UnreachCall family
+      (record { table = table; attribute = attribute; answers = w .lent; out = w .entry })
+      (w .result)
+      (record { table = w .left; attribute = attribute; answers = w .words; out = w .exit })
 
   -- The promise of either.
   abbrev pub EventReturned : List ℕ → CalledEvent → Type 0

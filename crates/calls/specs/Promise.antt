@@ -1,98 +1,110 @@
--- What each call promises, for whatever family of addresses and whatever octets it is lent: the word that it returns, what each buffer lent
--- to be changed and `out` hold at exit, and that what is lent to be read alone is as it was (`keeps`; `kept` is what those slices hold at
--- exit). No call has a `requires`. That no second result satisfies a promise is shown in proofs/Unique.antt. The answers are the door's, by
--- its own definitions.
+-- What each call promises, for whatever family of addresses and whatever octets it is lent: the word that it returns (`result`), and what
+-- every buffer that it is lent (`lent`, Buffers.antt) holds at exit (`left`): one that is lent to be read alone what it held. No call has a
+-- `requires`. That no second result satisfies a promise is shown in proofs/Unique.antt. The answers are the door's, by its own definitions.
 use Prim.Native.Nat.{ℕ}
 use mathlib.Core.Path.{_≡_}
-use mathlib.Core.List.{List, [], _∷_}
+use mathlib.Core.Bool.{Bool}
 use lib.ListN.{length}
 use Rattle.rule.specs.declared.Family.{Family}
 use Rattle.rule.specs.Reading.{oneRule}
 use Rattle.spelling.specs.Writing.{writing, afterWriting}
 use Rattle.action.specs.Actions.{actionsOf}
 use Rattle.order.specs.Compare.{compareRules}
-use Rattle.request.specs.Input.{Announcement, Policy}
+use Rattle.request.specs.Input.{announcementOf, policyOf}
 use Rattle.flowspec.specs.Feasibility.{judgement}
 use Rattle.flowspec.specs.Announce.{announcing, withdrawing}
 use Rattle.flowspec.specs.Look.{lookingUp, matchPlace}
 use Rattle.flowspec.specs.Told.{Told, readingTold, writingTold, comparisonTold, feasibilityTold, actionsTold, changeTold, lookupTold, matchPlaceTold}
-use Rattle.update.specs.Singles.{Reach}
+use Rattle.update.specs.Singles.{reachOf}
 use Rattle.update.specs.Apply.{reaching, unreaching, appliedTold}
 use Rattle.calls.specs.Word.{wordOf, outAfter}
+use Rattle.calls.specs.Buffers.{ReadBuffers, WriteBuffers, CompareBuffers, FeasibleBuffers, ActionsBuffers, AnnounceBuffers, WithdrawBuffers, ReachBuffers, UnreachBuffers, LookupBuffers}
 
--- What a call returns, and what `out` holds when the call begins and when it ends.
-pub record Returns (answer : Told) (entry : List ℕ) (result : ℕ) (exit : List ℕ) : Type 0 where
+-- What a call returns, by its answer, and what its buffers hold at exit.
+pub record Returns {Buffers : Type 0} (answer : Told) (after : Buffers) (result : ℕ) (left : Buffers) : Type 0 where
   pub is : result ≡ wordOf answer
-  pub out : exit ≡ outAfter answer entry
-
--- The same of a call that is lent slices to be read, and leaves them as they were.
-pub record ReturnsKeeping (answer : Told) (lent : List (List ℕ)) (entry : List ℕ) (result : ℕ) (exit : List ℕ)
-    (kept : List (List ℕ)) : Type 0 where
-  pub returns : Returns answer entry result exit
-  pub keeps : kept ≡ lent
+  pub leaves : left ≡ after
 
 -- `read`: refusals 1 to 7, then 15.
-abbrev pub ReadCall : Family → List ℕ → List ℕ → ℕ → List ℕ → List (List ℕ) → Type 0
-ReadCall family rule entry result exit kept = ReturnsKeeping (readingTold (oneRule family rule)) (rule ∷ []) entry result exit kept
+abbrev pub ReadCall : Family → ReadBuffers → ℕ → ReadBuffers → Type 0
+ReadCall family lent result left =
+    let answer = readingTold (oneRule family (lent .rule)) in
+    Returns answer (record { rule = lent .rule; out = outAfter answer (lent .out) }) result left
 
 -- `write`: refusals 1 to 7, then 16; on success the front of the buffer is filled and the rest kept, and a refusal changes no octet.
-pub record WriteCall (family : Family) (value buffer entry : List ℕ) (result : ℕ) (left exit : List ℕ)
-    (kept : List (List ℕ)) : Type 0 where
-  pub returns : Returns (writingTold (writing family value (length buffer))) entry result exit
-  pub leaves : left ≡ afterWriting family value buffer
-  pub keeps : kept ≡ value ∷ []
+abbrev pub WriteCall : Family → WriteBuffers → ℕ → WriteBuffers → Type 0
+WriteCall family lent result left =
+    let answer = writingTold (writing family (lent .value) (length (lent .buf))) in
+    let written = afterWriting family (lent .value) (lent .buf) in
+    Returns answer (record { value = lent .value; buf = written; out = outAfter answer (lent .out) }) result left
 
 -- `compare`: refusals 1 to 7 and 15 of the first rule, then of the second.
-abbrev pub CompareCall : Family → List ℕ → List ℕ → List ℕ → ℕ → List ℕ → List (List ℕ) → Type 0
-CompareCall family first second entry result exit kept =
-    ReturnsKeeping (comparisonTold (compareRules family first second)) (first ∷ second ∷ []) entry result exit kept
+abbrev pub CompareCall : Family → CompareBuffers → ℕ → CompareBuffers → Type 0
+CompareCall family lent result left =
+    let answer = comparisonTold (compareRules family (lent .a) (lent .b)) in
+    Returns answer (record { a = lent .a; b = lent .b; out = outAfter answer (lent .out) }) result left
 
 -- `feasible`: refusals 9, 1 to 7, 15, 8.
-pub record FeasibleCall (family : Family) (policy : Policy) (rule : List ℕ) (originator result : ℕ)
-    (kept : List (List ℕ)) : Type 0 where
-  pub is : result ≡ wordOf (feasibilityTold (judgement family policy rule originator))
-  pub keeps : kept ≡ policy .routes ∷ rule ∷ []
+abbrev pub FeasibleCall : Family → Bool → ℕ → FeasibleBuffers → ℕ → FeasibleBuffers → Type 0
+FeasibleCall family setting originator lent result left =
+    let answer = feasibilityTold (judgement family (policyOf (lent .routes) setting) (lent .rule) originator) in
+    Returns answer (record { routes = lent .routes; rule = lent .rule }) result left
 
 -- `actions`: refusal 13.
-abbrev pub ActionsCall : List ℕ → List ℕ → ℕ → List ℕ → List (List ℕ) → Type 0
-ActionsCall communities entry result exit kept =
-    ReturnsKeeping (actionsTold (actionsOf communities)) (communities ∷ []) entry result exit kept
+abbrev pub ActionsCall : ActionsBuffers → ℕ → ActionsBuffers → Type 0
+ActionsCall lent result left =
+    let answer = actionsTold (actionsOf (lent .communities)) in
+    Returns answer (record { communities = lent .communities; out = outAfter answer (lent .out) }) result left
 
 -- `announce`: refusals 10, 9, 1 to 7, 15, 13, 8, 11; of these 8 alone changes the table, where the rule was held.
-pub record AnnounceCall (family : Family) (table : List ℕ) (policy : Policy) (announcement : Announcement)
-    (result : ℕ) (left : List ℕ) (kept : List (List ℕ)) : Type 0 where
-  pub is : result ≡ wordOf (changeTold (announcing family policy announcement table .answer))
-  pub leaves : left ≡ announcing family policy announcement table .table
-  pub keeps : kept ≡ policy .routes ∷ announcement .rule ∷ announcement .communities ∷ []
+abbrev pub AnnounceCall : Family → Bool → ℕ → AnnounceBuffers → ℕ → AnnounceBuffers → Type 0
+AnnounceCall family setting originator lent result left =
+    let announcement = announcementOf (lent .rule) originator (lent .communities) in
+    let outcome = announcing family (policyOf (lent .routes) setting) announcement (lent .table) in
+    Returns (changeTold (outcome .answer))
+    (record { table = outcome .table; routes = lent .routes; rule = lent .rule; communities = lent .communities })
+    result left
 
 -- `withdraw`: refusals 10, 1 to 7, 15, 14, none of which changes an octet.
-pub record WithdrawCall (family : Family) (table rule : List ℕ) (result : ℕ) (left : List ℕ) (kept : List (List ℕ)) : Type 0 where
-  pub is : result ≡ wordOf (changeTold (withdrawing family rule table .answer))
-  pub leaves : left ≡ withdrawing family rule table .table
-  pub keeps : kept ≡ rule ∷ []
+abbrev pub WithdrawCall : Family → WithdrawBuffers → ℕ → WithdrawBuffers → Type 0
+WithdrawCall family lent result left =
+    let outcome = withdrawing family (lent .rule) (lent .table) in
+    Returns (changeTold (outcome .answer)) (record { table = outcome .table; rule = lent .rule }) result left
 
 -- `reach`: refusals 10, 9, 19, 1 to 7 rule by rule, 13, 16, none of which changes an octet or a word.
-pub record ReachCall (family : Family) (table : List ℕ) (policy : Policy) (reach : Reach) (answers entry : List ℕ)
-    (result : ℕ) (left words exit : List ℕ) (kept : List (List ℕ)) : Type 0 where
-  pub returns : Returns (appliedTold (reaching family policy reach table answers .answer)) entry result exit
-  pub leaves : left ≡ reaching family policy reach table answers .table
-  pub lists : words ≡ reaching family policy reach table answers .words
-  pub keeps : kept ≡ policy .routes ∷ reach .attribute ∷ reach .communities ∷ []
+abbrev pub ReachCall : Family → Bool → ℕ → ReachBuffers → ℕ → ReachBuffers → Type 0
+ReachCall family setting originator lent result left =
+    let reach = reachOf (lent .attribute) originator (lent .communities) in
+    let applied = reaching family (policyOf (lent .routes) setting) reach (lent .table) (lent .answers) in
+    let answer = appliedTold (applied .answer) in
+    Returns answer
+    (record {
+      table = applied .table;
+      routes = lent .routes;
+      attribute = lent .attribute;
+      communities = lent .communities;
+      answers = applied .words;
+      out = outAfter answer (lent .out);
+    })
+    result left
 
 -- `unreach`: refusals 10, 19, 1 to 7 rule by rule, 16, none of which changes an octet or a word.
-pub record UnreachCall (family : Family) (table attribute answers entry : List ℕ)
-    (result : ℕ) (left words exit : List ℕ) (kept : List (List ℕ)) : Type 0 where
-  pub returns : Returns (appliedTold (unreaching family attribute table answers .answer)) entry result exit
-  pub leaves : left ≡ unreaching family attribute table answers .table
-  pub lists : words ≡ unreaching family attribute table answers .words
-  pub keeps : kept ≡ attribute ∷ []
+abbrev pub UnreachCall : Family → UnreachBuffers → ℕ → UnreachBuffers → Type 0
+UnreachCall family lent result left =
+    let applied = unreaching family (lent .attribute) (lent .table) (lent .answers) in
+    let answer = appliedTold (applied .answer) in
+    Returns answer
+    (record { table = applied .table; attribute = lent .attribute; answers = applied .words; out = outAfter answer (lent .out) })
+    result left
 
 -- `lookup`: refusals 10, 12.
-abbrev pub LookupCall : Family → List ℕ → List ℕ → List ℕ → ℕ → List ℕ → List (List ℕ) → Type 0
-LookupCall family table packet entry result exit kept =
-    ReturnsKeeping (lookupTold (lookingUp family table packet)) (table ∷ packet ∷ []) entry result exit kept
+abbrev pub LookupCall : Family → LookupBuffers → ℕ → LookupBuffers → Type 0
+LookupCall family lent result left =
+    let answer = lookupTold (lookingUp family (lent .table) (lent .packet)) in
+    Returns answer (record { table = lent .table; packet = lent .packet; out = outAfter answer (lent .out) }) result left
 
 -- `first_match`: refusals 10, 12.
-abbrev pub FirstMatchCall : Family → List ℕ → List ℕ → List ℕ → ℕ → List ℕ → List (List ℕ) → Type 0
-FirstMatchCall family table packet entry result exit kept =
-    ReturnsKeeping (matchPlaceTold (matchPlace family table packet)) (table ∷ packet ∷ []) entry result exit kept
+abbrev pub FirstMatchCall : Family → LookupBuffers → ℕ → LookupBuffers → Type 0
+FirstMatchCall family lent result left =
+    let answer = matchPlaceTold (matchPlace family (lent .table) (lent .packet)) in
+    Returns answer (record { table = lent .table; packet = lent .packet; out = outAfter answer (lent .out) }) result left

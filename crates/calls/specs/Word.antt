@@ -1,4 +1,5 @@
--- The one word that a call returns, and what it leaves in `out`, by what the door's answer says in 01's terms (flowspec/specs/Told.antt).
+-- The one word that a call returns, and what it leaves in `out`, by what the door's answer says in 01's terms (flowspec/specs/Told.antt);
+-- and what the numbers that a call is handed beside its buffers say at the door.
 use Prim.Native.Nat.{ℕ, _+_, _*_, _^_}
 use mathlib.Core.Bool.{Bool, cond, not}
 use mathlib.Core.List.{List}
@@ -19,6 +20,10 @@ wordOf a = word (a .number) (a .place)
 abbrev pub outAfter : Told → List ℕ → List ℕ
 outAfter a out = cond (eqb (a .number) 0) (a .values) out
 
--- The header's `allow_no_destination`: 0 is off and any other number on.
-abbrev pub isOn : ℕ → Bool
-isOn allow = not (eqb allow 0)
+-- The header's `allow_no_destination`: 0 is off and any other number on. 01: "A setting may allow rules with no destination".
+abbrev pub settingIn : ℕ → Bool
+settingIn allow = not (eqb allow 0)
+
+-- The header's `originator`, as it stands: who announces a rule.
+abbrev pub originatorIn : ℕ → ℕ
+originatorIn originator = originator

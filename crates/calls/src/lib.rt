@@ -1,14 +1,11 @@
 // The public calls in words, for C and Rust and for every family of addresses: numbers and slices only. Each call returns one word
 // (specs/Word.antt), has no `requires`, and promises in specs/Promise.antt what the door's call does.
 ghost use mathlib.Core.Path.{_≡_};
-ghost use mathlib.Core.List.{[], _∷_};
 ghost use Prim.Native.Nat.{_≤_};
 ghost use Rattle.rule.specs.Family.{familyOf};
 ghost use Rattle.rule.specs.Value.{mostValue};
-ghost use Rattle.request.specs.Input.{announcementOf, policyOf};
 ghost use Rattle.flowspec.specs.Told.{changeTold, verdictTold};
-ghost use Rattle.update.specs.Singles.{reachOf};
-ghost use Rattle.calls.specs.Word.{word, wordOf, isOn};
+ghost use Rattle.calls.specs.Word.{word, wordOf, settingIn, originatorIn};
 ghost use Rattle.calls.specs.Promise.{ReadCall, WriteCall, CompareCall, FeasibleCall, ActionsCall, AnnounceCall, WithdrawCall, ReachCall, UnreachCall, LookupCall, FirstMatchCall};
 use flowspec::Change;
 use flowspec::Feasibility;
@@ -41,7 +38,7 @@ fn change_word(change: Change) -> u64
 
 // Whether the header's `allow_no_destination` is on: 0 is off and any other number on.
 fn is_on(allow: u32) -> bool
-    ensures { λ r. ⌜ r ≡ isOn allow ⌝ }
+    ensures { λ r. ⌜ r ≡ settingIn allow ⌝ }
 {
     allow != 0
 }
@@ -68,7 +65,10 @@ fn words_of(verdict: Verdict) -> [u64; 6]
 
 // Reads one rule. out: where its value starts, and its length.
 pub fn read(family: AddressFamily, rule: &[u8], out: &mut [u64; 2]) -> u64
-    ensures { λ r. ⌜ ReadCall (familyOf family) (now (rule .entry)) (now (out .entry)) r (now (out .exit)) (now (rule .exit) ∷ []) ⌝ }
+    ensures { λ r. ⌜ ReadCall (familyOf family)
+        (record { rule = now (rule .entry); out = now (out .entry) })
+        r
+        (record { rule = now (rule .exit); out = now (out .exit) }) ⌝ }
 {
     match flowspec::read_rule(family, rule) {
         Reading::Refused { number, place } => word_of(number, place),
@@ -80,10 +80,13 @@ pub fn read(family: AddressFamily, rule: &[u8], out: &mut [u64; 2]) -> u64
 }
 
 // Writes one rule from its value to the front of a buffer. out: how many octets were written.
-pub fn write(family: AddressFamily, value: &[u8], buffer: &mut [u8], out: &mut [u64; 1]) -> u64
-    ensures { λ r. ⌜ WriteCall (familyOf family) (now (value .entry)) (now (buffer .entry)) (now (out .entry)) r (now (buffer .exit)) (now (out .exit)) (now (value .exit) ∷ []) ⌝ }
+pub fn write(family: AddressFamily, value: &[u8], buf: &mut [u8], out: &mut [u64; 1]) -> u64
+    ensures { λ r. ⌜ WriteCall (familyOf family)
+        (record { value = now (value .entry); buf = now (buf .entry); out = now (out .entry) })
+        r
+        (record { value = now (value .exit); buf = now (buf .exit); out = now (out .exit) }) ⌝ }
 {
-    match flowspec::write_rule(family, value, buffer) {
+    match flowspec::write_rule(family, value, buf) {
         Writing::Refused { number, place } => word_of(number, place),
         Writing::Written(octets) => {
             *out = [octets as u64];
@@ -92,11 +95,14 @@ pub fn write(family: AddressFamily, value: &[u8], buffer: &mut [u8], out: &mut [
     }
 }
 
-// Compares two rules by their precedence. out: 1 where the first comes first, 2 where the second does, 3 where they are the same rule.
-pub fn compare(family: AddressFamily, first: &[u8], second: &[u8], out: &mut [u64; 1]) -> u64
-    ensures { λ r. ⌜ CompareCall (familyOf family) (now (first .entry)) (now (second .entry)) (now (out .entry)) r (now (out .exit)) (now (first .exit) ∷ now (second .exit) ∷ []) ⌝ }
+// Compares two rules by their precedence. out: 1 where `a` comes first, 2 where `b` does, 3 where they are the same rule.
+pub fn compare(family: AddressFamily, a: &[u8], b: &[u8], out: &mut [u64; 1]) -> u64
+    ensures { λ r. ⌜ CompareCall (familyOf family)
+        (record { a = now (a .entry); b = now (b .entry); out = now (out .entry) })
+        r
+        (record { a = now (a .exit); b = now (b .exit); out = now (out .exit) }) ⌝ }
 {
-    match flowspec::compare_rules(family, first, second) {
+    match flowspec::compare_rules(family, a, b) {
         Comparison::Refused { number, place } => word_of(number, place),
         Comparison::First => {
             *out = [1];
@@ -121,7 +127,10 @@ pub fn feasible(
     rule: &[u8],
     originator: u32,
 ) -> u64
-    ensures { λ r. ⌜ FeasibleCall (familyOf family) (policyOf (now (routes .entry)) (isOn «allow_no_destination»)) (now (rule .entry)) originator r (now (routes .exit) ∷ now (rule .exit) ∷ []) ⌝ }
+    ensures { λ r. ⌜ FeasibleCall (familyOf family) (settingIn «allow_no_destination») (originatorIn originator)
+        (record { routes = now (routes .entry); rule = now (rule .entry) })
+        r
+        (record { routes = now (routes .exit); rule = now (rule .exit) }) ⌝ }
 {
     let on = is_on(allow_no_destination);
     match flowspec::judge_rule(family, on, routes, rule, originator) {
@@ -132,7 +141,10 @@ pub fn feasible(
 
 // Reads the filtering actions of a rule's communities. out: flags, DSCP, byte rate, packet rate, redirect.
 pub fn actions(communities: &[u8], out: &mut [u64; 5]) -> u64
-    ensures { λ r. ⌜ ActionsCall (now (communities .entry)) (now (out .entry)) r (now (out .exit)) (now (communities .exit) ∷ []) ⌝ }
+    ensures { λ r. ⌜ ActionsCall
+        (record { communities = now (communities .entry); out = now (out .entry) })
+        r
+        (record { communities = now (communities .exit); out = now (out .exit) }) ⌝ }
 {
     match flowspec::read_actions(communities) {
         action::Reading::Unsound => word_of(13, 0),
@@ -153,7 +165,20 @@ pub fn announce(
     originator: u32,
     communities: &[u8],
 ) -> u64
-    ensures { λ r. ⌜ AnnounceCall (familyOf family) (now (table .entry)) (policyOf (now (routes .entry)) (isOn «allow_no_destination»)) (announcementOf (now (rule .entry)) originator (now (communities .entry))) r (now (table .exit)) (now (routes .exit) ∷ now (rule .exit) ∷ now (communities .exit) ∷ []) ⌝ }
+    ensures { λ r. ⌜ AnnounceCall (familyOf family) (settingIn «allow_no_destination») (originatorIn originator)
+        (record {
+          table = now (table .entry);
+          routes = now (routes .entry);
+          rule = now (rule .entry);
+          communities = now (communities .entry);
+        })
+        r
+        (record {
+          table = now (table .exit);
+          routes = now (routes .exit);
+          rule = now (rule .exit);
+          communities = now (communities .exit);
+        }) ⌝ }
 {
     let on = is_on(allow_no_destination);
     let change = flowspec::announce(family, table, on, routes, rule, originator, communities);
@@ -162,7 +187,10 @@ pub fn announce(
 
 // Withdraws a rule from a table.
 pub fn withdraw(family: AddressFamily, table: &mut [u8], rule: &[u8]) -> u64
-    ensures { λ r. ⌜ WithdrawCall (familyOf family) (now (table .entry)) (now (rule .entry)) r (now (table .exit)) (now (rule .exit) ∷ []) ⌝ }
+    ensures { λ r. ⌜ WithdrawCall (familyOf family)
+        (record { table = now (table .entry); rule = now (rule .entry) })
+        r
+        (record { table = now (table .exit); rule = now (rule .exit) }) ⌝ }
 {
     let change = flowspec::withdraw(family, table, rule);
     change_word(change)
@@ -181,7 +209,24 @@ pub fn reach(
     answers: &mut [u32],
     out: &mut [u64; 1],
 ) -> u64
-    ensures { λ r. ⌜ ReachCall (familyOf family) (now (table .entry)) (policyOf (now (routes .entry)) (isOn «allow_no_destination»)) (reachOf (now (attribute .entry)) originator (now (communities .entry))) (now (answers .entry)) (now (out .entry)) r (now (table .exit)) (now (answers .exit)) (now (out .exit)) (now (routes .exit) ∷ now (attribute .exit) ∷ now (communities .exit) ∷ []) ⌝ }
+    ensures { λ r. ⌜ ReachCall (familyOf family) (settingIn «allow_no_destination») (originatorIn originator)
+        (record {
+          table = now (table .entry);
+          routes = now (routes .entry);
+          attribute = now (attribute .entry);
+          communities = now (communities .entry);
+          answers = now (answers .entry);
+          out = now (out .entry);
+        })
+        r
+        (record {
+          table = now (table .exit);
+          routes = now (routes .exit);
+          attribute = now (attribute .exit);
+          communities = now (communities .exit);
+          answers = now (answers .exit);
+          out = now (out .exit);
+        }) ⌝ }
 {
     let on = is_on(allow_no_destination);
     match update::reach(
@@ -210,7 +255,20 @@ pub fn unreach(
     answers: &mut [u32],
     out: &mut [u64; 1],
 ) -> u64
-    ensures { λ r. ⌜ UnreachCall (familyOf family) (now (table .entry)) (now (attribute .entry)) (now (answers .entry)) (now (out .entry)) r (now (table .exit)) (now (answers .exit)) (now (out .exit)) (now (attribute .exit) ∷ []) ⌝ }
+    ensures { λ r. ⌜ UnreachCall (familyOf family)
+        (record {
+          table = now (table .entry);
+          attribute = now (attribute .entry);
+          answers = now (answers .entry);
+          out = now (out .entry);
+        })
+        r
+        (record {
+          table = now (table .exit);
+          attribute = now (attribute .exit);
+          answers = now (answers .exit);
+          out = now (out .exit);
+        }) ⌝ }
 {
     match update::unreach(family, table, attribute, answers) {
         Applied::Refused { number, place } => word_of(number, place),
@@ -223,7 +281,10 @@ pub fn unreach(
 
 // Looks a packet up in a table. out: the count, 0 where unmatched, and the merged actions' values, 0 where unmatched.
 pub fn lookup(family: AddressFamily, table: &[u8], packet: &[u8], out: &mut [u64; 6]) -> u64
-    ensures { λ r. ⌜ LookupCall (familyOf family) (now (table .entry)) (now (packet .entry)) (now (out .entry)) r (now (out .exit)) (now (table .exit) ∷ now (packet .exit) ∷ []) ⌝ }
+    ensures { λ r. ⌜ LookupCall (familyOf family)
+        (record { table = now (table .entry); packet = now (packet .entry); out = now (out .entry) })
+        r
+        (record { table = now (table .exit); packet = now (packet .exit); out = now (out .exit) }) ⌝ }
 {
     match flowspec::lookup(family, table, packet) {
         Looked::Refused { number, place } => word_of(number, place),
@@ -236,7 +297,10 @@ pub fn lookup(family: AddressFamily, table: &[u8], packet: &[u8], out: &mut [u64
 
 // Locates the first match's record. out: its start in the table and its length, 0 and 0 where nothing matches.
 pub fn first_match(family: AddressFamily, table: &[u8], packet: &[u8], out: &mut [u64; 2]) -> u64
-    ensures { λ r. ⌜ FirstMatchCall (familyOf family) (now (table .entry)) (now (packet .entry)) (now (out .entry)) r (now (out .exit)) (now (table .exit) ∷ now (packet .exit) ∷ []) ⌝ }
+    ensures { λ r. ⌜ FirstMatchCall (familyOf family)
+        (record { table = now (table .entry); packet = now (packet .entry); out = now (out .entry) })
+        r
+        (record { table = now (table .exit); packet = now (packet .exit); out = now (out .exit) }) ⌝ }
 {
     let found = flowspec::first_match_place(family, table, packet);
     if found.number != 0 {

@@ -13,7 +13,7 @@ change-word-requires c κs = change-near _ (λ n p e. not-announced _ _ _ _ n p 
 returns : tie.Need-returns
 returns c =
     let kept = rw (c .before .before .before .before .before .is-on .ensures) at (c .before .before .before .announce .ensures) in
-    record { is = word-is changeTold _ _ (kept .is) _ refl _ (c .change-word .ensures); leaves = kept .leaves; keeps = refl }
+    record { is = word-is changeTold _ _ (kept .is) _ refl _ (c .change-word .ensures); leaves = rw (kept .leaves) }
 
 pub announce-spec : {M : Type 1} → statement M
 announce-spec = tie.close (tie.spec (λ c κs. search needs) (λ c κs. search needs) change-word-requires (λ c. search needs) returns)

@@ -1,9 +1,9 @@
 -- The door's answer as a word and in `out`; a refusal is one of 01's table.
-use mathlib.Core.Path.{sym, _∙_, refl}
+use mathlib.Core.Path.{sym, _∙_}
 use Rattle.rule.proofs.Refusal.{Refusal}
 use Rattle.flowspec.specs.Told.{lookupTold}
 use Rattle.calls.proofs.Places.{not-looked-up}
-use Rattle.calls.proofs.CallLaws.{refused, answered, lookup-done}
+use Rattle.calls.proofs.CallLaws.{with-out, looks, refused, answered, lookup-done}
 use borrow.Author.Needs.{needs}
 use Rattle.calls.proofs.lookup.Statement.{statement}
 use Rattle.calls.proofs.lookup.Tie as tie
@@ -15,10 +15,10 @@ word-of-requires : tie.Need-word-of-requires
 word-of-requires c κs = refusal c .near
 
 returns : tie.Need-returns
-returns c = record { returns = answered lookupTold _ _ (c .before .before .before .before .lookup .ensures .is) _ (c .before .before .number .given .1) _ _ _ (refused _ _ _ _ (refusal (c .before)) _ (c .word-of .ensures)); keeps = refl }
+returns c = with-out (looks _ _) (answered lookupTold _ _ (c .before .before .before .before .lookup .ensures .is) _ (c .before .before .number .given .1) _ _ _ (refused _ _ _ _ (refusal (c .before)) _ (c .word-of .ensures)))
 
 returns-2 : tie.Need-returns-2
-returns-2 c = record { returns = answered lookupTold _ _ (c .before .before .before .before .lookup .ensures .is) _ (c .before .before .verdict .given .1) _ _ _ (lookup-done (c .before .before .verdict .given .0 .0) _ _ (c .words-of .ensures)); keeps = refl }
+returns-2 c = with-out (looks _ _) (answered lookupTold _ _ (c .before .before .before .before .lookup .ensures .is) _ (c .before .before .verdict .given .1) _ _ _ (lookup-done (c .before .before .verdict .given .0 .0) _ _ (c .words-of .ensures)))
 
 pub lookup-spec : {M : Type 1} → statement M
 lookup-spec =

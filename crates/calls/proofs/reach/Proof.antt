@@ -1,9 +1,9 @@
 -- The answer to a whole attribute as a word and in `out`; a refusal is one of 01's table, as amended.
-use mathlib.Core.Path.{refl, sym, _∙_}
+use mathlib.Core.Path.{sym, _∙_}
 use Rattle.rule.proofs.Refusal.{Refusal}
 use Rattle.update.specs.Apply.{appliedTold}
 use Rattle.calls.proofs.AttributePlaces.{not-reached}
-use Rattle.calls.proofs.CallLaws.{refused, done, answered}
+use Rattle.calls.proofs.CallLaws.{with-out, reaches, refused, done, answered}
 use borrow.Author.Needs.{needs}
 use Rattle.calls.proofs.reach.Statement.{statement}
 use Rattle.calls.proofs.reach.Tie as tie
@@ -17,12 +17,12 @@ word-of-requires c κs = refusal c .near
 returns : tie.Need-returns
 returns c =
     let kept = rw (c .before .before .before .before .before .before .before .before .before .before .before .is-on .ensures) at (c .before .before .before .before .before .before .before .before .reach .ensures) in
-    record { returns = answered appliedTold _ _ (kept .is) _ (c .before .before .number .given .1) _ _ _ (refused _ _ _ _ (refusal (c .before)) _ (c .word-of .ensures)); leaves = kept .leaves; lists = kept .lists; keeps = refl }
+    rw (kept .leaves, kept .lists) (with-out (reaches _ _ _ _ _) (answered appliedTold _ _ (kept .is) _ (c .before .before .number .given .1) _ _ _ (refused _ _ _ _ (refusal (c .before)) _ (c .word-of .ensures))))
 
 returns-2 : tie.Need-returns-2
 returns-2 c =
     let kept = rw (c .before .before .before .before .before .before .before .before .before .before .before .is-on .ensures) at (c .before .before .before .before .before .before .before .before .reach .ensures) in
-    record { returns = answered appliedTold _ _ (kept .is) _ (c .before .before .count .given .1) _ _ _ (done _ _); leaves = kept .leaves; lists = kept .lists; keeps = refl }
+    rw (kept .leaves, kept .lists) (with-out (reaches _ _ _ _ _) (answered appliedTold _ _ (kept .is) _ (c .before .before .count .given .1) _ _ _ (done _ _)))
 
 pub reach-spec : {M : Type 1} → statement M
 reach-spec =

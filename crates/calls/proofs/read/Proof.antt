@@ -1,6 +1,5 @@
 -- One law for each return.
-use mathlib.Core.Path.{refl}
-use Rattle.calls.proofs.CallLaws.{read-near, read-refused, read-done}
+use Rattle.calls.proofs.CallLaws.{with-out, reads, read-near, read-refused, read-done}
 use borrow.Author.Needs.{needs}
 use Rattle.calls.proofs.read.Statement.{statement}
 use Rattle.calls.proofs.read.Tie as tie
@@ -9,10 +8,10 @@ word-of-requires : tie.Need-word-of-requires
 word-of-requires c κs = search (read-near, needs)
 
 returns : tie.Need-returns
-returns c = record { returns = search (read-refused, needs); keeps = refl }
+returns c = with-out (reads _) (search (read-refused, needs))
 
 returns-2 : tie.Need-returns-2
-returns-2 c = record { returns = search (read-done, needs); keeps = refl }
+returns-2 c = with-out (reads _) (search (read-done, needs))
 
 pub read-spec : {M : Type 1} → statement M
 read-spec =

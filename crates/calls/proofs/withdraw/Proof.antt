@@ -12,7 +12,7 @@ change-word-requires c κs = change-near _ (λ n p e. not-withdrawn _ _ _ n p (s
 
 returns : tie.Need-returns
 returns c =
-    record { is = word-is changeTold _ _ (c .before .before .before .withdraw .ensures .is) _ refl _ (c .change-word .ensures); leaves = c .before .before .before .withdraw .ensures .leaves; keeps = refl }
+    record { is = word-is changeTold _ _ (c .before .before .before .withdraw .ensures .is) _ refl _ (c .change-word .ensures); leaves = rw (c .before .before .before .withdraw .ensures .leaves) }
 
 pub withdraw-spec : {M : Type 1} → statement M
 withdraw-spec = tie.close (tie.spec (λ c κs. search needs) change-word-requires (λ c. search needs) returns)

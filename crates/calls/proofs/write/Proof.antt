@@ -1,9 +1,9 @@
 -- The door's answer as a word and in `out`; a refusal is one of 01's table.
-use mathlib.Core.Path.{sym, _∙_, refl}
+use mathlib.Core.Path.{sym, _∙_}
 use Rattle.rule.proofs.Refusal.{Refusal}
 use Rattle.spelling.proofs.WritingLaws.{not-written}
 use Rattle.flowspec.specs.Told.{writingTold}
-use Rattle.calls.proofs.CallLaws.{refused, done, answered}
+use Rattle.calls.proofs.CallLaws.{with-out, writes, refused, done, answered}
 use borrow.Author.Needs.{needs}
 use Rattle.calls.proofs.write.Statement.{statement}
 use Rattle.calls.proofs.write.Tie as tie
@@ -15,10 +15,10 @@ word-of-requires : tie.Need-word-of-requires
 word-of-requires c κs = refusal c .near
 
 returns : tie.Need-returns
-returns c = record { returns = answered writingTold _ _ (c .before .before .before .before .before .before .write-rule .ensures .is) _ (c .before .before .number .given .1) _ _ _ (refused _ _ _ _ (refusal (c .before)) _ (c .word-of .ensures)); leaves = c .before .before .before .before .before .before .write-rule .ensures .leaves; keeps = refl }
+returns c = rw (c .before .before .before .before .before .before .write-rule .ensures .leaves) (with-out (writes _ _) (answered writingTold _ _ (c .before .before .before .before .before .before .write-rule .ensures .is) _ (c .before .before .number .given .1) _ _ _ (refused _ _ _ _ (refusal (c .before)) _ (c .word-of .ensures))))
 
 returns-2 : tie.Need-returns-2
-returns-2 c = record { returns = answered writingTold _ _ (c .before .before .before .before .before .before .write-rule .ensures .is) _ (c .before .before .octets .given .1) _ _ _ (done _ _); leaves = c .before .before .before .before .before .before .write-rule .ensures .leaves; keeps = refl }
+returns-2 c = rw (c .before .before .before .before .before .before .write-rule .ensures .leaves) (with-out (writes _ _) (answered writingTold _ _ (c .before .before .before .before .before .before .write-rule .ensures .is) _ (c .before .before .octets .given .1) _ _ _ (done _ _)))
 
 pub write-spec : {M : Type 1} → statement M
 write-spec =
