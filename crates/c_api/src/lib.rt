@@ -1,5 +1,6 @@
 // The public calls for C and Rust. A slice is a pointer and a length, and `&mut [u64; 2]` is a `uint64_t out[2]`. Each function is the call in
-// words of its name (crate calls) for the family of its number, 4 for IPv4 and 6 for IPv6, and promises what that call does.
+// words of its name (crate calls) for the family of its number, 4 for IPv4 and 6 for IPv6, and promises what that call does. No promise can name
+// a C function: rust/flowspec/tests/names.rs holds names, families and parameters to each other and to the header.
 ghost use Rattle.rule.specs.Family.{ipv4, ipv6};
 ghost use Rattle.calls.specs.Word.{settingIn, originatorIn};
 ghost use Rattle.calls.specs.Promise.{ReadCall, WriteCall, CompareCall, FeasibleCall, ActionsCall, AnnounceCall, WithdrawCall, ReachCall, UnreachCall, LookupCall, FirstMatchCall};

@@ -1,21 +1,16 @@
 //! What `docs/GUIDE.md` names is in the tree, and it names every definition that a reader must
 //! believe.
 
+mod tree;
+
 use std::collections::BTreeSet;
 use std::fs;
-use std::path::{Path, PathBuf};
-
-fn root() -> PathBuf {
-    Path::new(env!("CARGO_MANIFEST_DIR")).join("../..")
-}
-
-fn read(path: &Path) -> String {
-    fs::read_to_string(path).unwrap_or_else(|why| panic!("{}: {why}", path.display()))
-}
+use std::path::PathBuf;
+use tree::{page, read, root};
 
 /// The pieces of the guide that stand between back quotes.
 fn quoted() -> Vec<String> {
-    let guide = read(&root().join("docs/GUIDE.md"));
+    let guide = page("docs/GUIDE.md");
     let lines = guide
         .lines()
         .flat_map(|line| line.split('`').skip(1).step_by(2));

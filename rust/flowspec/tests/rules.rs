@@ -1,14 +1,9 @@
 //! `docs/RULES.md` has the refusals' numbers and each call's order of checks once; what README, the
 //! guide, the header and the wrapper say of them is held to it.
 
-use std::fs;
-use std::path::Path;
+mod tree;
 
-/// A file of the repository.
-fn page(name: &str) -> String {
-    let root = Path::new(env!("CARGO_MANIFEST_DIR")).join("../..");
-    fs::read_to_string(root.join(name)).unwrap_or_else(|why| panic!("{name}: {why}"))
-}
+use tree::page;
 
 /// The rows of the table with this head line, each as its cells.
 fn table(text: &str, head: &str) -> Vec<Vec<String>> {
