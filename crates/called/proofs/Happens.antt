@@ -28,15 +28,15 @@ use Rattle.called.proofs.HistoryLaws.{returned-happened, returned-holds
 
 module _ (family : Family) (setting : Bool) (originator : ℕ) where
   pub announce-returned : (lent : AnnounceBuffers) (result : ℕ) (left : AnnounceBuffers) → AnnounceCall family setting originator lent result left
-      → Returned family (policyOf (lent .routes) setting) (announcement (announcementOf (lent .rule) originator (lent .communities))) (lent .table) result (left .table)
+      → Returned family (announcement (policyOf (lent .routes) setting) (announcementOf (lent .rule) originator (lent .communities))) (lent .table) result (left .table)
   announce-returned lent result left p =
       record { is = p .is; leaves = ap (λ (b : AnnounceBuffers). announces (b .table) (lent .routes) (lent .rule) (lent .communities)) (p .leaves) }
 
   pub reach-returned : (lent : ReachBuffers) (result : ℕ) (left : ReachBuffers) → ReachCall family setting originator lent result left
-      → let r = reachOf (lent .attribute) originator (lent .communities) in
-      WholeReturned family (policyOf (lent .routes) setting) (reach r) (lent .table)
+      → let attribute = reach (policyOf (lent .routes) setting) (reachOf (lent .attribute) originator (lent .communities)) in
+      WholeReturned family attribute (lent .table)
       (record {
-        attribute = reach r;
+        attribute = attribute;
         lent = lent .answers;
         entry = lent .out;
         result = result;
@@ -50,13 +50,13 @@ module _ (family : Family) (setting : Bool) (originator : ℕ) where
         leaves = ap (λ (b : ReachBuffers). reaches (b .table) (lent .routes) (lent .attribute) (lent .communities) (b .answers) (b .out)) (p .leaves);
       }
 
-module _ (family : Family) (policy : Policy) where
+module _ (family : Family) where
   pub withdraw-returned : (lent : WithdrawBuffers) (result : ℕ) (left : WithdrawBuffers) → WithdrawCall family lent result left
-      → Returned family policy (withdrawal (lent .rule)) (lent .table) result (left .table)
+      → Returned family (withdrawal (lent .rule)) (lent .table) result (left .table)
   withdraw-returned lent result left p = record { is = p .is; leaves = ap (λ (b : WithdrawBuffers). withdraws (b .table) (lent .rule)) (p .leaves) }
 
   pub unreach-returned : (lent : UnreachBuffers) (result : ℕ) (left : UnreachBuffers) → UnreachCall family lent result left
-      → WholeReturned family policy (unreach (lent .attribute)) (lent .table)
+      → WholeReturned family (unreach (lent .attribute)) (lent .table)
       (record {
         attribute = unreach (lent .attribute);
         lent = lent .answers;
@@ -78,11 +78,11 @@ module _ (family : Family) (policy : Policy) where
 told-tells : (a b : Applied) → a ≡ b → (out : List ℕ) → Tells (appliedTold b) out (wordOf (appliedTold a)) (outAfter (appliedTold a) out)
 told-tells a b e out = record { is = ap (λ (x : Applied). wordOf (appliedTold x)) e; out = ap (λ (x : Applied). outAfter (appliedTold x) out) e }
 
-module _ (family : Family) (policy : Policy) where
+module _ (family : Family) where
   -- what is promised at the door is what a call in words returns, with the answer's word
-  promised-returned : (call : Call) (table : List ℕ) (answer : Change) (left : List ℕ) → Promised family policy call table answer left
-      → Returned family policy call table (wordOf (changeTold answer)) left
-  promised-returned (announcement a) table answer left p =
+  promised-returned : (call : Call) (table : List ℕ) (answer : Change) (left : List ℕ) → Promised family call table answer left
+      → Returned family call table (wordOf (changeTold answer)) left
+  promised-returned (announcement policy a) table answer left p =
       record {
         is = ap (λ (c : Change). wordOf (changeTold c)) (p .is);
         leaves = ap (λ (t : List ℕ). announces t (policy .routes) (a .rule) (a .communities)) (p .leaves);
@@ -95,8 +95,8 @@ module _ (family : Family) (policy : Policy) where
 
   module _ (out : List ℕ) where
     whole-returned : (attribute : Attribute) (table lent : List ℕ) (answer : Applied) (left words : List ℕ)
-        → WholePromised family policy attribute table lent answer left words
-        → WholeReturned family policy attribute table
+        → WholePromised family attribute table lent answer left words
+        → WholeReturned family attribute table
         (record {
           attribute = attribute;
           lent = lent;
@@ -106,13 +106,13 @@ module _ (family : Family) (policy : Policy) where
           words = words;
           left = left;
         })
-    whole-returned (reach r) table lent answer left words p =
+    whole-returned (reach policy r) table lent answer left words p =
         rw (p .leaves, p .lists) (with-out (reaches _ _ _ _ _) (told-tells answer _ (p .is) out))
     whole-returned (unreach attribute) table lent answer left words p =
         rw (p .leaves, p .lists) (with-out (unreaches _ _ _) (told-tells answer _ (p .is) out))
 
     -- **a history at the door is one of calls in words**
-    pub happened-returned : (es : List Event) (table : List ℕ) → EventsHappened family policy table es → AllReturned family policy table (map (asCalled out) es)
+    pub happened-returned : (es : List Event) (table : List ℕ) → EventsHappened family table es → AllReturned family table (map (asCalled out) es)
     happened-returned [] table p = tt
     happened-returned (single m ∷ es) table p =
         (promised-returned (m .call) table (m .answer) (m .left) (p .0), happened-returned es (m .left) (p .1))
@@ -125,25 +125,25 @@ module _ (family : Family) (policy : Policy) where
     asked-alike (whole w ∷ es) = ap (λ (l : List Asked). askedBy (whole w) ∷ l) (asked-alike es)
 
     -- **whatever is asked in words has a history**, of exactly this
-    pub returned-happens : (asks : List Asked) (table : List ℕ) → AllReturned family policy table (calledOf family policy out table asks)
-    returned-happens asks table = happened-returned (eventsOf family policy table asks) table (events-happen family policy asks table)
+    pub returned-happens : (asks : List Asked) (table : List ℕ) → AllReturned family table (calledOf family out table asks)
+    returned-happens asks table = happened-returned (eventsOf family table asks) table (events-happen family asks table)
 
-    pub returned-asks : (asks : List Asked) (table : List ℕ) → map askedBy (answered (calledOf family policy out table asks)) ≡ asks
-    returned-asks asks table = asked-alike (eventsOf family policy table asks) ∙ of-these-asks family policy asks table
+    pub returned-asks : (asks : List Asked) (table : List ℕ) → map askedBy (answered (calledOf family out table asks)) ≡ asks
+    returned-asks asks table = asked-alike (eventsOf family table asks) ∙ of-these-asks family asks table
 
     -- with the answers that are given at the door
-    pub returned-as-done : (asks : List Asked) (table : List ℕ) → answered (calledOf family policy out table asks) ≡ eventsOf family policy table asks
+    pub returned-as-done : (asks : List Asked) (table : List ℕ) → answered (calledOf family out table asks) ≡ eventsOf family table asks
     returned-as-done asks table =
-        events-happen-only family policy (answered (calledOf family policy out table asks)) table
-        (returned-happened family policy (calledOf family policy out table asks) table (returned-happens asks table))
-        ∙ ap (λ (l : List Asked). eventsOf family policy table l) (returned-asks asks table)
+        events-happen-only family (answered (calledOf family out table asks)) table
+        (returned-happened family (calledOf family out table asks) table (returned-happens asks table))
+        ∙ ap (λ (l : List Asked). eventsOf family table l) (returned-asks asks table)
 
     -- **from every empty table**, and demand 3 holds of it
     module _ (n : ℕ) (fits : n ≤ mostOctets) (asks : List Asked) (can : Each AskedCanBe asks) where
-      pub returned-given : Each EventCanBe (answered (calledOf family policy out (emptyTable n) asks))
+      pub returned-given : Each EventCanBe (answered (calledOf family out (emptyTable n) asks))
       returned-given =
-          subst (Each EventCanBe) (sym (returned-as-done asks (emptyTable n))) (events-happen-from-empty family policy n asks fits can .given)
+          subst (Each EventCanBe) (sym (returned-as-done asks (emptyTable n))) (events-happen-from-empty family n asks fits can .given)
 
-      pub asked-holds : HoldsExactly family policy n (singlesOf family policy (emptyTable n) (answered (calledOf family policy out (emptyTable n) asks)))
-          (endOfEvents (emptyTable n) (answered (calledOf family policy out (emptyTable n) asks)))
-      asked-holds = returned-holds family policy n fits (calledOf family policy out (emptyTable n) asks) returned-given (returned-happens asks (emptyTable n))
+      pub asked-holds : HoldsExactly family n (singlesOf family (emptyTable n) (answered (calledOf family out (emptyTable n) asks)))
+          (endOfEvents (emptyTable n) (answered (calledOf family out (emptyTable n) asks)))
+      asked-holds = returned-holds family n fits (calledOf family out (emptyTable n) asks) returned-given (returned-happens asks (emptyTable n))

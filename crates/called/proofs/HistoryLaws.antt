@@ -22,7 +22,7 @@ use Rattle.update.specs.declared.Applied.the-variants.{Done as AllDone, Refused
 use Rattle.update.specs.Apply.{reaching, unreaching, appliedTold}
 use Rattle.update.proofs.ApplyLaws.{reach-tells, unreach-tells}
 use Rattle.history.specs.History.{Call, announcement, withdrawal, Promised, emptyTable, Agree, HoldsExactly, EndAlike}
-use Rattle.history.specs.Attributes.{Attribute, reach, unreach, endOfEvents, EventCanBe, WholePromised, EventPromised, EventsHappened, singlesOf, EventsFromEmpty}
+use Rattle.history.specs.Attributes.{Attribute, reach, unreach, endOfEvents, EventCanBe, WholePromised, EventPromised, EventsHappened, singlesOf, EventsFromEmpty, SameThroughout}
 use Rattle.history.proofs.AttributeLaws.{events-hold, events-alike}
 use Rattle.calls.specs.Word.{wordOf}
 use Rattle.calls.specs.Buffers.{AnnounceBuffers, WithdrawBuffers, ReachBuffers, UnreachBuffers}
@@ -49,11 +49,11 @@ applied-says (NotApplied number place) h entry result exit p =
     let some : number ≡ 0 → ⊥ = λ z. omega (arith, listed) in
     rw (p .is, low-half number place listed, high-half number place listed, ne-eqb number 0 some)
 
-module _ (family : Family) (policy : Policy) where
+module _ (family : Family) where
   -- what a call in words promises is the door's promise, with the answer that its word says
-  pub returned-promised : (call : Call) (table : List ℕ) (result : ℕ) (left : List ℕ) → Returned family policy call table result left
-      → Promised family policy call table (answerIn result) left
-  returned-promised (announcement a) table result left p =
+  pub returned-promised : (call : Call) (table : List ℕ) (result : ℕ) (left : List ℕ) → Returned family call table result left
+      → Promised family call table (answerIn result) left
+  returned-promised (announcement policy a) table result left p =
       announce-kept family policy a table (announcing family policy a table) (answerIn result) left refl
       (rw (p .is) (word-says (announcing family policy a table .answer) (not-announced family policy a table)))
       (ap (λ (b : AnnounceBuffers). b .table) (p .leaves))
@@ -63,9 +63,9 @@ module _ (family : Family) (policy : Policy) where
       (ap (λ (b : WithdrawBuffers). b .table) (p .leaves))
 
   -- the same of a whole attribute
-  pub whole-promised : (attribute : Attribute) (table : List ℕ) (w : WholeCalled) → WholeReturned family policy attribute table w
-      → WholePromised family policy attribute table (w .lent) (appliedIn (w .result) (w .exit)) (w .left) (w .words)
-  whole-promised (reach r) table w p =
+  pub whole-promised : (attribute : Attribute) (table : List ℕ) (w : WholeCalled) → WholeReturned family attribute table w
+      → WholePromised family attribute table (w .lent) (appliedIn (w .result) (w .exit)) (w .left) (w .words)
+  whole-promised (reach policy r) table w p =
       let is : appliedIn (w .result) (w .exit) ≡ reaching family policy r table (w .lent) .answer
       = applied-says _ (not-reached family policy r table (w .lent)) (w .entry) (w .result) (w .exit) (record { is = p .is; out = ap (λ (b : ReachBuffers). b .out) (p .leaves) }) in
       record {
@@ -86,29 +86,29 @@ module _ (family : Family) (policy : Policy) where
         keeps = refl;
       }
 
-  event-promised : (e : CalledEvent) (table : List ℕ) → EventReturned family policy table e → EventPromised family policy table (answeredEvent e)
+  event-promised : (e : CalledEvent) (table : List ℕ) → EventReturned family table e → EventPromised family table (answeredEvent e)
   event-promised (one m) table p = returned-promised (m .call) table (m .result) (m .left) p
   event-promised (all w) table p = whole-promised (w .attribute) table w p
 
   -- **calls in words are a history at the door**
-  pub returned-happened : (h : List CalledEvent) (table : List ℕ) → AllReturned family policy table h → EventsHappened family policy table (answered h)
+  pub returned-happened : (h : List CalledEvent) (table : List ℕ) → AllReturned family table h → EventsHappened family table (answered h)
   returned-happened [] table p = tt
   returned-happened (one m ∷ h) table p = (event-promised (one m) table (p .0), returned-happened h (m .left) (p .1))
   returned-happened (all w ∷ h) table p = (event-promised (all w) table (p .0), returned-happened h (w .left) (p .1))
 
   module _ (n : ℕ) (fits : n ≤ mostOctets) where
-    from-empty : (h : List CalledEvent) → Each EventCanBe (answered h) → AllReturned family policy (emptyTable n) h → EventsFromEmpty family policy n (answered h)
+    from-empty : (h : List CalledEvent) → Each EventCanBe (answered h) → AllReturned family (emptyTable n) h → EventsFromEmpty family n (answered h)
     from-empty h given p = record { fits = fits; given = given; happened = returned-happened h (emptyTable n) p }
 
     -- **the table holds exactly what is in force**
-    pub returned-holds : (h : List CalledEvent) → Each EventCanBe (answered h) → AllReturned family policy (emptyTable n) h
-        → HoldsExactly family policy n (singlesOf family policy (emptyTable n) (answered h)) (endOfEvents (emptyTable n) (answered h))
-    returned-holds h given p = events-hold family policy n (answered h) (from-empty h given p)
+    pub returned-holds : (h : List CalledEvent) → Each EventCanBe (answered h) → AllReturned family (emptyTable n) h
+        → HoldsExactly family n (singlesOf family (emptyTable n) (answered h)) (endOfEvents (emptyTable n) (answered h))
+    returned-holds h given p = events-hold family n (answered h) (from-empty h given p)
 
-    -- **two histories that agree end alike**
-    pub returned-alike : Fits family → (h g : List CalledEvent) → Each EventCanBe (answered h) → Each EventCanBe (answered g) → AllReturned family policy (emptyTable n) h
-        → AllReturned family policy (emptyTable n) g
-        → Agree family policy (singlesOf family policy (emptyTable n) (answered h)) (singlesOf family policy (emptyTable n) (answered g))
+    -- **two histories that agree, with the same routes and setting, end alike**
+    pub returned-alike : Fits family → (policy : Policy) (h g : List CalledEvent) → SameThroughout policy (answered h) → SameThroughout policy (answered g) → Each EventCanBe (answered h) → Each EventCanBe (answered g) → AllReturned family (emptyTable n) h
+        → AllReturned family (emptyTable n) g
+        → Agree family (singlesOf family (emptyTable n) (answered h)) (singlesOf family (emptyTable n) (answered g))
         → EndAlike family (endOfEvents (emptyTable n) (answered h)) (endOfEvents (emptyTable n) (answered g))
-    returned-alike whole h g given also p q agree =
-        events-alike family policy n whole (answered h) (answered g) (from-empty h given p) (from-empty g also q) agree
+    returned-alike whole policy h g same one given also p q agree =
+        events-alike family n whole policy (answered h) (answered g) (from-empty h given p) (from-empty g also q) same one agree

@@ -75,10 +75,10 @@ asCalled out (whole w) =
     let told = appliedTold (w .answer) in
     all (record { attribute = w .attribute; lent = w .lent; entry = out; result = wordOf told; exit = outAfter told out; words = w .words; left = w .left })
 
-module _ (family : Family) (policy : Policy) where
+module _ (family : Family) where
   -- A call's promise, with a table at entry and one at exit: what else it is lent it leaves as it was.
   abbrev pub Returned : Call → List ℕ → ℕ → List ℕ → Type 0
-  Returned (announcement a) table result left =
+  Returned (announcement policy a) table result left =
       AnnounceCall family (policy .allowsNoDestination) (a .originator)
       (record { table = table; routes = policy .routes; rule = a .rule; communities = a .communities })
       result
@@ -88,7 +88,7 @@ module _ (family : Family) (policy : Policy) where
 
   -- The promise of a call with a whole attribute.
   abbrev pub WholeReturned : Attribute → List ℕ → WholeCalled → Type 0
-  WholeReturned (reach r) table w =
+  WholeReturned (reach policy r) table w =
       ReachCall family (policy .allowsNoDestination) (r .originator)
       (record {
         table = table;
@@ -125,4 +125,4 @@ module _ (family : Family) (policy : Policy) where
 
   -- The history of what is asked in words one after the other, from a table on, each call with a whole attribute lent this `out`.
   abbrev pub calledOf : List ℕ → List ℕ → List Asked → List CalledEvent
-  calledOf out table asks = map (asCalled out) (eventsOf family policy table asks)
+  calledOf out table asks = map (asCalled out) (eventsOf family table asks)
