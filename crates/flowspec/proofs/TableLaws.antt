@@ -7,6 +7,7 @@ use native.Mathlib.Omega.{arith}
 use native.Mathlib.Nat.{add-sub-cancel-left}
 use borrow.Author.Tests.{eq-eqb, ne-eqb}
 use lib.ListN.{length, take, drop}
+use Rattle.sorted.specs.History.{announce, withdraw}
 use Rattle.rule.specs.declared.Family.{Family}
 use Rattle.rule.specs.declared.Checked.the-variants.{Accepted}
 use Rattle.rule.specs.declared.Reading.{Reading}
@@ -29,7 +30,7 @@ use Rattle.table.specs.Walk.{entries}
 use Rattle.table.specs.Sound.{soundness}
 use Rattle.lookup.specs.Lookup.{hit, verdictFor, firstPlace}
 use Rattle.table.specs.declared.Answer.{Answer}
-use Rattle.table.specs.Change.{announced, withdrawn, Ready, Leaves}
+use Rattle.table.specs.Change.{changed, Ready, Leaves}
 use Rattle.table.proofs.LeaveLaws.{was-sound, was-ready, was-unsound}
 use Rattle.request.specs.declared.Request.{Request}
 use Rattle.request.specs.declared.Request.the-variants.{Announce, Refused as NoRequest}
@@ -94,13 +95,13 @@ module _ (family chosen : Family) (chose : chosen ≡ family) (policy : Policy) 
       announce-requires fits = (was-ready chosen t s is fits used e, rw (add-sub-cancel-left start size) (announce-rule .accepted))
 
       pub announce-done : (told : Answer) (answer : Change) (exit : List ℕ)
-          → Leaves (announced chosen t (entryFor (record { originator = a .originator; actions = actions }) (plain chosen (take (start + size - start) (drop start (a .rule))))) feasible) told exit
+          → Leaves (changed chosen t (announce (entryFor (record { originator = a .originator; actions = actions }) (plain chosen (take (start + size - start) (drop start (a .rule))))) feasible)) told exit
           → answer ≡ changeOf (told .number) → Announces family policy a t answer exit (policy .routes ∷ a .rule ∷ a .communities ∷ [])
       unfolding announcing
       announce-done told answer exit h says =
           let k = rw (add-sub-cancel-left start size) at h in
           rw (← chose)
-          (announce-kept chosen policy a t (outcome (announced chosen t (announcedEntry chosen a start size actions) feasible)) answer exit
+          (announce-kept chosen policy a t (outcome (changed chosen t (announce (announcedEntry chosen a start size actions) feasible))) answer exit
           (rw (was-sound chosen t s is used e .0, ← asks-so, f)) (says ∙ ap changeOf (k .number)) (k .table))
 
 -- ---- withdrawing ----
@@ -130,13 +131,13 @@ module _ (family chosen : Family) (chose : chosen ≡ family) (rule t : List ℕ
       withdraw-requires fits = (was-ready chosen t s is fits used e, rw (add-sub-cancel-left start size) (withdraw-rule .accepted))
 
       pub withdraw-done : (told : Answer) (answer : Change) (exit : List ℕ)
-          → Leaves (withdrawn chosen t (keysOf chosen (plain chosen (take (start + size - start) (drop start rule))))) told exit
+          → Leaves (changed chosen t (withdraw (keysOf chosen (plain chosen (take (start + size - start) (drop start rule)))))) told exit
           → answer ≡ changeOf (told .number) → Withdraws family rule t answer exit (rule ∷ [])
       unfolding withdrawing
       withdraw-done told answer exit h a =
           let k = rw (add-sub-cancel-left start size) at h in
           rw (← chose)
-          (withdraw-kept chosen rule t (outcome (withdrawn chosen t (keysOf chosen (plain chosen (valueOf rule start size))))) answer exit
+          (withdraw-kept chosen rule t (outcome (changed chosen t (withdraw (keysOf chosen (plain chosen (valueOf rule start size)))))) answer exit
           (rw (was-sound chosen t s is used e .0, ← read-is, f)) (a ∙ ap changeOf (k .number)) (k .table))
 
 -- ---- looking up ----

@@ -32,7 +32,8 @@ use Rattle.lookup.specs.declared.Verdict.the-variants.{Unmatched, Matched}
 use Rattle.table.specs.Walk.{entries}
 use Rattle.table.specs.Sound.{soundTable}
 use Rattle.lookup.specs.Lookup.{hit, collected, mergedOnto, verdictOf, verdictFor}
-use Rattle.table.specs.Change.{holds, hasRoom, withdrawn}
+use Rattle.table.specs.Change.{holds, hasRoom}
+use Rattle.table.proofs.CaseLaws.{changed-room, changed-no-room, changed-infeasible, changed-held, changed-not-held}
 use Rattle.flowspec.specs.declared.Looked.the-variants.{Answered}
 use Rattle.order.specs.Compare.{comparisonOf, compareRead, compareRules}
 use Rattle.request.specs.Input.{Announcement, Policy}
@@ -169,15 +170,16 @@ module _ (family : Family) (policy : Policy) (a : Announcement) (t : List ℕ) w
       go (Rule start size) e Unsound = refl
       go (Rule start size) e (Read actions) =
           let v = read-value family (a .rule) start size e in
+          let entry = announcedEntry family a (fieldSize (a .rule)) (fieldLength (a .rule)) actions in
           rw (v .0, v .1)
           (by-test (isFeasible family policy (valueIn (a .rule)) (a .originator))
-          (λ f. by-test (hasRoom family t (announcedEntry family a (fieldSize (a .rule)) (fieldLength (a .rule)) actions)) (λ h. rw (f, h)) (λ h. rw (f, h)))
-          (λ f. rw f))
+          (λ f. by-test (hasRoom family t entry) (λ h. rw (f, h, changed-room family t entry h)) (λ h. rw (f, h, changed-no-room family t entry h)))
+          (λ f. rw (f, changed-infeasible family t entry)))
 
 -- ---- withdrawing ----
 
 pub withdraw-tells : (family : Family) (rule t : List ℕ) → changeTold (withdrawing family rule t .answer) ≡ told (withdrawChecks family rule t) []
-unfolding withdrawing withdrawn changeOf
+unfolding withdrawing changeOf
 withdraw-tells family rule t =
     by-test (soundTable family t)
     (λ s. rw s (go (oneRule family rule) refl
@@ -189,7 +191,8 @@ withdraw-tells family rule t =
     go (NotRead number place) e = refl
     go (Rule start size) e =
         let v = read-value family rule start size e in
-        rw (v .0, v .1) (by-test (holds family t (keysOf family (plain family (valueIn rule)))) (λ h. rw h) (λ h. rw h))
+        let k = keysOf family (plain family (valueIn rule)) in
+        rw (v .0, v .1) (by-test (holds family t k) (λ h. rw (h, changed-held family t k h)) (λ h. rw (h, changed-not-held family t k h)))
 
 -- ---- looking up ----
 

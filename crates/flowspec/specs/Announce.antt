@@ -4,6 +4,7 @@ use Prim.Native.Nat.{ℕ}
 use mathlib.Core.Bool.{cond}
 use mathlib.Core.List.{List}
 use lib.Dec.{eqb}
+use Rattle.sorted.specs.History.{announce, withdraw}
 use Rattle.rule.specs.declared.Family.{Family}
 use Rattle.rule.specs.declared.Reading.{Reading}
 use Rattle.rule.specs.declared.Reading.the-variants.{Rule, Refused as NotRead}
@@ -11,7 +12,7 @@ use Rattle.spelling.specs.Plain.{plain}
 use Rattle.rule.specs.Reading.{valueOf, oneRule}
 use Rattle.order.specs.Key.{keysOf}
 use Rattle.table.specs.Sound.{soundTable}
-use Rattle.table.specs.Change.{Changed, announced, withdrawn}
+use Rattle.table.specs.Change.{Changed, changed}
 use Rattle.flowspec.specs.declared.Change.{Change}
 use Rattle.flowspec.specs.declared.Change.the-variants.{Done, Refused as NotDone}
 use Rattle.request.specs.declared.Request.{Request}
@@ -40,7 +41,7 @@ refusal number place t = record { answer = NotDone number place; table = t }
 abbrev pub announcedBy : Family → Announcement → List ℕ → Request → Outcome
 announcedBy family a t (NoRequest number place) = refusal number place t
 announcedBy family a t (Announce start size actions feasible) =
-    outcome (announced family t (announcedEntry family a start size actions) feasible)
+    outcome (changed family t (announce (announcedEntry family a start size actions) feasible))
 
 -- 01: "Announce checks 10, 9, 1 to 7, 15, 13, 8, 11".
 unfoldable pub announcing : Family → Policy → Announcement → List ℕ → Outcome
@@ -49,7 +50,8 @@ announcing family policy a t = cond (soundTable family t) (announcedBy family a 
 -- What a withdrawal leaves in a sound table.
 abbrev pub withdrawnBy : Family → List ℕ → List ℕ → Reading → Outcome
 withdrawnBy family t rule (NotRead number place) = refusal number place t
-withdrawnBy family t rule (Rule start size) = outcome (withdrawn family t (keysOf family (plain family (valueOf rule start size))))
+withdrawnBy family t rule (Rule start size) =
+    outcome (changed family t (withdraw (keysOf family (plain family (valueOf rule start size)))))
 
 -- 01: "withdraw 10, 1 to 7, 15, 14".
 unfoldable pub withdrawing : Family → List ℕ → List ℕ → Outcome

@@ -1,25 +1,22 @@
 -- **Demand 3** (`HoldsExactly`): from an all-zero buffer of at most 65,536 octets that only these calls write, after any history, by whatever
 -- routes each call was judged, the table holds exactly the entries that each rule's last counted call left in force, once, in precedence
--- order; so that two histories which leave the same in force end in equal octets. A call that is answered 11 changes nothing and does not count, so that nothing is asked
--- of those.
+-- order; so that two histories which leave the same in force end in equal octets. A call that is answered 11 changes nothing and does not
+-- count, so that nothing is asked of those.
 use mathlib.Core.Path.{_≡_, refl, sym, ap₂, subst, _∙_}
-use mathlib.Core.Bool.{Bool, true, false}
+use mathlib.Core.Bool.{true}
 use mathlib.Core.List.{List, [], _∷_}
 use Prim.Native.Nat.{ℕ, _^_, _<_, _≤_}
 use native.Mathlib.Nat.{sub-zero}
 use native.Mathlib.Omega.{arith}
-use lib.Dec.{leb}
+use lib.Dec.{eqb}
 use lib.ListN.{length, length-replicate}
-use borrow.Author.Tests.{leb-true}
+use borrow.Author.Tests.{eqb-true}
 use Rattle.octets.specs.Test.{every}
 use Rattle.octets.proofs.Cases.{by-test}
 use Rattle.octets.proofs.Facts.{Octets}
-use Rattle.sorted.specs.Table.{lookup, insert}
-use Rattle.sorted.specs.History.{announce, withdraw, costs, isHeld, apply, run, Ran}
+use Rattle.sorted.specs.History.{Op, announce, withdraw, apply, run, Ran}
 use Rattle.sorted.specs.History as S
-use Rattle.sorted.proofs.MemberLaws.{every-insert}
-use Rattle.sorted.proofs.TableLaws.{insert-sorted}
-use Rattle.sorted.proofs.HistoryLaws.{run-holds, run-agree}
+use Rattle.sorted.proofs.HistoryLaws.{Brings, run-holds, run-agree}
 use Rattle.rule.specs.declared.Family.{Family}
 use Rattle.rule.specs.declared.Reading.{Reading}
 use Rattle.rule.specs.declared.Reading.the-variants.{Rule, Refused as NotRead}
@@ -33,9 +30,8 @@ use Rattle.entry.specs.Entry.{Entry, entryKey, possible}
 use Rattle.entry.proofs.ValueLaws.{make-possible}
 use Rattle.table.specs.Walk.{entries}
 use Rattle.table.specs.Sound.{cost, tableOf, recordsOf, Encodes, mostOctets}
-use Rattle.table.specs.Change.{holds, hasRoom, inserted, announced, withdrawn}
-use Rattle.table.proofs.SpliceLaws.{length-table}
-use Rattle.table.proofs.LeaveLaws.{encoding, removed-encodes, removed-long}
+use Rattle.table.specs.Change.{changed}
+use Rattle.table.proofs.LeaveLaws.{changed-number, changed-encodes, changed-long}
 use Rattle.table.proofs.SoundLaws.{encodes-sound, encodes-entries}
 use Rattle.table.proofs.CallLaws.{plain-held}
 use Rattle.flowspec.specs.declared.Change.{Change}
@@ -54,34 +50,20 @@ record Same (family : Family) (n : ℕ) (o : Outcome) (a : S.Outcome Entry) : Ty
   pub encodes : Encodes family (o .table) (a .table)
   pub long : length (o .table) ≡ n
 
-module _ (family : Family) (t : List ℕ) (es : List Entry) (c : Encodes family t es) where
-  -- the change of a table that an announcement or a withdrawal asks
-  same-announced : (e : Entry) (feasible : Bool) → possible family e ≡ true
-      → Same family (length t) (outcome (announced family t e feasible)) (apply keyOrder (entryKey family) cost (length t) (announce e feasible) es)
-  unfolding changeOf hasRoom inserted
-  same-announced e true ok =
-      rw (encodes-entries family t es c)
-      (by-test (leb (costs cost (insert keyOrder (entryKey family) e es)) (length t))
-      (λ h.
-      let room = leb-true (costs cost (insert keyOrder (entryKey family) e es)) (length t) h in
-      rw h (record {
-        answers = refl;
-        encodes = encoding family t es c (insert keyOrder (entryKey family) e es) room (every-insert keyOrder (entryKey family) (possible family) e es ok (c .each)) (insert-sorted keyOrder (entryKey family) key-order e es (c .rising));
-        long = length-table (length t) (insert keyOrder (entryKey family) e es) room;
-      }))
-      (λ h. rw h (record { answers = refl; encodes = c; long = refl })))
-  same-announced e false ok = record { answers = refl; encodes = removed-encodes family t es c (entryKey family e); long = removed-long family t es c (entryKey family e) }
+-- the number of a change's answer is the change's
+number-back : (number : ℕ) → changeTold (changeOf number) .number ≡ number
+unfolding changeOf
+number-back number = by-test (eqb number 0) (λ h. rw h (sym (eqb-true number 0 h))) (λ h. rw h)
 
-  same-withdrawn : (k : RuleKey)
-      → Same family (length t) (outcome (withdrawn family t k)) (apply keyOrder (entryKey family) cost (length t) (withdraw k) es)
-  unfolding changeOf withdrawn holds
-  same-withdrawn k =
-      let out = removed-encodes family t es c k in
-      let long = removed-long family t es c k in
-      rw (encodes-entries family t es c)
-      (by-test (isHeld (lookup keyOrder (entryKey family) k es))
-      (λ h. rw h (record { answers = refl; encodes = out; long = long }))
-      (λ h. rw h (record { answers = refl; encodes = c; long = refl })))
+-- what is asked of a table is done to its entries
+same-changed : (family : Family) (t : List ℕ) (es : List Entry) → Encodes family t es → (op : Op RuleKey Entry) → Brings (possible family) op
+    → Same family (length t) (outcome (changed family t op)) (apply keyOrder (entryKey family) cost (length t) op es)
+same-changed family t es c op could =
+    record {
+      answers = number-back (changed family t op .number) ∙ changed-number family t es c op;
+      encodes = changed-encodes family t es c op could;
+      long = changed-long family t es c op;
+    }
 
 -- what is asked to be announced could be
 abbrev pub Could : Family → Announcement → Request → Type 0
@@ -113,7 +95,7 @@ module _ (family : Family) (t : List ℕ) (es : List Entry) (c : Encodes family 
           → Same family (length t) (announcedBy family a t r) (apply keyOrder (entryKey family) cost (length t) (announceOperation family a r) es)
       go (NoRequest number place) ok = record { answers = refl; encodes = c; long = refl }
       go (Announce start size actions feasible) ok =
-          same-announced family t es c (announcedEntry family a start size actions) feasible ok
+          same-changed family t es c (announce (announcedEntry family a start size actions) feasible) ok
 
   same-withdrawing : (rule : List ℕ)
       → Same family (length t) (withdrawing family rule t) (apply keyOrder (entryKey family) cost (length t) (operationOf family (withdrawal rule)) es)
@@ -122,7 +104,7 @@ module _ (family : Family) (t : List ℕ) (es : List Entry) (c : Encodes family 
     where
       go : (r : Reading) → Same family (length t) (withdrawnBy family t rule r) (apply keyOrder (entryKey family) cost (length t) (withdrawOperation family rule r) es)
       go (NotRead number place) = record { answers = refl; encodes = c; long = refl }
-      go (Rule start size) = same-withdrawn family t es c (keysOf family (plain family (valueOf rule start size)))
+      go (Rule start size) = same-changed family t es c (withdraw (keysOf family (plain family (valueOf rule start size)))) tt
 
   same-made : (call : Call) (answer : Change) (left : List ℕ) → CanBe call → Promised family call t answer left
       → Same family (length t) (record { answer = answer; table = left }) (apply keyOrder (entryKey family) cost (length t) (operationOf family call) es)

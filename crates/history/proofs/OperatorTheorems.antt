@@ -7,10 +7,6 @@ use mathlib.Core.List.{List}
 use Prim.Native.Nat.{ℕ, _^_, _<_, Ordering·eq}
 use Rattle.octets.proofs.Cases.{by-test, apart}
 use Rattle.octets.proofs.Facts.{Octets}
-use Rattle.sorted.specs.Table.{lookup}
-use Rattle.sorted.specs.History.{isHeld}
-use Rattle.sorted.proofs.HistoryLaws.{not-held}
-use Rattle.sorted.proofs.TableLaws.{remove-absent}
 use Rattle.rule.specs.declared.Family.{Family}
 use Rattle.rule.specs.declared.Reading.the-variants.{Rule}
 use Rattle.rule.specs.Family.{Fits}
@@ -23,7 +19,8 @@ use Rattle.action.specs.declared.Actions.{Actions}
 use Rattle.entry.specs.Entry.{Entry, entryKey, possible}
 use Rattle.table.specs.Walk.{entries}
 use Rattle.table.specs.Sound.{soundTable, Encodes}
-use Rattle.table.specs.Change.{holds, removed, hasRoom, inserted, withdrawn}
+use Rattle.table.specs.Change.{holds, hasRoom}
+use Rattle.table.proofs.CaseLaws.{inserted, removed, changed-room, changed-no-room, changed-infeasible, changed-held, changed-without}
 use Rattle.table.proofs.SoundLaws.{sound-encodes}
 use Rattle.table.proofs.AgainLaws.{sound-with, room-again, inserted-again, holds-with, removed-again, inserted-either}
 use Rattle.flowspec.specs.declared.Change.{Change}
@@ -59,17 +56,28 @@ module _ (family : Family) (policy : Policy) (a : Announcement) where
       go : soundTable family t ≡ true → (r : Request) → requestOf family policy a ≡ r → Done ≡ announcedBy family a t r .answer
           → left ≡ announcedBy family a t r .table → Stored t left
       go s (NoRequest number place) e says l = apart (cc)
-      go s (Announce start size actions false) e says l = let z : Done ≡ Refused 8 0 = says in apart (cc)
+      go s (Announce start size actions false) e says l =
+          let z : Done ≡ Refused 8 0 = rw (changed-infeasible family t (announcedEntry family a start size actions)) at says in
+          apart (cc)
       go s (Announce start size actions true) e says l =
           by-test (hasRoom family t (announcedEntry family a start size actions))
-          (λ h. record { start = start; size = size; actions = actions; requests = e; sound = s; room = h; is = rw h at l })
-          (λ h. let z : Done ≡ Refused 11 0 = rw h at says in apart (cc))
+          (λ h.
+          record {
+            start = start;
+            size = size;
+            actions = actions;
+            requests = e;
+            sound = s;
+            room = h;
+            is = rw (changed-room family t (announcedEntry family a start size actions) h) at l;
+          })
+          (λ h. let z : Done ≡ Refused 11 0 = rw (changed-no-room family t (announcedEntry family a start size actions) h) at says in apart (cc))
 
   stores : (t : List ℕ) (start size : ℕ) (actions : Actions) → requestOf family policy a ≡ Announce start size actions true
       → soundTable family t ≡ true → hasRoom family t (announcedEntry family a start size actions) ≡ true
       → announcing family policy a t ≡ record { answer = Done; table = inserted family t (announcedEntry family a start size actions) }
   unfolding announcing changeOf
-  stores t start size actions e s h = rw (s, e, h)
+  stores t start size actions e s h = rw (s, e, changed-room family t (announcedEntry family a start size actions) h)
 
   -- an announcement asks for the same entry wherever it is made
   one-entry : (t left u exit : List ℕ) (s : Stored t left) (r : Stored u exit)
@@ -111,15 +119,12 @@ module _ (family : Family) (policy : Policy) (a : Announcement) where
     -- withdrawing from a table that holds the rule, and from any sound one
     withdraws : soundTable family (inserted family t entered) ≡ true → holds family (inserted family t entered) (entryKey family entered) ≡ true
         → withdrawing family (a .rule) (inserted family t entered) ≡ record { answer = Done; table = removed family (inserted family t entered) (entryKey family entered) }
-    unfolding withdrawing withdrawn changeOf
-    withdraws s h = rw (s, read, h)
+    unfolding withdrawing changeOf
+    withdraws s h = rw (s, read, changed-held family (inserted family t entered) (entryKey family entered) h)
 
     alone : withdrawing family (a .rule) t .table ≡ removed family t (entryKey family entered)
-    unfolding withdrawing withdrawn removed holds
-    alone =
-        rw (stored .sound, read)
-        (by-test (isHeld (lookup keyOrder (entryKey family) (entryKey family entered) (entries t))) (λ h. rw h)
-        (λ h. rw (h, remove-absent keyOrder (entryKey family) (entryKey family entered) (entries t) (not-held _ h)) (before .is)))
+    unfolding withdrawing
+    alone = rw (stored .sound, read) (changed-without family t (entryKey family entered) .1)
 
     -- **announcing, then withdrawing**: the withdrawal is done, and leaves what it would have left without the announcement
     pub announced-withdrawn : (answer : Change) (exit : List ℕ) (held : List (List ℕ)) → Withdraws family (a .rule) left answer exit held

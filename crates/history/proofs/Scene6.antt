@@ -32,7 +32,7 @@ use Rattle.matching.specs.PairList.{groupsFrom, groups, listHolds}
 use Rattle.packet.specs.Transport.{transportFields}
 use Rattle.entry.specs.Entry.{plainValue, possible, Entry, entryKey}
 use Rattle.entry.specs.Record.{writtenFields, readFields, headNumbers, recordOf, actionsIn, entryOf, goodRecord}
-use Rattle.table.specs.Change.{holds, removed, hasRoom, inserted, withdrawn}
+use Rattle.table.specs.Change.{holds, hasRoom, changed}
 use Rattle.lookup.specs.Lookup.{collected, mergedOnto, verdictOf, verdictFor, firstPlace}
 use Rattle.table.specs.Sound.{recordsOf, tableOf, soundTable, soundness}
 use Rattle.table.specs.Walk.{recordAt, recordsFrom, records, entries}
@@ -66,7 +66,7 @@ unfolding
     ruleActions communitiesAt actionsOf flagsOf firstOf smallerOf allowed merged couldBe isUnusable ipv6Unusable fragmentData ipv6Fields extensionAt fragmentAt headerAt headersFrom upperLayer upperOctets holdsFor bodyHolds
     fieldMatches fieldsFor bodyCovers componentMatches matches numericHolds bitmaskHolds fieldsOf packetOf groupsFrom groups listHolds
     transportFields plainValue possible writtenFields readFields headNumbers recordOf actionsIn entryOf goodRecord holds
-    removed inserted hasRoom withdrawn collected mergedOnto verdictOf verdictFor firstPlace recordsOf tableOf soundTable soundness recordAt
+    hasRoom changed collected mergedOnto verdictOf verdictFor firstPlace recordsOf tableOf soundTable soundness recordAt
     recordsFrom records entries changeOf requestOf announcing withdrawing readWithRoutes isFeasible judgement opening lookingUp firstMatch
     matchPlace shapeOf scaled numberFor numberOfParts rateOfParts rateOf fitsSignificand rateGiven bodyOrder componentOrder componentsOrder
     plainOrder precedence afiOf isOfFamily isReach isUnreach ruleAt rulesFrom reaching unreaching
@@ -130,7 +130,7 @@ unfolding
     ruleActions communitiesAt actionsOf flagsOf firstOf smallerOf allowed merged couldBe isUnusable ipv6Unusable fragmentData ipv6Fields extensionAt fragmentAt headerAt headersFrom upperLayer upperOctets holdsFor bodyHolds
     fieldMatches fieldsFor bodyCovers componentMatches matches numericHolds bitmaskHolds fieldsOf packetOf groupsFrom groups listHolds
     transportFields plainValue possible writtenFields readFields headNumbers recordOf actionsIn entryOf goodRecord holds
-    removed inserted hasRoom withdrawn collected mergedOnto verdictOf verdictFor firstPlace recordsOf tableOf soundTable soundness recordAt
+    hasRoom changed collected mergedOnto verdictOf verdictFor firstPlace recordsOf tableOf soundTable soundness recordAt
     recordsFrom records entries changeOf requestOf announcing withdrawing readWithRoutes isFeasible judgement opening lookingUp firstMatch
     matchPlace shapeOf scaled numberFor numberOfParts rateOfParts rateOf fitsSignificand rateGiven bodyOrder componentOrder componentsOrder
     plainOrder precedence afiOf isOfFamily isReach isUnreach ruleAt rulesFrom reaching unreaching

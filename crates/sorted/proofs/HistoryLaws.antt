@@ -1,7 +1,7 @@
 -- What a history leaves, given that each of its calls was answered as `apply` answers it (`Ran`): a sorted table that holds exactly the
 -- records in force, so that two histories which leave the same in force at every key leave equal tables. A call that is answered 11
 -- changes nothing and does not count, so that no law here asks that there be none. Assumes nothing.
-use mathlib.Core.Path.{_≡_, refl, ap, sym, _∙_}
+use mathlib.Core.Path.{_≡_, refl, sym, _∙_}
 use mathlib.Core.Bool.{Bool, true, false, cond, _&&_}
 use mathlib.Core.List.{List, [], _∷_, _++_, List·Memᴰ}
 use mathlib.Core.Logic.{_↔_}
@@ -9,12 +9,14 @@ use mathlib.Core.Option.{Option, none, some}
 use Prim.Native.Nat.{ℕ, _+_, _≤_, Ordering, Ordering·lt, Ordering·eq, Ordering·gt}
 use native.Mathlib.Omega.{arith}
 use lib.Dec.{leb, isEq}
+use borrow.Author.Tests.{leb-true}
+use Rattle.octets.specs.Test.{every}
 use Rattle.octets.proofs.Cases.{by-test}
 use Rattle.octets.proofs.OrderLaws.{IsOrder}
 use Rattle.sorted.specs.Table.{byOrder, lookup, insert, remove, Sorted}
 use Rattle.sorted.specs.History.{Op, refuse, announce, withdraw, costs, isHeld, counts, inForce, leavesInForce, isAbout, isCounted, lastFrom, inForceAfter, apply, run, Ran}
 use Rattle.sorted.proofs.Cases.{by-order}
-use Rattle.sorted.proofs.MemberLaws.{found-in, in-found}
+use Rattle.sorted.proofs.MemberLaws.{every-insert, every-remove, found-in, in-found}
 use Rattle.sorted.proofs.TableLaws.{insert-sorted, remove-sorted, lookup-insert, lookup-remove, remove-absent, same-table}
 
 by-tie : {A : Type 0} (o : Ordering) (a b : A) → byOrder o a b a ≡ cond (isEq o) b a
@@ -38,7 +40,40 @@ costs-remove cmp key cost k [] = omega arith
 costs-remove cmp key cost k (x ∷ t) =
     by-order (cmp k (key x)) (λ e. rw e (omega arith)) (λ e. rw e (omega arith)) (λ e. rw e (omega (arith, costs-remove cmp key cost k t)))
 
--- one call
+-- a record that is announced passes a test
+abbrev pub Brings : {K R : Type 0} → (R → Bool) → Op K R → Type 0
+Brings test (refuse number) = Unit {0}
+Brings test (announce r feasible) = test r ≡ true
+Brings test (withdraw k) = Unit {0}
+
+-- one call, whatever the order
+module _ {K R : Type 0} (cmp : K → K → Ordering) (key : R → K) (cost : R → ℕ) (room : ℕ) where
+  -- a withdrawal leaves the table without its key, also where that is not held
+  pub withdraw-removes : (k : K) (t : List R) → apply cmp key cost room (withdraw k) t .table ≡ remove cmp key k t
+  withdraw-removes k t =
+      by-test
+      (isHeld (lookup cmp key k t))
+      (λ e. rw e)
+      (λ e. rw e (sym (remove-absent cmp key k t (not-held (lookup cmp key k t) e))))
+
+  -- a table that has room for its records has room for those that a call leaves
+  pub apply-room : (op : Op K R) (t : List R) → costs cost t ≤ room → costs cost (apply cmp key cost room op t .table) ≤ room
+  apply-room (refuse number) t h = h
+  apply-room (announce r true) t h =
+      by-test (leb (costs cost (insert cmp key r t)) room) (λ e. rw e (leb-true (costs cost (insert cmp key r t)) room e)) (λ e. rw e h)
+  apply-room (announce r false) t h = omega (arith, costs-remove cmp key cost (key r) t)
+  apply-room (withdraw k) t h = rw (withdraw-removes k t) (omega (arith, costs-remove cmp key cost k t))
+
+  -- a test that every record passes, and what is announced too, every record passes afterwards
+  pub apply-every : (test : R → Bool) (op : Op K R) (t : List R) → Brings test op → every test t ≡ true
+      → every test (apply cmp key cost room op t .table) ≡ true
+  apply-every test (refuse number) t b g = g
+  apply-every test (announce r true) t b g =
+      by-test (leb (costs cost (insert cmp key r t)) room) (λ e. rw e (every-insert cmp key test r t b g)) (λ e. rw e g)
+  apply-every test (announce r false) t b g = every-remove cmp key test (key r) t g
+  apply-every test (withdraw k) t b g = rw (withdraw-removes k t) (every-remove cmp key test k t g)
+
+-- one call, by an order
 module _ {K R : Type 0} (cmp : K → K → Ordering) (key : R → K) (cost : R → ℕ) (room : ℕ) (O : IsOrder cmp) where
   removed : (k j : K) (t : List R) → Sorted cmp key t
       → lookup cmp key k (remove cmp key j t) ≡ cond (isEq (cmp k j)) none (lookup cmp key k t)
@@ -56,17 +91,14 @@ module _ {K R : Type 0} (cmp : K → K → Ordering) (key : R → K) (cost : R �
       (λ e. rw e)
   apply-lookup k (announce r false) t s = removed k (key r) t s
   apply-lookup k (withdraw j) t s =
-      by-test
-      (isHeld (lookup cmp key j t))
-      (λ e. rw e (removed k j t s))
-      (λ e. rw e (ap (lookup cmp key k) (sym (remove-absent cmp key j t (not-held (lookup cmp key j t) e))) ∙ removed k j t s))
+      rw (withdraw-removes cmp key cost room j t) (removed k j t s ∙ by-test (isHeld (lookup cmp key j t)) (λ e. rw e) (λ e. rw e))
 
-  apply-sorted : (op : Op K R) (t : List R) → Sorted cmp key t → Sorted cmp key (apply cmp key cost room op t .table)
+  pub apply-sorted : (op : Op K R) (t : List R) → Sorted cmp key t → Sorted cmp key (apply cmp key cost room op t .table)
   apply-sorted (refuse number) t s = s
   apply-sorted (announce r true) t s =
       by-test (leb (costs cost (insert cmp key r t)) room) (λ e. rw e (insert-sorted cmp key O r t s)) (λ e. rw e s)
   apply-sorted (announce r false) t s = remove-sorted cmp key O (key r) t s
-  apply-sorted (withdraw k) t s = by-test (isHeld (lookup cmp key k t)) (λ e. rw e (remove-sorted cmp key O k t s)) (λ e. rw e s)
+  apply-sorted (withdraw k) t s = rw (withdraw-removes cmp key cost room k t) (remove-sorted cmp key O k t s)
 
 -- any history whose calls were answered so
 module _ {K R M : Type 0} (cmp : K → K → Ordering) (key : R → K) (cost : R → ℕ) (room : ℕ) (view : M → Op K R) (told : M → ℕ) (O : IsOrder cmp) where

@@ -6,6 +6,7 @@ use mathlib.Core.List.{List, _++_}
 use Prim.Native.Nat.{ℕ}
 use lib.ListN.{length, take, drop}
 use Rattle.octets.proofs.Facts.{Octets}
+use Rattle.sorted.specs.History.{announce, withdraw}
 use Rattle.rule.specs.declared.Family.{Family}
 use Rattle.rule.specs.declared.Checked.the-variants.{Accepted}
 use Rattle.rule.specs.Value.{checkValue}
@@ -18,9 +19,8 @@ use Rattle.entry.specs.declared.Head.{Head}
 use Rattle.entry.specs.Entry.{entryFor, plainValue}
 use Rattle.entry.proofs.ValueLaws.{holds as value-holds}
 use Rattle.table.specs.declared.Answer.{Answer}
-use Rattle.table.specs.Sound.{soundTable}
-use Rattle.table.specs.Change.{announced, withdrawn, Leaves}
-use Rattle.table.proofs.ChangeLaws.{withdrawn-without}
+use Rattle.table.specs.Change.{changed, Leaves}
+use Rattle.table.proofs.CaseLaws.{changed-infeasible, changed-without}
 
 -- the table may hold the plain spelling of an accepted value
 pub plain-held : (family : Family) (v : List ℕ) → Octets v → checkValue family v ≡ Accepted → plainValue family (plain family v) ≡ true
@@ -35,17 +35,18 @@ module _ (family : Family) (v zeros work : List ℕ) (filled : work ≡ plain fa
   front-held o ok = rw front-is (plain-held family v o ok)
 
   module _ (t exit : List ℕ) (answer : Answer) where
-    pub withdrew : Leaves (withdrawn family t (keysOf family (take (length v) work))) answer exit → Leaves (withdrawn family t (keysOf family (plain family v))) answer exit
+    pub withdrew : Leaves (changed family t (withdraw (keysOf family (take (length v) work)))) answer exit
+        → Leaves (changed family t (withdraw (keysOf family (plain family v)))) answer exit
     withdrew h = rw front-is at h
 
     module _ (head : Head) (feasible : Bool) where
-      pub put-in : feasible ≡ true → Leaves (announced family t (entryFor head (take (length v) work)) true) answer exit
-          → Leaves (announced family t (entryFor head (plain family v)) feasible) answer exit
+      pub put-in : feasible ≡ true → Leaves (changed family t (announce (entryFor head (take (length v) work)) true)) answer exit
+          → Leaves (changed family t (announce (entryFor head (plain family v)) feasible)) answer exit
       put-in e h = rw e (rw front-is at h)
 
-      pub infeasible : feasible ≡ false → Octets t → soundTable family t ≡ true → Leaves (withdrawn family t (keysOf family (take (length v) work))) answer exit
-          → Leaves (announced family t (entryFor head (plain family v)) feasible) (record { number = 8; used = answer .used }) exit
-      infeasible e o sound h =
+      pub infeasible : feasible ≡ false → Leaves (changed family t (withdraw (keysOf family (take (length v) work)))) answer exit
+          → Leaves (changed family t (announce (entryFor head (plain family v)) feasible)) (record { number = 8; used = answer .used }) exit
+      infeasible e h =
           let left = rw front-is at h in
-          let out = withdrawn-without family t o sound (keysOf family (plain family v)) in
-          rw e (record { number = refl; used = left .used ∙ out .0; table = left .table ∙ out .1 })
+          let out = changed-without family t (keysOf family (plain family v)) in
+          rw (e, changed-infeasible family t (entryFor head (plain family v))) (record { number = refl; used = left .used ∙ out .0; table = left .table ∙ out .1 })

@@ -14,10 +14,10 @@ use borrow.Author.Tests.{le-leb, lt-leb}
 use Rattle.octets.specs.Store.{stored, cutOut, gapOpened}
 use Rattle.octets.proofs.Cases.{apart}
 use Rattle.octets.proofs.Facts.{Octets}
-use Rattle.sorted.specs.Table.{lookup, insert, remove}
-use Rattle.sorted.specs.History.{costs, isHeld}
+use Rattle.sorted.specs.Table.{lookup, insert}
+use Rattle.sorted.specs.History.{announce, withdraw, costs, isHeld}
 use Rattle.sorted.proofs.SplitLaws.{front, rear, skip, front-rear, insert-split, remove-split, held-split, absent-split}
-use Rattle.sorted.proofs.HistoryLaws.{costs-append}
+use Rattle.sorted.proofs.HistoryLaws.{costs-append, not-held as none-held}
 use Rattle.sorted.proofs.MemberLaws.{every-in, found-in}
 use Rattle.sorted.proofs.TableLaws.{remove-absent}
 use Rattle.rule.specs.declared.Family.{Family}
@@ -33,10 +33,11 @@ use Rattle.table.specs.declared.Place.{Place}
 use Rattle.table.specs.Walk.{entries}
 use Rattle.table.specs.Sound.{cost, tableOf, Encodes, soundTable}
 use Rattle.table.specs.Place.{placeIn}
-use Rattle.table.specs.Change.{holds, entriesWithout, removed, hasRoom, inserted, Changed, announced, withdrawn, Leaves}
+use Rattle.table.specs.Change.{holds, hasRoom, changed, Leaves}
 use Rattle.table.proofs.SpliceLaws.{cut-front, gap-front, table-rest, table-record, table-cut, table-over, table-put}
 use Rattle.table.proofs.FindLaws.{place-start, place-held, place-absent}
 use Rattle.table.proofs.SoundLaws.{sound-encodes}
+use Rattle.table.proofs.CaseLaws.{entriesWithout, inserted, removed, changed-room, changed-no-room, changed-held, changed-not-held}
 
 -- cutting out nothing changes nothing
 cut-nothing : (b : List ℕ) (at : ℕ) → cutOut b at 0 ≡ b
@@ -154,7 +155,7 @@ module _ (family : Family) where
 
   module _ (t : List ℕ) (o : Octets t) (sound : soundTable family t ≡ true) where
     pub encoded : Encodes family t (entries t)
-    encoded = sound-encodes family t o sound
+    encoded = sound-encodes family t sound
 
     zeros-behind : (used : ℕ) → used ≡ costs cost (entries t) → drop used t ≡ replicate (length t - used) 0
     zeros-behind used all = rw all (ap (drop (costs cost (entries t))) (encoded .is) ∙ table-rest (length t) (entries t))
@@ -181,32 +182,29 @@ module _ (family : Family) where
             ap (λ (l : List ℕ). l ++ drop after t) e
             ∙ rw all-moved (gap-front t used (zeros-behind used all) (p .start) size (omega (arith, ends-inside)) (omega arith))
 
-      not-held : p .end - p .start ≡ 0 → (false ≡ holds family t k) × (t ≡ removed family t k)
-      unfolding holds removed
+      not-held : p .end - p .start ≡ 0 → holds family t k ≡ false
+      unfolding holds
       not-held h = go (lookup keyOrder (entryKey family) k (entries t)) refl
         where
-          go : (x : Option Entry) → lookup keyOrder (entryKey family) k (entries t) ≡ x
-              → (false ≡ isHeld (lookup keyOrder (entryKey family) k (entries t)))
-              × (t ≡ tableOf (length t) (remove keyOrder (entryKey family) k (entries t)))
-          go none e = (rw e, encoded .is ∙ ap (tableOf (length t)) (sym (remove-absent keyOrder (entryKey family) k (entries t) e)))
+          go : (x : Option Entry) → lookup keyOrder (entryKey family) k (entries t) ≡ x → isHeld (lookup keyOrder (entryKey family) k (entries t)) ≡ false
+          go none e = rw e
           go (some x) e = let l = place-is .says (rw e) in absurd (omega arith)
 
-      was-held : (exit : List ℕ) → (p .end - p .start ≡ 0 → ⊥) → exit ≡ cutOut t (p .start) (p .end - p .start) → (true ≡ holds family t k) × (exit ≡ removed family t k)
-      unfolding holds removed
+      was-held : (exit : List ℕ) → (p .end - p .start ≡ 0 → ⊥) → exit ≡ cutOut t (p .start) (p .end - p .start) → (holds family t k ≡ true) × (exit ≡ removed family t k)
+      unfolding holds
       was-held exit h e = (
         go (isHeld (lookup keyOrder (entryKey family) k (entries t))) refl,
         e ∙ place-is .cut ∙ ap (tableOf (length t)) (sym (remove-split keyOrder (entryKey family) k (entries t))),
       )
         where
-          go : (b : Bool) → isHeld (lookup keyOrder (entryKey family) k (entries t)) ≡ b → true ≡ isHeld (lookup keyOrder (entryKey family) k (entries t))
-          go true f = sym f
+          go : (b : Bool) → isHeld (lookup keyOrder (entryKey family) k (entries t)) ≡ b → isHeld (lookup keyOrder (entryKey family) k (entries t)) ≡ true
+          go true f = f
           go false f = let n = place-is .not f in absurd (h (omega arith))
 
       -- how `remove_rule` comes to its answers
       module _ (used : ℕ) (all : used ≡ costs cost (entries t)) where
-        pub removes-none : p .end - p .start ≡ 0 → Leaves (withdrawn family t k) (record { number = 14; used = used }) t
-        unfolding withdrawn
-        removes-none h = rw (← (not-held h .0)) (record { number = refl; used = all; table = refl })
+        pub removes-none : p .end - p .start ≡ 0 → Leaves (changed family t (withdraw k)) (record { number = 14; used = used }) t
+        removes-none h = rw (changed-not-held family t k (not-held h)) (record { number = refl; used = all; table = encoded .is })
 
         costs-without : used - (p .end - p .start) ≡ costs cost (entriesWithout family t k)
         costs-without =
@@ -216,35 +214,15 @@ module _ (family : Family) where
             omega arith
 
         pub removes-held : (exit : List ℕ) → (p .end - p .start ≡ 0 → ⊥) → exit ≡ cutOut t (p .start) (p .end - p .start)
-            → Leaves (withdrawn family t k) (record { number = 0; used = used - (p .end - p .start) }) exit
-        unfolding withdrawn
+            → Leaves (changed family t (withdraw k)) (record { number = 0; used = used - (p .end - p .start) }) exit
         removes-held exit h e =
             let w = was-held exit h e in
-            rw (← (w .0)) (record { number = refl; used = costs-without; table = w .1 })
-
-    -- a withdrawal leaves the table without the rule, also where it is not held
-    module _ (k : RuleKey) where
-      abbrev pub Without : Changed → Type 0
-      Without changed = (changed .used ≡ costs cost (entriesWithout family t k)) × (changed .table ≡ removed family t k)
-
-      pub withdrawn-without : Without (withdrawn family t k)
-      unfolding withdrawn holds removed
-      withdrawn-without = go (lookup keyOrder (entryKey family) k (entries t)) refl
-        where
-          go : (x : Option Entry) → lookup keyOrder (entryKey family) k (entries t) ≡ x → Without (withdrawn family t k)
-          go none e =
-              let same = remove-absent keyOrder (entryKey family) k (entries t) e in
-              rw e (ap (costs cost) (sym same), encoded .is ∙ ap (tableOf (length t)) (sym same))
-          go (some x) e = rw e (refl, refl)
+            rw (changed-held family t k (w .0)) (record { number = refl; used = costs-without; table = w .1 })
 
     -- a rule that is not held leaves the table as it was
     pub removed-none : (k : RuleKey) → holds family t k ≡ false → removed family t k ≡ t
-    unfolding holds removed
-    removed-none k h = go (lookup keyOrder (entryKey family) k (entries t)) refl
-      where
-        go : (x : Option Entry) → lookup keyOrder (entryKey family) k (entries t) ≡ x → tableOf (length t) (remove keyOrder (entryKey family) k (entries t)) ≡ t
-        go none e = sym (encoded .is ∙ ap (tableOf (length t)) (sym (remove-absent keyOrder (entryKey family) k (entries t) e)))
-        go (some x) e = let z : true ≡ false = rw e at h in apart (cc)
+    unfolding holds
+    removed-none k h = rw (remove-absent keyOrder (entryKey family) k (entries t) (none-held (lookup keyOrder (entryKey family) k (entries t)) h)) (sym (encoded .is))
 
     -- ---- announcing ----
 
@@ -281,8 +259,8 @@ module _ (family : Family) where
         held-has-room =
             rw split (le-leb _ (length t) (costs-over t (entries t) encoded (entryKey family x) (as-long .0) (as-long .1 .0) x (as-long .1 .1)))
 
-        pub held-is-done : announced family t x true .number ≡ 0
-        held-is-done = rw held-has-room
+        pub held-is-done : changed family t (announce x true) .number ≡ 0
+        held-is-done = rw (changed-room family t x held-has-room)
 
       module _ (p : Place) (is : p ≡ placeIn family (entryKey family x) 0 (entries t)) where
         entry-place : Placed t (entries t) encoded (entryKey family x) p
@@ -291,9 +269,8 @@ module _ (family : Family) where
         -- a held rule's record is written over
         replaced : Fits family → Octets (x .value) → plainValue family (x .value) ≡ true → (p .end - p .start ≡ 0 → ⊥)
             → (hasRoom family t x ≡ true) × (stored t (p .start) (recordOf x) ≡ inserted family t x)
-        unfolding inserted
         replaced fits octets plain h =
-            let held = sym (was-held (entryKey family x) p is (cutOut t (p .start) (p .end - p .start)) h refl .0) in
+            let held = was-held (entryKey family x) p is (cutOut t (p .start) (p .end - p .start)) h refl .0 in
             let old = as-long fits octets plain held in (
               held-has-room fits octets plain held,
               rw (entry-place .start, split) (stored-over t (entries t) encoded (entryKey family x) (old .0) (old .1 .0) x (old .1 .1)),
@@ -308,16 +285,16 @@ module _ (family : Family) where
               let held = entry-place .held in
               omega arith
 
-          pub no-room : length t < used - (p .end - p .start) + cost x → Leaves (announced family t x true) (record { number = 11; used = used }) t
+          pub no-room : length t < used - (p .end - p .start) + cost x → Leaves (changed family t (announce x true)) (record { number = 11; used = used }) t
           unfolding hasRoom
           no-room h =
               let r = lt-leb (costs cost (insert keyOrder (entryKey family) x (entries t))) (length t) (rw costs-with h) in
-              rw r (record { number = refl; used = all; table = refl })
+              rw (changed-no-room family t x r) (record { number = refl; used = all; table = encoded .is })
 
           -- a new rule's record is put into a gap
           added : p .end - p .start ≡ 0 → used - (p .end - p .start) + cost x ≤ length t
               → (hasRoom family t x ≡ true) × (stored (gapOpened t (p .start) (cost x)) (p .start) (recordOf x) ≡ inserted family t x)
-          unfolding hasRoom inserted
+          unfolding hasRoom
           added new h =
               let f = before (entries t) (entryKey family x) in
               let r = behind (entries t) (entryKey family x) in
@@ -330,9 +307,9 @@ module _ (family : Family) where
 
           pub has-room : (ready exit : List ℕ) → Fits family → Octets (x .value) → plainValue family (x .value) ≡ true → used - (p .end - p .start) + cost x ≤ length t
               → Readied p x ready → exit ≡ stored ready (p .start) (recordOf x)
-              → Leaves (announced family t x true) (record { number = 0; used = used - (p .end - p .start) + cost x }) exit
+              → Leaves (changed family t (announce x true)) (record { number = 0; used = used - (p .end - p .start) + cost x }) exit
           has-room ready exit fits octets plain h way e =
               ⊎-elim
-              (λ new. let a = added (new .0) h in rw (a .0) (record { number = refl; used = sym costs-with; table = e ∙ rw (new .1) (a .1) }))
-              (λ old. let a = replaced fits octets plain (old .0) in rw (a .0) (record { number = refl; used = sym costs-with; table = e ∙ rw (old .1) (a .1) }))
+              (λ new. let a = added (new .0) h in rw (changed-room family t x (a .0)) (record { number = refl; used = sym costs-with; table = e ∙ rw (new .1) (a .1) }))
+              (λ old. let a = replaced fits octets plain (old .0) in rw (changed-room family t x (a .0)) (record { number = refl; used = sym costs-with; table = e ∙ rw (old .1) (a .1) }))
               way

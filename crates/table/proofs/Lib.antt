@@ -5,6 +5,7 @@ pub mod EntryLaws
 pub mod FindLaws
 pub mod TestLaws
 pub mod SoundLaws
+pub mod CaseLaws
 pub mod ChangeLaws
 pub mod CallLaws
 pub mod LeaveLaws

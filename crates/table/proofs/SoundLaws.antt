@@ -14,7 +14,6 @@ use Rattle.octets.specs.Test.{every, allZero}
 use Rattle.octets.specs.Number.{numberAt}
 use Rattle.octets.specs.Walk.{Walk, before}
 use Rattle.octets.proofs.Cases.{apart, both}
-use Rattle.octets.proofs.Facts.{Octets}
 use Rattle.octets.proofs.NumberLaws.{number-behind}
 use Rattle.octets.proofs.TestLaws.{every-both, all-zero, zeros-zero}
 use Rattle.sorted.specs.History.{costs}
@@ -44,7 +43,7 @@ number-zeros (suc n) m = rw (number-zeros n m, zero-add n) (nought m n)
 
 -- ---- from a sound table to its entries ----
 
-module _ (family : Family) (t : List ℕ) (o : Octets t) where
+module _ (family : Family) (t : List ℕ) where
   -- what stands from a place on is the records of the entries there, and zeros
   Laid : ℕ → Walk (List ℕ) Bool → Type 0
   Laid at w = at ≤ length t → w .ending ≡ true → every (goodRecord family) (w .items) ≡ true

@@ -1,12 +1,13 @@
--- What announcing and withdrawing do to a sound table, in its entries: the octets after the call are the encoding of the changed list.
+-- What a call does to a sound table. That is said once, of lists of records (`apply` in sorted/specs/History.antt): on octets it is decode,
+-- apply, encode.
 use Prim.Native.Nat.{ℕ}
 use mathlib.Core.Path.{_≡_}
-use mathlib.Core.Bool.{Bool, true, false, cond}
+use mathlib.Core.Bool.{Bool, true}
 use mathlib.Core.List.{List}
 use lib.Dec.{leb}
 use lib.ListN.{length}
-use Rattle.sorted.specs.Table.{lookup, insert, remove}
-use Rattle.sorted.specs.History.{costs, isHeld}
+use Rattle.sorted.specs.Table.{lookup, insert}
+use Rattle.sorted.specs.History.{Op, costs, isHeld, apply}
 use Rattle.rule.specs.declared.Family.{Family}
 use Rattle.rule.specs.Family.{Fits}
 use Rattle.order.specs.Key.{RuleKey, keyOrder}
@@ -19,25 +20,9 @@ use Rattle.table.specs.Sound.{cost, tableOf, soundTable}
 unfoldable pub holds : Family → List ℕ → RuleKey → Bool
 holds family t k = isHeld (lookup keyOrder (entryKey family) k (entries t))
 
--- The entries of a table without a rule, by its key.
-abbrev pub entriesWithout : Family → List ℕ → RuleKey → List Entry
-entriesWithout family t k = remove keyOrder (entryKey family) k (entries t)
-
--- The table without that rule.
-unfoldable pub removed : Family → List ℕ → RuleKey → List ℕ
-removed family t k = tableOf (length t) (entriesWithout family t k)
-
--- The entries of a table with an entry, in the place of the one it held for the same rule.
-abbrev pub entriesWith : Family → List ℕ → Entry → List Entry
-entriesWith family t e = insert keyOrder (entryKey family) e (entries t)
-
--- The table with that entry.
-unfoldable pub inserted : Family → List ℕ → Entry → List ℕ
-inserted family t e = tableOf (length t) (entriesWith family t e)
-
 -- 01: "No room means exactly that the costs after the call would pass the buffer's length."
 unfoldable pub hasRoom : Family → List ℕ → Entry → Bool
-hasRoom family t e = leb (costs cost (entriesWith family t e)) (length t)
+hasRoom family t e = leb (costs cost (insert keyOrder (entryKey family) e (entries t))) (length t)
 
 -- What a call on a sound table leaves: the refusal's number, 0 where it is done, how many octets the records take, and the octets.
 pub record Changed : Type 0 where
@@ -45,24 +30,12 @@ pub record Changed : Type 0 where
   pub used : ℕ
   pub table : List ℕ
 
--- A refusal that leaves the table as it is.
-abbrev pub unchanged : ℕ → List ℕ → Changed
-unchanged number t = record { number = number; used = costs cost (entries t); table = t }
-
--- A rule taken out, by its key.
-abbrev pub withoutRule : Family → ℕ → List ℕ → RuleKey → Changed
-withoutRule family number t k = record { number = number; used = costs cost (entriesWithout family t k); table = removed family t k }
-
--- An announcement: a feasible one is put in if there is room, else 11; an infeasible one is 8, and removes a held equal rule.
-abbrev pub announced : Family → List ℕ → Entry → Bool → Changed
-announced family t e true =
-    cond (hasRoom family t e)
-    (record { number = 0; used = costs cost (entriesWith family t e); table = inserted family t e }) (unchanged 11 t)
-announced family t e false = withoutRule family 8 t (entryKey family e)
-
--- A withdrawal: the rule is taken out, and one that is not held is 14.
-unfoldable pub withdrawn : Family → List ℕ → RuleKey → Changed
-withdrawn family t k = cond (holds family t k) (withoutRule family 0 t k) (unchanged 14 t)
+-- What is asked of a table is done to its entries, and what that leaves is encoded in as many octets: 0 done, 8 infeasible, 11 no room, 14
+-- not held.
+unfoldable pub changed : Family → List ℕ → Op RuleKey Entry → Changed
+changed family t op =
+    let left = apply keyOrder (entryKey family) cost (length t) op (entries t) in
+    record { number = left .answer; used = costs cost (left .table); table = tableOf (length t) (left .table) }
 
 -- What the code asks of a table that it changes: that the family fits, that the table is sound, and that its records take as many octets
 -- as it is told.

@@ -5,6 +5,7 @@ ghost use lib.ListN.{length};
 ghost use mathlib.Core.Bool.{true};
 ghost use Rattle.rule.specs.Family.{Fits};
 ghost use Rattle.rule.specs.Value.{checkValue};
+ghost use Rattle.sorted.specs.History.{announce, withdraw};
 ghost use Rattle.spelling.specs.Plain.{plain};
 ghost use Rattle.order.specs.Key.{keysOf};
 ghost use Rattle.entry.specs.Entry.{entryFor, plainValue};
@@ -12,7 +13,7 @@ ghost use Rattle.table.specs.Walk.{recordAt, entries};
 ghost use Rattle.table.specs.Sound.{soundTable, soundness};
 ghost use Rattle.table.specs.Follow.{Adjacent, followsAt};
 ghost use Rattle.table.specs.Place.{placeIn};
-ghost use Rattle.table.specs.Change.{announced, withdrawn, Ready, Leaves};
+ghost use Rattle.table.specs.Change.{changed, Ready, Leaves};
 use entry::Head;
 use octets::Order;
 use rule::Checked;
@@ -153,7 +154,7 @@ pub struct Answer {
 // Takes a rule, by its plain value, out of a sound table whose records take `used` octets; one that is not held is 14.
 pub fn remove_rule(family: Family, table: &mut [u8], used: usize, value: &[u8]) -> Answer
     requires { ⌜ Ready family (now table) used × (plainValue family (now value) ≡ true) ⌝ }
-    ensures { λ r. ⌜ Leaves (withdrawn family (now (table .entry)) (keysOf family (now (value .entry)))) r (now (table .exit)) ⌝ }
+    ensures { λ r. ⌜ Leaves (changed family (now (table .entry)) (withdraw (keysOf family (now (value .entry))))) r (now (table .exit)) ⌝ }
 {
     let place = find(family, table, value);
     let start = place.start;
@@ -178,7 +179,7 @@ pub fn insert_rule(
     value: &[u8],
 ) -> Answer
     requires { ⌜ Ready family (now table) used × (plainValue family (now value) ≡ true) ⌝ }
-    ensures { λ r. ⌜ Leaves (announced family (now (table .entry)) (entryFor head (now (value .entry))) true) r (now (table .exit)) ⌝ }
+    ensures { λ r. ⌜ Leaves (changed family (now (table .entry)) (announce (entryFor head (now (value .entry))) true)) r (now (table .exit)) ⌝ }
 {
     let place = find(family, table, value);
     let start = place.start;
@@ -208,7 +209,7 @@ pub fn announce_value(
     value: &[u8],
 ) -> Answer
     requires { ⌜ Ready family (now table) used × (checkValue family (now value) ≡ Checked.Accepted) ⌝ }
-    ensures { λ r. ⌜ Leaves (announced family (now (table .entry)) (entryFor head (plain family (now (value .entry)))) feasible) r (now (table .exit)) ⌝ }
+    ensures { λ r. ⌜ Leaves (changed family (now (table .entry)) (announce (entryFor head (plain family (now (value .entry)))) feasible)) r (now (table .exit)) ⌝ }
 {
     let size = value.len();
     let mut work = [0u8; spelling::WORKING];
@@ -226,7 +227,7 @@ pub fn announce_value(
 // Withdraws an accepted value from a sound table whose records take `used` octets.
 pub fn withdraw_value(family: Family, table: &mut [u8], used: usize, value: &[u8]) -> Answer
     requires { ⌜ Ready family (now table) used × (checkValue family (now value) ≡ Checked.Accepted) ⌝ }
-    ensures { λ r. ⌜ Leaves (withdrawn family (now (table .entry)) (keysOf family (plain family (now (value .entry))))) r (now (table .exit)) ⌝ }
+    ensures { λ r. ⌜ Leaves (changed family (now (table .entry)) (withdraw (keysOf family (plain family (now (value .entry)))))) r (now (table .exit)) ⌝ }
 {
     let size = value.len();
     let mut work = [0u8; spelling::WORKING];

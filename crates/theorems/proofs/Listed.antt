@@ -10,6 +10,7 @@ use lib.Seq.{take-at}
 use Rattle.octets.specs.Test.{Each}
 use Rattle.octets.proofs.Cases.{by-test, apart}
 use Rattle.octets.proofs.Facts.{Octets}
+use Rattle.sorted.specs.History.{announce}
 use Rattle.rule.specs.declared.Family.{Family}
 use Rattle.rule.specs.Reading.{valueIn}
 use Rattle.spelling.specs.Plain.{plain}
@@ -17,7 +18,8 @@ use Rattle.order.specs.Key.{keysOf}
 use Rattle.action.specs.Actions.{actionsOf}
 use Rattle.entry.specs.declared.Head.{Head}
 use Rattle.entry.specs.Entry.{Entry, entryFor}
-use Rattle.table.specs.Change.{holds, hasRoom, announced, withdrawn}
+use Rattle.table.specs.Change.{holds, hasRoom, changed}
+use Rattle.table.proofs.CaseLaws.{changed-room, changed-no-room, changed-infeasible, changed-held, changed-not-held}
 use Rattle.request.specs.Input.{Policy, policyOf}
 use Rattle.request.specs.Judging.{isFeasible}
 use Rattle.flowspec.specs.Announce.{changeOf}
@@ -33,24 +35,25 @@ use Rattle.update.specs.Checks.{reachChecks, unreachChecks}
 use Rattle.update.specs.Apply.{decided, Left, appliedAll, refusedWhole, reaching, unreaching}
 use Rattle.update.specs.Promise.{Reaches, Unreaches}
 use Rattle.theorems.specs.AttributeNumbers.{AnnouncedNumber, WithdrawnNumber}
-use Rattle.update.specs.Steps.{ruleChange, ruleCall}
+use Rattle.update.specs.Steps.{ruleAsks, ruleCall}
 use Rattle.update.proofs.SinglesLaws.{each-listed, reachTask, announces-are, withdraws-are}
 use Rattle.update.proofs.ApplyLaws.{was-granted, were-read}
 
 announced-number : (family : Family) (routes : List ℕ) (head : Head) (allows : Bool) (rule t : List ℕ)
     → AnnouncedNumber (changeTold (ruleCall family routes (Announce head allows) rule t .answer) .number)
-unfolding ruleChange changeOf
+unfolding ruleAsks changeOf
 announced-number family routes head allows rule t =
     go (entryFor head (plain family (valueIn rule))) (isFeasible family (policyOf routes allows) (valueIn rule) (head .originator))
   where
-    go : (e : Entry) (feasible : Bool) → AnnouncedNumber (changeTold (changeOf (announced family t e feasible .number)) .number)
-    go e true = by-test (hasRoom family t e) (λ h. rw h (inl refl)) (λ h. rw h (inr (inr refl)))
-    go e false = inr (inl refl)
+    go : (e : Entry) (feasible : Bool) → AnnouncedNumber (changeTold (changeOf (changed family t (announce e feasible) .number)) .number)
+    go e true = by-test (hasRoom family t e) (λ h. rw (changed-room family t e h) (inl refl)) (λ h. rw (changed-no-room family t e h) (inr (inr refl)))
+    go e false = rw (changed-infeasible family t e) (inr (inl refl))
 
 withdrawn-number : (family : Family) (routes rule t : List ℕ) → WithdrawnNumber (changeTold (ruleCall family routes Withdraw rule t .answer) .number)
-unfolding ruleChange changeOf withdrawn
+unfolding ruleAsks changeOf
 withdrawn-number family routes rule t =
-    by-test (holds family t (keysOf family (plain family (valueIn rule)))) (λ h. rw h (inl refl)) (λ h. rw h (inr refl))
+    let k = keysOf family (plain family (valueIn rule)) in
+    by-test (holds family t k) (λ h. rw (changed-held family t k h) (inl refl)) (λ h. rw (changed-not-held family t k h) (inr refl))
 
 -- an answer that is no refusal: all checks hold, and the words begin with what the single calls list
 record Granted (cs : List Check) (singles : Singles) (count : ℕ) (words : List ℕ) : Type 0 where
@@ -67,12 +70,12 @@ granted cs singles t answers left count is e =
     let rest = drop (length (singles .numbers)) answers in
     record { hold = came .0; front = ap (λ (l : Left). take count (l .words)) (came .1) ∙ take-at (singles .numbers) rest count counts }
 
-module _ (family : Family) (t : List ℕ) (octets : Octets t) where
+module _ (family : Family) (t : List ℕ) where
   -- **the numbers of a reach**
   pub announces-listed : (policy : Policy) (reach : Reach) (answers : List ℕ) → Octets (reach .attribute) → reach .originator < 2 ^ 32
       → AllHold (reachChecks family policy reach t answers) → Each AnnouncedNumber (announcingEach family policy reach t .numbers)
   announces-listed policy reach answers o small hold =
-      rw (announces-are family t octets (hold .0) policy reach (actionsRead (actionsOf (reach .communities))) (hold .1 .0)
+      rw (announces-are family t (hold .0) policy reach (actionsRead (actionsOf (reach .communities))) (hold .1 .0)
       (were-read (actionsOf (reach .communities)) (hold .1 .1 .1 .1 .0)) small o)
       (each-listed AnnouncedNumber (ruleCall family (policy .routes) (reachTask policy reach (actionsRead (actionsOf (reach .communities)))))
       (announced-number family (policy .routes) _ (policy .allowsNoDestination)) (rulesFrom family (reach .attribute) reachHead .items) t)
@@ -81,7 +84,7 @@ module _ (family : Family) (t : List ℕ) (octets : Octets t) where
   pub withdraws-listed : (attribute answers : List ℕ) → Octets attribute → AllHold (unreachChecks family attribute t answers)
       → Each WithdrawnNumber (withdrawingEach family attribute t .numbers)
   withdraws-listed attribute answers o hold =
-      rw (withdraws-are family t octets (hold .0) [] attribute o)
+      rw (withdraws-are family t (hold .0) [] attribute o)
       (each-listed WithdrawnNumber (ruleCall family [] Withdraw) (withdrawn-number family []) (rulesFrom family attribute unreachHead .items) t)
 
   module _ (answers : List ℕ) (answer : Applied) (exit words : List ℕ) (kept : List (List ℕ)) (count : ℕ) (done : answer ≡ Done count) where

@@ -11,6 +11,7 @@ use lib.ListN.{length}
 use Rattle.octets.proofs.Cases.{by-test, apart}
 use Rattle.octets.proofs.Facts.{Octets}
 use Rattle.sorted.specs.Table.{lookup}
+use Rattle.sorted.specs.History.{announce, withdraw}
 use Rattle.sorted.proofs.SplitLaws.{front, rear, skip, front-rear, held-split, remove-split}
 use Rattle.sorted.proofs.MemberLaws.{every-in, found-in, in-found}
 use Rattle.rule.specs.declared.Family.{Family}
@@ -33,8 +34,10 @@ use Rattle.entry.specs.Entry.{Entry, entryKey, possible}
 use Rattle.entry.proofs.ValueLaws.{is-possible}
 use Rattle.table.specs.Walk.{entries}
 use Rattle.table.specs.Sound.{tableOf, soundTable, Encodes}
-use Rattle.table.specs.Change.{holds, removed, hasRoom, announced, withdrawn}
-use Rattle.table.proofs.ChangeLaws.{encoded, removed-none, value-octets}
+use Rattle.table.specs.Change.{holds, hasRoom, changed}
+use Rattle.table.proofs.SoundLaws.{sound-encodes}
+use Rattle.table.proofs.CaseLaws.{removed, changed-room, changed-no-room, changed-infeasible, changed-held, changed-not-held}
+use Rattle.table.proofs.ChangeLaws.{removed-none, value-octets}
 use Rattle.request.specs.declared.Request.{Request}
 use Rattle.request.specs.declared.Request.the-variants.{Announce, Refused as NoRequest}
 use Rattle.flowspec.specs.declared.Change.{Change}
@@ -58,36 +61,39 @@ Keeps t o = (number place : ℕ) → o .answer ≡ Refused number place → o .t
 abbrev KeepsButAt8 : List ℕ → Outcome → Type 0
 KeepsButAt8 t o = (number place : ℕ) → o .answer ≡ Refused number place → (number ≡ 8 → ⊥) → o .table ≡ t
 
-changed : (family : Family) (t : List ℕ) (e : Entry) (feasible : Bool) → KeepsButAt8 t (outcome (announced family t e feasible))
-unfolding changeOf
-changed family t e true number place h n =
-    by-test (hasRoom family t e) (λ r. let z : Done ≡ Refused number place = rw r at h in apart (cc)) (λ r. rw r)
-changed family t e false number place h n =
-    let z : Refused 8 0 ≡ Refused number place = h in
-    let eight : number ≡ 8 = cc in
-    absurd (n eight)
+module _ (family : Family) (t : List ℕ) (sound : soundTable family t ≡ true) where
+  announced : (e : Entry) (feasible : Bool) → KeepsButAt8 t (outcome (changed family t (announce e feasible)))
+  unfolding changeOf
+  announced e true number place h n =
+      by-test (hasRoom family t e) (λ r. let z : Done ≡ Refused number place = rw (changed-room family t e r) at h in apart (cc))
+      (λ r. rw (changed-no-room family t e r) (sym (sound-encodes family t sound .is)))
+  announced e false number place h n =
+      let z : Refused 8 0 ≡ Refused number place = rw (changed-infeasible family t e) at h in
+      let eight : number ≡ 8 = cc in
+      absurd (n eight)
 
-withdrew : (family : Family) (t : List ℕ) (k : RuleKey) → Keeps t (outcome (withdrawn family t k))
-unfolding changeOf withdrawn
-withdrew family t k number place h =
-    by-test (holds family t k) (λ r. let z : Done ≡ Refused number place = rw r at h in apart (cc)) (λ r. rw r)
+  withdrew : (k : RuleKey) → Keeps t (outcome (changed family t (withdraw k)))
+  unfolding changeOf
+  withdrew k number place h =
+      by-test (holds family t k) (λ r. let z : Done ≡ Refused number place = rw (changed-held family t k r) at h in apart (cc))
+      (λ r. rw (changed-not-held family t k r) (sym (sound-encodes family t sound .is)))
 
 announce-keeps : (family : Family) (policy : Policy) (a : Announcement) (t : List ℕ) → KeepsButAt8 t (announcing family policy a t)
 unfolding announcing
 announce-keeps family policy a t =
-    by-test (soundTable family t) (λ s. rw s (go (requestOf family policy a))) (λ s. rw s (λ number place h n. refl))
+    by-test (soundTable family t) (λ s. rw s (go s (requestOf family policy a))) (λ s. rw s (λ number place h n. refl))
   where
-    go : (r : Request) → KeepsButAt8 t (announcedBy family a t r)
-    go (Announce start size actions feasible) = changed family t (announcedEntry family a start size actions) feasible
-    go (NoRequest number place) = λ m p h n. refl
+    go : soundTable family t ≡ true → (r : Request) → KeepsButAt8 t (announcedBy family a t r)
+    go s (Announce start size actions feasible) = announced family t s (announcedEntry family a start size actions) feasible
+    go s (NoRequest number place) = λ m p h n. refl
 
 withdraw-keeps : (family : Family) (rule t : List ℕ) → Keeps t (withdrawing family rule t)
 unfolding withdrawing
-withdraw-keeps family rule t = by-test (soundTable family t) (λ s. rw s (go (oneRule family rule))) (λ s. rw s (λ number place h. refl))
+withdraw-keeps family rule t = by-test (soundTable family t) (λ s. rw s (go s (oneRule family rule))) (λ s. rw s (λ number place h. refl))
   where
-    go : (r : Reading) → Keeps t (withdrawnBy family t rule r)
-    go (Rule start size) = withdrew family t (keysOf family (plain family (valueOf rule start size)))
-    go (NotRead number place) = λ m p h. refl
+    go : soundTable family t ≡ true → (r : Reading) → Keeps t (withdrawnBy family t rule r)
+    go s (Rule start size) = withdrew family t s (keysOf family (plain family (valueOf rule start size)))
+    go s (NotRead number place) = λ m p h. refl
 
 -- **No refusal but 8 changes an octet**, of the calls by their promises.
 pub refused-announcement : (family : Family) (policy : Policy) (a : Announcement) (t : List ℕ) (answer : Change) (exit : List ℕ) (kept : List (List ℕ))
@@ -121,11 +127,11 @@ module _ (family : Family) (fits : Fits family) (t : List ℕ) (octets : Octets 
   key = keysOf family (plain family v)
 
   taken-out : (NotHeld t (plain family v) × (removed family t key ≡ t)) ⊎ Without t (plain family v) (removed family t key)
-  unfolding holds removed
+  unfolding holds
   taken-out = go (lookup keyOrder (entryKey family) key (entries t)) refl
     where
       here : Encodes family t (entries t)
-      here = encoded family t octets sound
+      here = sound-encodes family t sound
 
       absent : lookup keyOrder (entryKey family) key (entries t) ≡ none → NotHeld t (plain family v)
       absent e x m q =
@@ -176,7 +182,7 @@ module _ (family : Family) (policy : Policy) (a : Announcement) (t : List ℕ) w
     where
       go : (c : ActionsReading) → isSound c ≡ true
           → announcedBy family a t (requestFor family policy a (Rule (fieldSize (a .rule)) (fieldLength (a .rule))) c) .table ≡ removed family t (keysOf family (plain family (valueIn (a .rule))))
-      go (Read actions) e = rw not
+      go (Read actions) e = rw (not, changed-infeasible family t (announcedEntry family a (fieldSize (a .rule)) (fieldLength (a .rule)) actions))
       go Unsound e = apart (cc)
 
   -- **8 changes nothing else.** 01: "Refusals change nothing, except that 8 removes a held equal rule": a rule that is not held leaves the table as

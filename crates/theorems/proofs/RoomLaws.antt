@@ -21,6 +21,7 @@ use Rattle.action.specs.declared.Reading.the-variants.{Read, Unsound}
 use Rattle.action.specs.Actions.{actionsOf}
 use Rattle.table.specs.Sound.{soundTable}
 use Rattle.table.specs.Change.{holds}
+use Rattle.table.proofs.CaseLaws.{changed-infeasible}
 use Rattle.table.proofs.ChangeLaws.{held-is-done}
 use Rattle.table.proofs.CallLaws.{plain-held}
 use Rattle.flowspec.specs.declared.Change.{Change}
@@ -53,7 +54,7 @@ module _ (family : Family) (fits : Fits family) (policy : Policy) (a : Announcem
           (octets-plain family (valueOf (a .rule) start size) v) (plain-held family (valueOf (a .rule) start size) v (one-read family (a .rule) start size read .accepted)) held in
           by-test (isFeasible family policy (valueOf (a .rule) start size) (a .originator))
           (λ f. rw (f, done) (λ place e. apart (cc)))
-          (λ f. rw f (λ place e. apart (cc)))
+          (λ f. rw (f, changed-infeasible family t (announcedEntry family a start size actions)) (λ place e. apart (cc)))
 
   -- the same of the call, by its promise
   pub held-announcement : (answer : Change) (exit : List ℕ) (kept : List (List ℕ)) → Announces family policy a t answer exit kept

@@ -29,7 +29,7 @@ use Rattle.action.specs.Limit.{smallerOf}
 use Rattle.action.specs.Possible.{couldBe}
 use Rattle.entry.specs.Entry.{plainValue, possible}
 use Rattle.entry.specs.Record.{writtenFields, readFields, headNumbers, recordOf, actionsIn, entryOf, goodRecord}
-use Rattle.table.specs.Change.{holds, removed, hasRoom, inserted, withdrawn}
+use Rattle.table.specs.Change.{changed}
 use Rattle.table.specs.Sound.{recordsOf, tableOf, soundTable}
 use Rattle.table.specs.Walk.{recordAt, recordsFrom, records, entries}
 use Rattle.request.specs.Request.{requestOf}
@@ -73,7 +73,7 @@ unfolding
     bodyKey keyOf keysOf destinationFor destinationAmong destinationOf coveredBy moreSpecific longer matched bestMatch undisputed judged
     feasible numberInWords routeAt routesFrom routesOf plainPrefix rises rising soundRoutes ofType smallest first ruleActions
     communitiesAt actionsOf flagsOf firstOf smallerOf allowed couldBe plainValue possible writtenFields readFields headNumbers recordOf
-    actionsIn entryOf goodRecord holds removed inserted hasRoom withdrawn recordsOf tableOf soundTable recordAt recordsFrom records
+    actionsIn entryOf goodRecord changed recordsOf tableOf soundTable recordAt recordsFrom records
     entries changeOf requestOf announcing withdrawing readWithRoutes isFeasible shapeOf scaled numberFor numberOfParts rateOfParts
     rateOf fitsSignificand rateGiven afiOf isOfFamily isReach isUnreach ruleAt rulesFrom reaching unreaching
 computed =

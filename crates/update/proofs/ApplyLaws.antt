@@ -186,11 +186,11 @@ module _ (family chosen : Family) (chose : chosen ≡ family) (policy : Policy) 
             enough = leb-true (reachCount chosen (reach .attribute)) (length answers) (granted .0 .1 .1 .1 .1 .0);
           })
 
-      pub reach-done : Octets t → Octets (reach .attribute) → reach .originator < 2 ^ 32 → (exit words : List ℕ)
+      pub reach-done : Octets (reach .attribute) → reach .originator < 2 ^ 32 → (exit words : List ℕ)
           → LeavesAll (tasksFrom family (policy .routes) (reachTask policy reach actions) (reach .attribute) reachHead t) answers exit words
           → Reaches family policy reach t answers (Done count) exit words (policy .routes ∷ reach .attribute ∷ reach .communities ∷ [])
-      reach-done octets o small exit words h =
-          let same = announces-are chosen t octets (was-sound chosen t s is used e .0) policy reach actions (granted .0 .0) acts small o in
+      reach-done o small exit words h =
+          let same = announces-are chosen t (was-sound chosen t s is used e .0) policy reach actions (granted .0 .0) acts small o in
           let k = rw (← chose, ← same) at h in
           rw (← chose)
           (reach-kept chosen policy reach t answers (appliedAll (announcingEach chosen policy reach t) answers) (Done count) exit words
@@ -266,13 +266,13 @@ module _ (family chosen : Family) (chose : chosen ≡ family) (attribute t answe
             enough = leb-true (unreachCount chosen attribute) (length answers) (passed .0 .1 .1 .0);
           })
 
-      pub unreach-done : Octets t → Octets attribute → (routes exit words : List ℕ)
+      pub unreach-done : Octets attribute → (routes exit words : List ℕ)
           → LeavesAll (tasksFrom family routes Withdraw attribute unreachHead t) answers exit words
           → Unreaches family attribute t answers (Done count) exit words (attribute ∷ [])
-      unreach-done octets o routes exit words h =
+      unreach-done o routes exit words h =
           let z = sym f ∙ passed .1 in
           let counts : count ≡ unreachCount chosen attribute = cc in
-          let same = withdraws-are chosen t octets (was-sound chosen t s is used e .0) routes attribute o in
+          let same = withdraws-are chosen t (was-sound chosen t s is used e .0) routes attribute o in
           let k = rw (← chose, ← same) at h in
           rw (← chose)
           (unreach-kept chosen attribute t answers (appliedAll (withdrawingEach chosen attribute t) answers) (Done count) exit words

@@ -18,7 +18,7 @@ use Rattle.rule.specs.Value.{between}
 use Rattle.rule.proofs.ComponentsLaws.{octets-between}
 use Rattle.table.specs.declared.Answer.{Answer}
 use Rattle.table.specs.Change.{Changed, Ready, Leaves}
-use Rattle.table.proofs.LeaveLaws.{leaves-ready}
+use Rattle.table.proofs.LeaveLaws.{changed-ready, leaves-ready}
 use Rattle.flowspec.specs.Announce.{changeOf, outcome}
 use Rattle.flowspec.specs.Told.{changeTold}
 use Rattle.attribute.specs.declared.NextRule.{NextRule}
@@ -27,8 +27,8 @@ use Rattle.attribute.specs.Rules.{ruleAt, rulesFrom}
 use Rattle.attribute.proofs.RulesLaws.{RuleThere, rules-end, rules-refused, rules-next, rule-there}
 use Rattle.update.specs.declared.Task.{Task}
 use Rattle.update.specs.Singles.{Singles, eachRule}
-use Rattle.update.specs.Steps.{ruleChange, ruleCall, tasksFrom, Prepared, LeavesAll}
-use Rattle.update.proofs.StepLaws.{change-ready}
+use Rattle.update.specs.Steps.{ruleAsks, ruleChange, ruleCall, tasksFrom, Prepared, LeavesAll}
+use Rattle.update.proofs.StepLaws.{task-brings}
 
 -- the answer for a change's number tells that number
 pub number-told : (number : ℕ) → changeTold (changeOf number) .number ≡ number
@@ -71,7 +71,6 @@ module _ (family : Family) (routes : List ℕ) (task : Task) (a : List ℕ) (at 
 -- what they leave completes what all leave; `first` and `buffer` are the table and the answer words as they were lent
 pub record Applying (family : Family) (routes : List ℕ) (task : Task) (a : List ℕ) (from : ℕ) (first buffer t answers : List ℕ) (at taken count : ℕ) : Type 0 where
   pub ready : Ready family t taken
-  pub octets : Octets t
   pub accepted : rulesFrom family a at .ending ≡ Accepted
   pub enough : count + length (rulesFrom family a at .items) ≤ length answers
   pub long : length t ≡ length first
@@ -83,12 +82,11 @@ pub record Applying (family : Family) (routes : List ℕ) (task : Task) (a : Lis
 -- how `apply_rules` goes on and comes to what it leaves
 module _ (family : Family) (routes : List ℕ) (task : Task) (a : List ℕ) (from : ℕ) (first buffer : List ℕ) (used : ℕ)
     (prepared : Prepared family task a from first used (length buffer)) where
-  pub apply-starts : Octets first → Applying family routes task a from first buffer first buffer from used 0
-  apply-starts o =
+  pub apply-starts : Applying family routes task a from first buffer first buffer from used 0
+  apply-starts =
       let enough = prepared .enough in
       record {
         ready = prepared .ready;
-        octets = o;
         accepted = prepared .accepted;
         enough = omega arith;
         long = refl;
@@ -134,9 +132,9 @@ module _ (family : Family) (routes : List ℕ) (task : Task) (a : List ℕ) (fro
       apply-word = omega (arith, ap (λ (w : Walk (List ℕ) Checked). length (w .items)) one-more, so-far .enough)
 
       pub apply-on : Octets a → (answer : Answer) (exit : List ℕ) → Leaves (ruleChange family routes task (between a start end) t) answer exit
-          → length exit ≡ length t → Octets exit
+          → length exit ≡ length t
           → Applying family routes task a from first buffer exit (set answers count (answer .number)) end (answer .used) (count + 1)
-      apply-on o answer exit left same octets =
+      apply-on o answer exit left same =
           let ok = rule-there family a at start end here .accepted in
           let items = ap (λ (w : Walk (List ℕ) Checked). length (w .items)) one-more in
           let set-long = length-set answers count (answer .number) in
@@ -146,9 +144,9 @@ module _ (family : Family) (routes : List ℕ) (task : Task) (a : List ℕ) (fro
           record {
             ready =
                 leaves-ready family (ruleChange family routes task (between a start end) t) answer exit
-                (change-ready family routes task t (between a start end) taken (so-far .octets) (octets-between a start end o) (so-far .ready) (prepared .could) ok)
+                (changed-ready family t taken (so-far .ready) (ruleAsks family routes task (between a start end))
+                (task-brings family routes task (between a start end) (prepared .could) (octets-between a start end o) ok))
                 left;
-            octets = octets;
             accepted = sym (ap (λ (w : Walk (List ℕ) Checked). w .ending) one-more) ∙ so-far .accepted;
             enough = omega arith;
             long = same ∙ so-far .long;

@@ -1,35 +1,28 @@
 -- **The changes that the code makes are those of the single calls**: on a sound table, with input that is read, a task done for each rule of an
 -- attribute leaves what the announcements or withdrawals of its rules leave. Assumes nothing.
 use mathlib.Core.Path.{_≡_, refl, ap}
-use mathlib.Core.Bool.{Bool, true, false}
+use mathlib.Core.Bool.{true}
 use mathlib.Core.List.{List, [], _∷_}
 use Prim.Native.Nat.{ℕ, suc, _^_, _<_}
 use lib.ListN.{length}
 use Rattle.octets.specs.Test.{Each}
-use Rattle.octets.proofs.Cases.{by-test}
 use Rattle.octets.proofs.Facts.{Octets}
 use Rattle.rule.specs.declared.Family.{Family}
 use Rattle.rule.specs.declared.Checked.the-variants.{Accepted}
 use Rattle.rule.specs.Value.{checkValue}
 use Rattle.rule.specs.Reading.{fieldSize, fieldLength, valueIn}
 use Rattle.rule.proofs.ReadingLaws.{one-read}
-use Rattle.spelling.specs.Plain.{plain}
-use Rattle.order.specs.Key.{keysOf}
 use Rattle.action.specs.declared.Actions.{Actions}
 use Rattle.action.specs.declared.Reading.the-variants.{Read}
 use Rattle.action.specs.Actions.{actionsOf}
 use Rattle.action.proofs.PossibleLaws.{read-possible}
 use Rattle.route.specs.Route.{soundRoutes}
-use Rattle.entry.specs.Entry.{Entry, entryKey, entryFor, possible}
-use Rattle.entry.proofs.ValueLaws.{make-possible}
 use Rattle.table.specs.Walk.{entries}
 use Rattle.table.specs.Sound.{Encodes, soundTable}
-use Rattle.table.specs.Change.{holds, hasRoom, announced, withdrawn}
 use Rattle.table.proofs.SoundLaws.{sound-encodes, encodes-sound, encodes-entries}
-use Rattle.table.proofs.LeaveLaws.{removed-encodes, inserted-encodes}
-use Rattle.table.proofs.CallLaws.{plain-held}
-use Rattle.request.specs.Input.{Policy, policyOf}
-use Rattle.request.specs.Judging.{readWithRoutes, isFeasible}
+use Rattle.table.proofs.LeaveLaws.{changed-encodes}
+use Rattle.request.specs.Input.{Policy}
+use Rattle.request.specs.Judging.{readWithRoutes}
 use Rattle.request.specs.Request.{requestOf}
 use Rattle.flowspec.specs.Announce.{Outcome, announcing, withdrawing}
 use Rattle.flowspec.specs.Told.{changeTold}
@@ -40,7 +33,8 @@ use Rattle.attribute.proofs.RulesLaws.{ReadAlone, each-alone, each-octets}
 use Rattle.update.specs.declared.Task.{Task}
 use Rattle.update.specs.declared.Task.the-variants.{Announce, Withdraw}
 use Rattle.update.specs.Singles.{Reach, Singles, eachRule, announcementIn, announcingEach, withdrawingEach}
-use Rattle.update.specs.Steps.{ruleChange, ruleCall, tasksFrom, TaskCouldBe}
+use Rattle.update.specs.Steps.{ruleAsks, ruleChange, ruleCall, tasksFrom, TaskCouldBe}
+use Rattle.update.proofs.StepLaws.{task-brings}
 
 -- ---- one call for each rule ----
 
@@ -72,25 +66,12 @@ each-agrees Given Kept call other agree keep (rule ∷ rules) t given kept =
 abbrev Coded : Family → List ℕ → Type 0
 Coded family t = Encodes family t (entries t)
 
-module _ (family : Family) (t : List ℕ) (coded : Coded family t) where
-  coded-again : (u : List ℕ) (es : List Entry) → Encodes family u es → Coded family u
-  coded-again u es c = rw (encodes-entries family u es c) c
-
-  announced-coded : (e : Entry) (feasible : Bool) → possible family e ≡ true → Coded family (announced family t e feasible .table)
-  announced-coded e true ok =
-      by-test (hasRoom family t e) (λ h. rw h (coded-again _ _ (inserted-encodes family t (entries t) coded e ok h))) (λ h. rw h coded)
-  announced-coded e false ok = coded-again _ _ (removed-encodes family t (entries t) coded (entryKey family e))
-
-  -- such a table is left again
-  change-coded : (routes : List ℕ) (task : Task) (value : List ℕ) → TaskCouldBe task → Octets value → checkValue family value ≡ Accepted
-      → Coded family (ruleChange family routes task value t .table)
-  unfolding ruleChange withdrawn
-  change-coded routes (Announce head allowsNoDestination) value could octets ok =
-      let may = make-possible family (entryFor head (plain family value)) (could .0) (could .1) (plain-held family value octets ok) in
-      announced-coded (entryFor head (plain family value)) (isFeasible family (policyOf routes allowsNoDestination) value (head .originator)) may
-  change-coded routes Withdraw value could octets ok =
-      let k = keysOf family (plain family value) in
-      by-test (holds family t k) (λ h. rw h (coded-again _ _ (removed-encodes family t (entries t) coded k))) (λ h. rw h coded)
+-- such a table is left again
+change-coded : (family : Family) (t : List ℕ) → Coded family t → (routes : List ℕ) (task : Task) (value : List ℕ) → TaskCouldBe task → Octets value
+    → checkValue family value ≡ Accepted → Coded family (ruleChange family routes task value t .table)
+change-coded family t coded routes task value could octets ok =
+    let left = changed-encodes family t (entries t) coded (ruleAsks family routes task value) (task-brings family routes task value could octets ok) in
+    rw (encodes-entries family _ _ left) left
 
 -- the task of a reach whose actions are read
 abbrev pub reachTask : Policy → Reach → Actions → Task
@@ -100,13 +81,13 @@ reachTask policy reach actions = Announce (record { originator = reach .originat
 one-announced : (family : Family) (policy : Policy) (reach : Reach) (actions : Actions) → soundRoutes family (policy .routes) ≡ true
     → actionsOf (reach .communities) ≡ Read actions → (rule t : List ℕ) → ReadAlone family rule → soundTable family t ≡ true
     → announcing family policy (announcementIn reach rule) t ≡ ruleCall family (policy .routes) (reachTask policy reach actions) rule t
-unfolding announcing requestOf readWithRoutes ruleChange
+unfolding announcing requestOf readWithRoutes ruleAsks
 one-announced family policy reach actions routes acts rule t alone sound = rw (sound, routes, alone, acts)
 
 -- and what its withdrawal does
 one-withdrawn : (family : Family) (routes rule t : List ℕ) → ReadAlone family rule → soundTable family t ≡ true
     → withdrawing family rule t ≡ ruleCall family routes Withdraw rule t
-unfolding withdrawing ruleChange
+unfolding withdrawing ruleAsks
 one-withdrawn family routes rule t alone sound = rw (sound, alone)
 
 -- ---- the rules of an attribute ----
@@ -119,7 +100,7 @@ each-readable : (family : Family) (rules : List (List ℕ)) → Each (ReadAlone 
 each-readable family [] alone octets = tt
 each-readable family (rule ∷ rules) alone octets = ((alone .0, octets .0), each-readable family rules (alone .1) (octets .1))
 
-module _ (family : Family) (t : List ℕ) (octets : Octets t) (sound : soundTable family t ≡ true) where
+module _ (family : Family) (t : List ℕ) (sound : soundTable family t ≡ true) where
   -- calls that do what a task does, for each rule
   tasks-are : (call : List ℕ → List ℕ → Outcome) (routes : List ℕ) (task : Task) → TaskCouldBe task
       → ((rule u : List ℕ) → ReadAlone family rule → soundTable family u ≡ true → call rule u ≡ ruleCall family routes task rule u)
@@ -134,7 +115,7 @@ module _ (family : Family) (t : List ℕ) (octets : Octets t) (sound : soundTabl
       change-coded family u coded routes task (valueIn rule) could octets accepted)
       (rulesFrom family attribute at .items) t
       (each-readable family (rulesFrom family attribute at .items) (each-alone family attribute at) (each-octets family attribute at o))
-      (sound-encodes family t octets sound)
+      (sound-encodes family t sound)
 
   -- **the announcements of a reach**
   pub announces-are : (policy : Policy) (reach : Reach) (actions : Actions) → soundRoutes family (policy .routes) ≡ true

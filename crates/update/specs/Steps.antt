@@ -6,14 +6,15 @@ use mathlib.Core.Path.{_≡_}
 use mathlib.Core.Bool.{true}
 use mathlib.Core.List.{List}
 use lib.ListN.{length}
+use Rattle.sorted.specs.History.{Op, announce, withdraw}
 use Rattle.rule.specs.declared.Family.{Family}
 use Rattle.rule.specs.declared.Checked.the-variants.{Accepted}
 use Rattle.rule.specs.Reading.{valueIn}
 use Rattle.spelling.specs.Plain.{plain}
-use Rattle.order.specs.Key.{keysOf}
+use Rattle.order.specs.Key.{RuleKey, keysOf}
 use Rattle.action.specs.Possible.{couldBe}
-use Rattle.entry.specs.Entry.{entryFor}
-use Rattle.table.specs.Change.{Changed, announced, withdrawn, Ready}
+use Rattle.entry.specs.Entry.{Entry, entryFor}
+use Rattle.table.specs.Change.{Changed, changed, Ready}
 use Rattle.request.specs.Input.{policyOf}
 use Rattle.request.specs.Judging.{isFeasible}
 use Rattle.flowspec.specs.Announce.{Outcome, outcome}
@@ -23,12 +24,15 @@ use Rattle.update.specs.declared.Task.the-variants.{Announce, Withdraw}
 use Rattle.update.specs.Singles.{Singles, eachRule}
 use Rattle.update.specs.Apply.{appliedAll}
 
--- What is done to a sound table for one rule, by its accepted value: it is announced, as it is judged, or withdrawn.
-unfoldable pub ruleChange : Family → List ℕ → Task → List ℕ → List ℕ → Changed
-ruleChange family routes (Announce head allowsNoDestination) value t =
-    announced family t (entryFor head (plain family value))
-    (isFeasible family (policyOf routes allowsNoDestination) value (head .originator))
-ruleChange family routes Withdraw value t = withdrawn family t (keysOf family (plain family value))
+-- What a task asks of a sound table for one rule, by its accepted value: to announce it, as it is judged, or to withdraw it.
+unfoldable pub ruleAsks : Family → List ℕ → Task → List ℕ → Op RuleKey Entry
+ruleAsks family routes (Announce head allowsNoDestination) value =
+    announce (entryFor head (plain family value)) (isFeasible family (policyOf routes allowsNoDestination) value (head .originator))
+ruleAsks family routes Withdraw value = withdraw (keysOf family (plain family value))
+
+-- What is done to the table for it.
+abbrev pub ruleChange : Family → List ℕ → Task → List ℕ → List ℕ → Changed
+ruleChange family routes task value t = changed family t (ruleAsks family routes task value)
 
 -- The same for a rule by its octets, as a call on the table.
 abbrev pub ruleCall : Family → List ℕ → Task → List ℕ → List ℕ → Outcome

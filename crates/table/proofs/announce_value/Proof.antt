@@ -34,8 +34,7 @@ remove-rule-requires c κs = let filled = c .before .before .before .before in
     (search needs, front-held _ _ _ _ (filled .fill-plain .ensures) (λ i. filled .before .before .shared-slice-known .given i .fits) (search needs))
 
 returns-2 : tie.Need-returns-2
-returns-2 c = let filled = c .before .before .before .before .before .before .before in
-    infeasible _ _ _ _ (filled .fill-plain .ensures) _ _ _ _ _ (c .before .before .before .before .before .if1 .left) (λ i. filled .before .before .before .slice-known .given i .fits) (search needs) (c .before .before .remove-rule .ensures)
+returns-2 c = search (infeasible, needs)
 
 pub announce-value-spec : {M : Type 1} → statement M
 announce-value-spec =

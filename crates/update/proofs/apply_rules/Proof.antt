@@ -17,8 +17,7 @@ abbrev μ-loop : tie.MeasureT-loop
 μ-loop family table₀ used routes task attribute from answers₀ chosen at₀ taken₀ count₀ table answers at taken count = length attribute - at
 
 loop-holds : tie.Need-loop-holds Inv-loop μ-loop
-loop-holds c = let start = c .before .before .before .before .before in
-    apply-starts _ _ _ _ _ _ _ _ (start .pre) (λ i. c .before .before .before .before .slice-known .given i .fits)
+loop-holds c = apply-starts _ _ _ _ _ _ _ _ (c .before .before .before .before .before .pre)
 
 returns : tie.Need-returns Inv-loop μ-loop
 returns c = search (apply-done, needs)
@@ -74,7 +73,7 @@ loop-less c = let r = there (found c) in omega (arith, r .begins, r .ordered, r 
 loop-again : tie.Need-loop-again Inv-loop μ-loop
 loop-again c = let k = found c in
     apply-on _ _ _ _ _ _ _ _ (start k .pre) _ _ _ _ _ (turn k .loop .inv) _ (chosen k .family-of .ensures) _ (k .before .before .rule-at .ensures) _ _ (k .start .given .1)
-    (λ i. chosen k .before .before .shared-slice-known2 .given i .fits) _ _ (c .before .before .before .apply-rule .ensures) (search needs) (λ i. c .before .slice-known3 .given i .fits)
+    (λ i. chosen k .before .before .shared-slice-known2 .given i .fits) _ _ (c .before .before .before .apply-rule .ensures) (search needs)
 
 pub apply-rules-spec : {M : Type 1} → statement M
 apply-rules-spec =

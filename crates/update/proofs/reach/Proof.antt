@@ -31,9 +31,6 @@ module _ (c : tie.After-known-told3) where
   abbrev asked : Reach
   asked = reachOf (start .args .attribute .now) (start .args .originator) (start .args .communities .now)
 
-  table-octets : Octets (start .args .table .now)
-  table-octets i = lent .before .before .slice-known .given i .fits
-
   attribute-octets : Octets (start .args .attribute .now)
   attribute-octets i = lent .shared-slice-known2 .given i .fits
 
@@ -62,7 +59,7 @@ returns-3 c =
     let k = applied .before .before .before in
     reach-done _ _ (chosen k .family-of .ensures) (policy k) (asked k) _ (start k .args .answers .now) _ (checked k .sound-table .ensures) _
     (reading k .before .before .used .given .1) _ (reading k .read-reach .ensures) _ _ (k .before .count .given .1)
-    (table-octets k) (attribute-octets k) (start k .fits .originator .fits) _ _ (applied .apply-rules .ensures)
+    (attribute-octets k) (start k .fits .originator .fits) _ _ (applied .apply-rules .ensures)
 
 pub reach-spec : {M : Type 1} → statement M
 reach-spec =

@@ -23,9 +23,6 @@ module _ (c : tie.After-known-told3) where
   abbrev start : tie.Start
   start = lent .before .before
 
-  table-octets : Octets (start .args .table .now)
-  table-octets i = lent .before .slice-known .given i .fits
-
   attribute-octets : Octets (start .args .attribute .now)
   attribute-octets i = lent .shared-slice-known .given i .fits
 
@@ -51,7 +48,7 @@ returns-3 c =
     let k = applied .before .before .before .before in
     unreach-done _ _ (chosen k .family-of .ensures) _ _ (start k .args .answers .now) _ (checked k .sound-table .ensures) _
     (reading k .before .before .used .given .1) _ (reading k .read-unreach .ensures) _ (k .before .count .given .1)
-    (table-octets k) (attribute-octets k) _ _ _ (applied .apply-rules .ensures)
+    (attribute-octets k) _ _ _ (applied .apply-rules .ensures)
 
 pub unreach-spec : {M : Type 1} → statement M
 unreach-spec =
