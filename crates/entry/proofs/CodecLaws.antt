@@ -180,7 +180,7 @@ module _ (family : Family) (e : Entry) (ok : possible family e ≡ true) where
       let value = value-record e in
       let actions
       = ap (λ (l : List ℕ). actionsIn (getD l 2 0) (getD l 3 0) (getD l 4 0) (getD l 5 0) (getD l 6 0)) fields ∙ actions-back (e .actions) in
-      λ i. record { originator = getD (fields i) 1 0; actions = actions i; value = value i }
+      λ i. record { origin = record { originator = getD (fields i) 1 0 }; actions = actions i; value = value i }
 
   flags-octet : getD (recordOf e) (place 2) 0 ≡ flagsOf (e .actions)
   unfolding readFields headNumbers

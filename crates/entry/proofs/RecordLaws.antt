@@ -104,7 +104,7 @@ pub record-stored : (t head all values : List ℕ) (at : ℕ) (e : Entry) → va
     → head
     ≡ stored t at
     (writtenFields headWidths
-    (length (e .value) ∷ e .originator ∷ getD values 0 0 ∷ getD values 1 0 ∷ getD values 2 0 ∷ getD values 3 0 ∷ getD values 4 0 ∷ []))
+    (length (e .value) ∷ e .origin .originator ∷ getD values 0 0 ∷ getD values 1 0 ∷ getD values 2 0 ∷ getD values 3 0 ∷ getD values 4 0 ∷ []))
     → all ≡ stored head (at + headCost) (e .value) → all ≡ stored t at (recordOf e)
 unfolding recordOf headNumbers
 record-stored t head all values at e is room h k =

@@ -116,18 +116,18 @@ holds family v ok same = rw (ok, same) (list-same v)
 
 -- what an entry that could be is
 pub record Possible (family : Family) (e : Entry) : Type 0 where
-  pub originates : e .originator < 2 ^ 32
+  pub originates : e .origin .originator < 2 ^ 32
   pub acts : couldBe (e .actions) ≡ true
   pub value : Held family (e .value)
 
 pub is-possible : (family : Family) (e : Entry) → possible family e ≡ true → Possible family e
 unfolding possible
 is-possible family e h =
-    let o = both (ltb (e .originator) (2 ^ 32)) (couldBe (e .actions) && plainValue family (e .value)) h in
+    let o = both (ltb (e .origin .originator) (2 ^ 32)) (couldBe (e .actions) && plainValue family (e .value)) h in
     let a = both (couldBe (e .actions)) (plainValue family (e .value)) (o .1) in
     record { originates = ltb-true _ _ (o .0); acts = a .0; value = held family (e .value) (a .1) }
 
-pub make-possible : (family : Family) (e : Entry) → e .originator < 2 ^ 32 → couldBe (e .actions) ≡ true → plainValue family (e .value) ≡ true
+pub make-possible : (family : Family) (e : Entry) → e .origin .originator < 2 ^ 32 → couldBe (e .actions) ≡ true → plainValue family (e .value) ≡ true
     → possible family e ≡ true
 unfolding possible
 make-possible family e o a v = rw (lt-ltb _ _ o, a, v)

@@ -46,7 +46,7 @@ readFields (width ∷ widths) s at = numberAt width s at ∷ readFields widths s
 -- The fields of a head, in order: value length, originator, flags, DSCP, byte rate, packet rate, redirect community.
 unfoldable pub headNumbers : Entry → List ℕ
 headNumbers e =
-    length (e .value) ∷ e .originator ∷ valuesOf (e .actions)
+    length (e .value) ∷ e .origin .originator ∷ valuesOf (e .actions)
 
 -- The record of an entry.
 unfoldable pub recordOf : Entry → List ℕ
@@ -77,7 +77,7 @@ unfoldable pub entryOf : List ℕ → Entry
 entryOf r =
     let fields = readFields headWidths r 0 in
     record {
-      originator = getD fields 1 0;
+      origin = record { originator = getD fields 1 0 };
       actions = actionsIn (getD fields 2 0) (getD fields 3 0) (getD fields 4 0) (getD fields 5 0) (getD fields 6 0);
       value = drop headCost r;
     }

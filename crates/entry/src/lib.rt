@@ -21,6 +21,7 @@ use octets::number_at;
 use octets::octet_at;
 use octets::store;
 use octets::write_number;
+use route::Origin;
 use rule::BodyEnd;
 use rule::Family;
 use rule::MOST_VALUE;
@@ -63,7 +64,7 @@ pub const HEAD_COST: usize = REDIRECT_PLACE + REDIRECT_WIDTH;
 
 // What an announcement says of its rule: who announces it, and the actions.
 pub struct Head {
-    pub originator: u32,
+    pub origin: Origin,
     pub actions: Actions,
 }
 
@@ -127,7 +128,7 @@ pub fn write_record(table: &mut [u8], at: usize, head: Head, value: &[u8])
     ];
     let numbers = [
         value.len() as u64,
-        head.originator as u64,
+        head.origin.originator as u64,
         values[0],
         values[1],
         values[2],

@@ -8,6 +8,7 @@ use Rattle.rule.specs.declared.Family.{Family}
 use Rattle.rule.specs.declared.Reading.{Reading}
 use Rattle.rule.specs.declared.Reading.the-variants.{Rule, Refused as NotRead}
 use Rattle.rule.specs.Reading.{valueOf}
+use Rattle.route.specs.declared.Origin.{Origin}
 use Rattle.flowspec.specs.declared.Feasibility.{Feasibility}
 use Rattle.flowspec.specs.declared.Feasibility.the-variants.{Refused}
 use Rattle.request.specs.Input.{Policy}
@@ -18,21 +19,21 @@ use Rattle.flowspec.specs.Promise.{JudgesOne}
 use Rattle.flowspec.proofs.ToldLaws.{judge-tells}
 
 -- a promise from the equation for the answer
-kept : (family : Family) (policy : Policy) (rule : List ℕ) (originator : ℕ) (answer : Feasibility) → answer ≡ judgement family policy rule originator
-    → JudgesOne family policy rule originator answer (policy .routes ∷ rule ∷ [])
-kept family policy rule originator answer e =
-    record { is = e; tells = ap feasibilityTold e ∙ judge-tells family policy rule originator; keeps = refl }
+kept : (family : Family) (policy : Policy) (rule : List ℕ) (origin : Origin) (answer : Feasibility) → answer ≡ judgement family policy rule origin
+    → JudgesOne family policy rule origin answer (policy .routes ∷ rule ∷ [])
+kept family policy rule origin answer e =
+    record { is = e; tells = ap feasibilityTold e ∙ judge-tells family policy rule origin; keeps = refl }
 
-module _ (family : Family) (policy : Policy) (rule : List ℕ) (originator : ℕ) (reading : Reading)
+module _ (family : Family) (policy : Policy) (rule : List ℕ) (origin : Origin) (reading : Reading)
     (read : reading ≡ readWithRoutes family (policy .routes) rule) where
   pub judge-refused : (number place : ℕ) → reading ≡ NotRead number place
-      → JudgesOne family policy rule originator (Refused number place) (policy .routes ∷ rule ∷ [])
+      → JudgesOne family policy rule origin (Refused number place) (policy .routes ∷ rule ∷ [])
   unfolding judgement
-  judge-refused number place e = kept family policy rule originator _ (rw (← read, e))
+  judge-refused number place e = kept family policy rule origin _ (rw (← read, e))
 
   pub judge-read : (start size : ℕ) (feasibly : Bool) (answer : Feasibility) → reading ≡ Rule start size
-      → feasibly ≡ isFeasible family policy (valueOf rule start (start + size - start)) originator → answer ≡ feasibilityOf feasibly
-      → JudgesOne family policy rule originator answer (policy .routes ∷ rule ∷ [])
+      → feasibly ≡ isFeasible family policy (valueOf rule start (start + size - start)) origin → answer ≡ feasibilityOf feasibly
+      → JudgesOne family policy rule origin answer (policy .routes ∷ rule ∷ [])
   unfolding judgement
   judge-read start size feasibly answer e f a =
-      kept family policy rule originator answer (a ∙ rw (← read, e, f, add-sub-cancel-left start size))
+      kept family policy rule origin answer (a ∙ rw (← read, e, f, add-sub-cancel-left start size))

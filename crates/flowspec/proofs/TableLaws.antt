@@ -95,7 +95,7 @@ module _ (family chosen : Family) (chose : chosen ≡ family) (policy : Policy) 
       announce-requires fits = (was-ready chosen t s is fits used e, rw (add-sub-cancel-left start size) (announce-rule .accepted))
 
       pub announce-done : (told : Answer) (answer : Change) (exit : List ℕ)
-          → Leaves (changed chosen t (announce (entryFor (record { originator = a .originator; actions = actions }) (plain chosen (take (start + size - start) (drop start (a .rule))))) feasible)) told exit
+          → Leaves (changed chosen t (announce (entryFor (record { origin = a .origin; actions = actions }) (plain chosen (take (start + size - start) (drop start (a .rule))))) feasible)) told exit
           → answer ≡ changeOf (told .number) → Announces family policy a t answer exit (policy .routes ∷ a .rule ∷ a .communities ∷ [])
       unfolding announcing
       announce-done told answer exit h says =

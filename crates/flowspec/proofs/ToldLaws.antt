@@ -25,6 +25,7 @@ use Rattle.action.specs.declared.Reading.{Reading as ActionsReading}
 use Rattle.action.specs.declared.Reading.the-variants.{Read, Unsound}
 use Rattle.action.specs.Actions.{noActions, actionsOf, flagsOf, valuesOf}
 use Rattle.entry.specs.Entry.{Entry}
+use Rattle.route.specs.declared.Origin.{Origin}
 use Rattle.route.specs.Route.{soundRoutes}
 use Rattle.packet.specs.Packet.{isUnusable, fieldsOf, packetOf}
 use Rattle.lookup.specs.declared.Verdict.{Verdict}
@@ -129,20 +130,20 @@ actions-tells communities = go (actionsOf communities)
 
 -- ---- judging ----
 
-pub judge-tells : (family : Family) (policy : Policy) (rule : List ℕ) (originator : ℕ)
-    → feasibilityTold (judgement family policy rule originator) ≡ told (judgeChecks family policy rule originator) []
+pub judge-tells : (family : Family) (policy : Policy) (rule : List ℕ) (origin : Origin)
+    → feasibilityTold (judgement family policy rule origin) ≡ told (judgeChecks family policy rule origin) []
 unfolding judgement readWithRoutes
-judge-tells family policy rule originator =
+judge-tells family policy rule origin =
     by-test (soundRoutes family (policy .routes))
-    (λ s. rw s (go (oneRule family rule) refl ∙ sym (read-first family rule (check (isFeasible family policy (valueIn rule) originator) 8 ∷ []) [])))
+    (λ s. rw s (go (oneRule family rule) refl ∙ sym (read-first family rule (check (isFeasible family policy (valueIn rule) origin) 8 ∷ []) [])))
     (λ s. rw s)
   where
-    go : (r : Reading) → oneRule family rule ≡ r → feasibilityTold (judgeRead family policy rule originator r)
-        ≡ afterReading r 0 (told (check (isFeasible family policy (valueIn rule) originator) 8 ∷ []) [])
+    go : (r : Reading) → oneRule family rule ≡ r → feasibilityTold (judgeRead family policy rule origin r)
+        ≡ afterReading r 0 (told (check (isFeasible family policy (valueIn rule) origin) 8 ∷ []) [])
     go (NotRead number place) e = refl
     go (Rule start size) e =
         let v = read-value family rule start size e in
-        rw (v .0, v .1) (by-test (isFeasible family policy (valueIn rule) originator) (λ h. rw h) (λ h. rw h))
+        rw (v .0, v .1) (by-test (isFeasible family policy (valueIn rule) origin) (λ h. rw h) (λ h. rw h))
 
 -- ---- announcing ----
 
@@ -151,7 +152,7 @@ module _ (family : Family) (policy : Policy) (a : Announcement) (t : List ℕ) w
   abbrev behindRule : ActionsReading → List Check
   behindRule c =
       check (isSound c) 13
-      ∷ check (isFeasible family policy (valueIn (a .rule)) (a .originator)) 8
+      ∷ check (isFeasible family policy (valueIn (a .rule)) (a .origin)) 8
       ∷ check (hasRoom family t (announcedEntry family a (fieldSize (a .rule)) (fieldLength (a .rule)) (actionsRead c))) 11
       ∷ []
 
@@ -172,7 +173,7 @@ module _ (family : Family) (policy : Policy) (a : Announcement) (t : List ℕ) w
           let v = read-value family (a .rule) start size e in
           let entry = announcedEntry family a (fieldSize (a .rule)) (fieldLength (a .rule)) actions in
           rw (v .0, v .1)
-          (by-test (isFeasible family policy (valueIn (a .rule)) (a .originator))
+          (by-test (isFeasible family policy (valueIn (a .rule)) (a .origin))
           (λ f. by-test (hasRoom family t entry) (λ h. rw (f, h, changed-room family t entry h)) (λ h. rw (f, h, changed-no-room family t entry h)))
           (λ f. rw (f, changed-infeasible family t entry)))
 

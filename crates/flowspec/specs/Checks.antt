@@ -21,6 +21,7 @@ use Rattle.action.specs.declared.Actions.{Actions}
 use Rattle.action.specs.declared.Reading.{Reading as ActionsReading}
 use Rattle.action.specs.declared.Reading.the-variants.{Read, Unsound}
 use Rattle.action.specs.Actions.{noActions, actionsOf, valuesOf}
+use Rattle.route.specs.declared.Origin.{Origin}
 use Rattle.route.specs.Route.{soundRoutes}
 use Rattle.packet.specs.Packet.{isUnusable, fieldsOf}
 use Rattle.entry.specs.Entry.{Entry}
@@ -111,12 +112,12 @@ abbrev pub actionsValues : List ℕ → List ℕ
 actionsValues communities = valuesOf (actionsRead (actionsOf communities))
 
 -- 01: "feasibility alone 9, 1 to 7, 15, 8".
-abbrev pub judgeChecks : Family → Policy → List ℕ → ℕ → List Check
-judgeChecks family policy rule originator =
+abbrev pub judgeChecks : Family → Policy → List ℕ → Origin → List Check
+judgeChecks family policy rule origin =
     check (soundRoutes family (policy .routes)) 9
     ∷ oneToSeven (checkRule family rule)
     ∷ check (endsThere rule) 15
-    ∷ check (isFeasible family policy (valueIn rule) originator) 8
+    ∷ check (isFeasible family policy (valueIn rule) origin) 8
     ∷ []
 
 -- The entry that an announcement asks for, by its octets as read; it counts only where all checks before it hold.
@@ -132,7 +133,7 @@ announceChecks family policy a table =
     ∷ oneToSeven (checkRule family (a .rule))
     ∷ check (endsThere (a .rule)) 15
     ∷ check (isSound (actionsOf (a .communities))) 13
-    ∷ check (isFeasible family policy (valueIn (a .rule)) (a .originator)) 8
+    ∷ check (isFeasible family policy (valueIn (a .rule)) (a .origin)) 8
     ∷ check (hasRoom family table (entryIn family a)) 11
     ∷ []
 

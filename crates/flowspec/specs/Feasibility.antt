@@ -6,6 +6,7 @@ use Rattle.rule.specs.declared.Family.{Family}
 use Rattle.rule.specs.declared.Reading.{Reading}
 use Rattle.rule.specs.declared.Reading.the-variants.{Rule, Refused as NotRead}
 use Rattle.rule.specs.Reading.{valueOf}
+use Rattle.route.specs.declared.Origin.{Origin}
 use Rattle.request.specs.Judging.{readWithRoutes, isFeasible}
 use Rattle.flowspec.specs.declared.Feasibility.{Feasibility}
 use Rattle.flowspec.specs.declared.Feasibility.the-variants.{Feasible, Refused}
@@ -17,10 +18,10 @@ feasibilityOf true = Feasible
 feasibilityOf false = Refused 8 0
 
 -- A rule that was refused is refused so; a rule that was read is judged.
-abbrev pub judgeRead : Family → Policy → List ℕ → ℕ → Reading → Feasibility
-judgeRead family policy rule originator (NotRead number place) = Refused number place
-judgeRead family policy rule originator (Rule start size) = feasibilityOf (isFeasible family policy (valueOf rule start size) originator)
+abbrev pub judgeRead : Family → Policy → List ℕ → Origin → Reading → Feasibility
+judgeRead family policy rule origin (NotRead number place) = Refused number place
+judgeRead family policy rule origin (Rule start size) = feasibilityOf (isFeasible family policy (valueOf rule start size) origin)
 
 -- 01: "feasibility alone 9, 1 to 7, 15, 8".
-unfoldable pub judgement : Family → Policy → List ℕ → ℕ → Feasibility
-judgement family policy rule originator = judgeRead family policy rule originator (readWithRoutes family (policy .routes) rule)
+unfoldable pub judgement : Family → Policy → List ℕ → Origin → Feasibility
+judgement family policy rule origin = judgeRead family policy rule origin (readWithRoutes family (policy .routes) rule)

@@ -14,6 +14,7 @@ use Rattle.spelling.specs.declared.Writing.{Writing}
 use Rattle.rule.specs.Reading.{oneRule}
 use Rattle.spelling.specs.Writing.{writing, afterWriting}
 use Rattle.order.specs.declared.Comparison.{Comparison}
+use Rattle.route.specs.declared.Origin.{Origin}
 use Rattle.action.specs.declared.Reading.{Reading as ActionsReading}
 use Rattle.action.specs.Actions.{actionsOf}
 use Rattle.flowspec.specs.declared.Feasibility.{Feasibility}
@@ -50,10 +51,10 @@ pub record ComparesTwo (family : Family) (first second : List ℕ) (answer : Com
   pub keeps : kept ≡ first ∷ second ∷ []
 
 -- Judging one rule: refusals 9, 1 to 7, 15, 8.
-pub record JudgesOne (family : Family) (policy : Policy) (rule : List ℕ) (originator : ℕ)
+pub record JudgesOne (family : Family) (policy : Policy) (rule : List ℕ) (origin : Origin)
     (answer : Feasibility) (kept : List (List ℕ)) : Type 0 where
-  pub is : answer ≡ judgement family policy rule originator
-  pub tells : feasibilityTold answer ≡ told (judgeChecks family policy rule originator) []
+  pub is : answer ≡ judgement family policy rule origin
+  pub tells : feasibilityTold answer ≡ told (judgeChecks family policy rule origin) []
   pub keeps : kept ≡ policy .routes ∷ rule ∷ []
 
 -- Reading actions: refusal 13.

@@ -13,6 +13,8 @@ use lookup::Opening;
 use lookup::Verdict;
 use order::Comparison;
 use request::Request;
+use route::Origin;
+use route::Settings;
 use rule::AddressFamily;
 use rule::Reading;
 use spelling::Writing;
@@ -77,15 +79,15 @@ fn feasibility_of(feasible: bool) -> Feasibility
     }
 }
 
-// Judges whether a rule is feasible for an originator by the lent routes.
+// Judges whether a rule is feasible for an origin by the lent routes.
 pub fn judge_rule(
     family: AddressFamily,
-    allows_no_destination: bool,
+    settings: Settings,
     routes: &[u32],
     rule: &[u8],
-    originator: u32,
+    origin: Origin,
 ) -> Feasibility
-    ensures { λ r. ⌜ JudgesOne (familyOf family) (policyOf (now (routes .entry)) «allows_no_destination») (now (rule .entry)) originator r (now (routes .exit) ∷ now (rule .exit) ∷ []) ⌝ }
+    ensures { λ r. ⌜ JudgesOne (familyOf family) (policyOf (now (routes .entry)) settings) (now (rule .entry)) origin r (now (routes .exit) ∷ now (rule .exit) ∷ []) ⌝ }
 {
     match request::read_with_routes(family, routes, rule) {
         Reading::Refused { number, place } => Feasibility::Refused { number, place },
@@ -93,10 +95,10 @@ pub fn judge_rule(
             let end = start + size;
             feasibility_of(request::is_feasible(
                 family,
-                allows_no_destination,
+                settings,
                 routes,
                 &rule[start..end],
-                originator,
+                origin,
             ))
         }
     }
@@ -123,13 +125,13 @@ fn change_of(number: u8) -> Change
 pub fn announce(
     family: AddressFamily,
     table: &mut [u8],
-    allows_no_destination: bool,
+    settings: Settings,
     routes: &[u32],
     rule: &[u8],
-    originator: u32,
+    origin: Origin,
     communities: &[u8],
 ) -> Change
-    ensures { λ r. ⌜ Announces (familyOf family) (policyOf (now (routes .entry)) «allows_no_destination») (announcementOf (now (rule .entry)) originator (now (communities .entry))) (now (table .entry)) r (now (table .exit)) (now (routes .exit) ∷ now (rule .exit) ∷ now (communities .exit) ∷ []) ⌝ }
+    ensures { λ r. ⌜ Announces (familyOf family) (policyOf (now (routes .entry)) settings) (announcementOf (now (rule .entry)) origin (now (communities .entry))) (now (table .entry)) r (now (table .exit)) (now (routes .exit) ∷ now (rule .exit) ∷ now (communities .exit) ∷ []) ⌝ }
 {
     let chosen = rule::family_of(family);
     match table::sound_table(chosen, table) {
@@ -139,10 +141,10 @@ pub fn announce(
         },
         Soundness::Sound(used) => match request::request_of(
             family,
-            allows_no_destination,
+            settings,
             routes,
             rule,
-            originator,
+            origin,
             communities,
         ) {
             Request::Refused { number, place } => Change::Refused { number, place },
@@ -153,10 +155,7 @@ pub fn announce(
                 feasible,
             } => {
                 let end = start + size;
-                let head = Head {
-                    originator,
-                    actions,
-                };
+                let head = Head { origin, actions };
                 let answer = table::announce_value(
                     chosen,
                     table,

@@ -68,7 +68,7 @@ module _ (family : Family) (policy : Policy) where
       rw e (record { can = can .0; lent = same .0; about = both (counts (operationMade family m) (numberOf m)) (isAbout keyOrder (entryKey family) k (operationMade family m)) e .1 })) (λ e. rw e settled))
 
   -- announcements of one rule by one originator with the same actions as read leave the same in force
-  module _ (k : RuleKey) (a b : Announcement) (o : Octets (a .rule)) (p : Octets (b .rule)) (founders : a .originator ≡ b .originator)
+  module _ (k : RuleKey) (a b : Announcement) (o : Octets (a .rule)) (p : Octets (b .rule)) (founders : a .origin ≡ b .origin)
       (read : actionsOf (a .communities) ≡ actionsOf (b .communities)) where
     same-announced : Fits family → (q r : Request) → requestOf family policy a ≡ q → requestOf family policy b ≡ r → isAbout keyOrder (entryKey family) k (announceOperation family a q) ≡ true
         → isAbout keyOrder (entryKey family) k (announceOperation family b r) ≡ true → inForce (announceOperation family a q) ≡ inForce (announceOperation family b r)
@@ -87,7 +87,7 @@ module _ (family : Family) (policy : Policy) where
         (one-read family (b .rule) from extent (two .read) .accepted) (sym first ∙ second) in
         let reads : Read actions ≡ Read acts = sym (one .acts) ∙ read ∙ two .acts in
         let same : actions ≡ acts = cc in
-        let judged : good ≡ fine = one .is ∙ feasible-alone family fits policy value other (a .originator) v w values ∙ rw founders (sym (two .is)) in
+        let judged : good ≡ fine = one .is ∙ feasible-alone family fits policy value other (a .origin) v w values ∙ rw founders (sym (two .is)) in
         rw (judged, same, values, founders)
 
   none-withdrawn : (rule : List ℕ) (r : Reading) → inForce (withdrawOperation family rule r) ≡ none
@@ -101,7 +101,7 @@ module _ (family : Family) (policy : Policy) where
   same-in-force fits k (withdrawal rule) (withdrawal other) s z e =
       none-withdrawn rule (oneRule family rule) ∙ sym (none-withdrawn other (oneRule family other))
   same-in-force fits k (announcement lent a) (announcement other b) s z e =
-      let founders : a .originator ≡ b .originator = cc in
+      let founders : a .origin ≡ b .origin = cc in
       let read : actionsOf (a .communities) ≡ actionsOf (b .communities) = cc in
       same-announced k a b (s .can .0) (z .can .0) founders read fits (requestOf family lent a) (requestOf family other b)
       (rw (s .lent)) (rw (z .lent)) (s .about) (z .about)

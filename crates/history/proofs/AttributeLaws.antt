@@ -31,7 +31,7 @@ same-append policy [] g same also = also
 same-append policy (m ∷ h) g same also = (same .0, same-append policy h g (same .1) also)
 
 -- what the single calls of an attribute are given
-announced-given : (policy : Policy) (r : Reach) (rules : List (List ℕ)) → r .originator < 2 ^ 32 → Each Octets rules
+announced-given : (policy : Policy) (r : Reach) (rules : List (List ℕ)) → r .origin .originator < 2 ^ 32 → Each Octets rules
     → Each CanBe (map (λ rule. announcement policy (announcementIn r rule)) rules)
 announced-given policy r [] small o = tt
 announced-given policy r (rule ∷ rules) small o = ((o .0, small), announced-given policy r rules small (o .1))

@@ -19,7 +19,7 @@ use Rattle.history.specs.Attributes.{Attribute, reach, unreach, Event, s
 use Rattle.history.proofs.Happens.{made-promised, made-only}
 
 -- what a call is lent by its types is what it can be given
-pub reach-given : (policy : Policy) (r : Reach) → Octets (r .attribute) → r .originator < 2 ^ 32 → AttributeCanBe (reach policy r)
+pub reach-given : (policy : Policy) (r : Reach) → Octets (r .attribute) → r .origin .originator < 2 ^ 32 → AttributeCanBe (reach policy r)
 reach-given policy r o small = (o, small)
 
 pub unreach-given : (attribute : List ℕ) → Octets attribute → AttributeCanBe (unreach attribute)

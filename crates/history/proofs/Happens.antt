@@ -15,7 +15,7 @@ use Rattle.history.specs.History.{Call, announcement, withdrawal, Made, 
 use Rattle.flowspec.proofs.TableLaws.{announce-kept, withdraw-kept}
 
 -- what a call is lent by its types is what it can be given
-pub announcement-given : (policy : Policy) (a : Announcement) → Octets (a .rule) → a .originator < 2 ^ 32 → CanBe (announcement policy a)
+pub announcement-given : (policy : Policy) (a : Announcement) → Octets (a .rule) → a .origin .originator < 2 ^ 32 → CanBe (announcement policy a)
 announcement-given policy a o small = (o, small)
 
 pub withdrawal-given : (rule : List ℕ) → Octets rule → CanBe (withdrawal rule)

@@ -70,7 +70,7 @@ abbrev pub Could : Family → Announcement → Request → Type 0
 Could family a (NoRequest number place) = Unit {0}
 Could family a (Announce start size actions feasible) = possible family (announcedEntry family a start size actions) ≡ true
 
-pub asked-could : (family : Family) (policy : Policy) (a : Announcement) → Octets (a .rule) → a .originator < 2 ^ 32 → Could family a (requestOf family policy a)
+pub asked-could : (family : Family) (policy : Policy) (a : Announcement) → Octets (a .rule) → a .origin .originator < 2 ^ 32 → Could family a (requestOf family policy a)
 asked-could family policy a o small =
     go (requestOf family policy a) refl
   where
@@ -85,7 +85,7 @@ asked-could family policy a o small =
 
 -- one call
 module _ (family : Family) (t : List ℕ) (es : List Entry) (c : Encodes family t es) where
-  same-announcing : (policy : Policy) (a : Announcement) → Octets (a .rule) → a .originator < 2 ^ 32
+  same-announcing : (policy : Policy) (a : Announcement) → Octets (a .rule) → a .origin .originator < 2 ^ 32
       → Same family (length t) (announcing family policy a t) (apply keyOrder (entryKey family) cost (length t) (operationOf family (announcement policy a)) es)
   unfolding announcing
   same-announcing policy a o small =

@@ -89,7 +89,7 @@ module _ (family : Family) (policy : Policy) (a : Announcement) where
       let acts : s .actions ≡ r .actions = cc in
       rw (starts, sizes, acts)
 
-  module _ (o : Octets (a .rule)) (small : a .originator < 2 ^ 32) (t : List ℕ) (octets : Octets t) (left : List ℕ) (kept : List (List ℕ))
+  module _ (o : Octets (a .rule)) (small : a .origin .originator < 2 ^ 32) (t : List ℕ) (octets : Octets t) (left : List ℕ) (kept : List (List ℕ))
       (done : Announces family policy a t Done left kept) where
     stored : Stored t left
     stored = done-stored t left kept done
@@ -149,8 +149,8 @@ same-rule family fits rule other start size begin extent o p found also same =
     let tie : precedence family v w ≡ Ordering·eq = one-order family fits v w first second ∙ rw keys (key-order .same (keysOf family w)) in
     rw (found, also, tie)
 
-module _ (family : Family) (fits : Fits family) (policy : Policy) (a b : Announcement) (o : Octets (a .rule)) (small : a .originator < 2 ^ 32) (p : Octets (b .rule))
-    (little : b .originator < 2 ^ 32) (t : List ℕ) (octets : Octets t) where
+module _ (family : Family) (fits : Fits family) (policy : Policy) (a b : Announcement) (o : Octets (a .rule)) (small : a .origin .originator < 2 ^ 32) (p : Octets (b .rule))
+    (little : b .origin .originator < 2 ^ 32) (t : List ℕ) (octets : Octets t) where
   -- **two announcements of different rules**, done in either order, leave equal octets
   pub announced-either-way : (compareRules family (a .rule) (b .rule) ≡ Same → ⊥) → (first both second all : List ℕ) (k l m n : List (List ℕ))
       → Announces family policy a t Done first k → Announces family policy b first Done both l

@@ -16,7 +16,7 @@ use Rattle.rule.specs.Family.{ipv6}
 use Rattle.rule.proofs.FamilyLaws.{ipv6-fits}
 use Rattle.order.specs.Key.{bodyKey, keyOf, keysOf, RuleKey, keyOrder}
 use Rattle.route.specs.Destination.{destinationFor, destinationAmong, destinationOf}
-use Rattle.route.specs.Feasible.{coveredBy, moreSpecific, longer, matched, bestMatch, undisputed, judged, feasible}
+use Rattle.route.specs.Feasible.{coveredBy, moreSpecific, longer, matched, bestMatch, undisputed, originates, judged, feasible}
 use Rattle.route.specs.Route.{routeAt, routesOf, plainPrefix, rises, rising, soundRoutes, numberInWords, routesFrom}
 use Rattle.action.specs.Actions.{communitiesAt, actionsOf, flagsOf, ofType, smallest, first, ruleActions}
 use Rattle.action.specs.Given.{firstOf, allowed}
@@ -52,7 +52,7 @@ use Rattle.update.specs.Singles.{reachOf}
 use Rattle.flowspec.specs.declared.Change.the-variants.{Refused}
 use Rattle.update.specs.declared.Applied.the-variants.{Refused as NotApplied}
 use Rattle.history.specs.History.{emptyTable}
-use Rattle.history.specs.Worked.{dropping}
+use Rattle.history.specs.Worked.{seven, dropping}
 use Rattle.history.specs.Scene6.{sceneSix, allowing, shifted, shiftedTable}
 use Rattle.history.proofs.Worked.{Computed, Shown, shown}
 
@@ -62,7 +62,7 @@ unfolding
     offsetAt prefixEnd bodyEnd componentAt endsList sizeOf expectedAtStart bodyOf patternAfter operandAfter after withoutReserved
     plainOperator plainOperand plainPattern clearedOctet plainFrom plain fieldSize fieldLength firstRule oneRule componentsFrom
     components checkValue bodyKey keyOf keysOf destinationFor destinationAmong destinationOf coveredBy moreSpecific longer matched bestMatch
-    undisputed judged feasible numberInWords routeAt routesFrom routesOf plainPrefix rises rising soundRoutes ofType smallest first
+    undisputed originates judged feasible numberInWords routeAt routesFrom routesOf plainPrefix rises rising soundRoutes ofType smallest first
     ruleActions communitiesAt actionsOf flagsOf firstOf smallerOf allowed merged couldBe isUnusable ipv6Unusable fragmentData ipv6Fields extensionAt fragmentAt headerAt headersFrom upperLayer upperOctets holdsFor bodyHolds
     fieldMatches fieldsFor bodyCovers componentMatches matches numericHolds bitmaskHolds fieldsOf packetOf groupsFrom groups listHolds
     transportFields plainValue possible writtenFields readFields headNumbers recordOf actionsIn entryOf goodRecord holds
@@ -117,7 +117,7 @@ pub record Beside : Type 0 where
   pub refuses : announcing ipv6 allowing shifted (emptyTable 64) ≡ record { answer = Refused 8 0; table = emptyTable 64 }
   pub sound : soundTable ipv6 shiftedTable ≡ true
   pub removes : announcing ipv6 allowing shifted shiftedTable ≡ record { answer = Refused 8 0; table = emptyTable 64 }
-  pub reachesNone : reaching ipv6 allowing (reachOf (0 ∷ 1 ∷ 133 ∷ 0 ∷ 0 ∷ sceneSix .rule) 7 dropping) (emptyTable 64) (99 ∷ [])
+  pub reachesNone : reaching ipv6 allowing (reachOf (0 ∷ 1 ∷ 133 ∷ 0 ∷ 0 ∷ sceneSix .rule) seven dropping) (emptyTable 64) (99 ∷ [])
       ≡ record { answer = NotApplied 19 0; table = emptyTable 64; words = 99 ∷ [] }
 
 pub beside : Beside
@@ -126,7 +126,7 @@ unfolding
     offsetAt prefixEnd bodyEnd componentAt endsList sizeOf expectedAtStart bodyOf patternAfter operandAfter after withoutReserved
     plainOperator plainOperand plainPattern clearedOctet plainFrom plain fieldSize fieldLength firstRule oneRule componentsFrom
     components checkValue bodyKey keyOf keysOf destinationFor destinationAmong destinationOf coveredBy moreSpecific longer matched bestMatch
-    undisputed judged feasible numberInWords routeAt routesFrom routesOf plainPrefix rises rising soundRoutes ofType smallest first
+    undisputed originates judged feasible numberInWords routeAt routesFrom routesOf plainPrefix rises rising soundRoutes ofType smallest first
     ruleActions communitiesAt actionsOf flagsOf firstOf smallerOf allowed merged couldBe isUnusable ipv6Unusable fragmentData ipv6Fields extensionAt fragmentAt headerAt headersFrom upperLayer upperOctets holdsFor bodyHolds
     fieldMatches fieldsFor bodyCovers componentMatches matches numericHolds bitmaskHolds fieldsOf packetOf groupsFrom groups listHolds
     transportFields plainValue possible writtenFields readFields headNumbers recordOf actionsIn entryOf goodRecord holds

@@ -40,7 +40,7 @@ use Rattle.update.specs.declared.Applied.the-variants.{Done as DoneAll}
 use Rattle.update.specs.Apply.{reaching, unreaching}
 use Rattle.history.specs.History.{Made, announced, withdrew, deedOf, emptyTable, endOf, lastCounted, inForceAfter, SamePolicy, Agree, FromEmpty, HoldsExactly, EndAlike}
 use Rattle.history.specs.Attributes.{reach, unreach, single, endOfEvents, singlesOf, EventsFromEmpty}
-use Rattle.history.specs.Worked.{Scene, dropping, droppingSpelled, drops, marks, entry, otherEntry, owned, foreign, respelled, marked, markedDropped, unrouted, worked, other, bothReached, attributes, standing, rerouted}
+use Rattle.history.specs.Worked.{Scene, seven, dropping, droppingSpelled, drops, marks, entry, otherEntry, owned, foreign, respelled, marked, markedDropped, unrouted, worked, other, bothReached, attributes, standing, rerouted}
 use Rattle.history.proofs.HistoryLaws.{history-holds}
 use Rattle.history.proofs.AgreeLaws.{tie, histories-alike}
 use Rattle.history.proofs.AttributeLaws.{singles-from-empty, lent-events, events-alike}
@@ -210,19 +210,19 @@ module _ (s : Scene) (c : Computed s) where
     aboutOther = isEq (keyOrder k (keysOf (s .family) (s .otherValue)))
 
     last-worked : deedOf (lastCounted (s .family) k (worked s))
-        ≡ cond aboutOther (some withdrew) (cond aboutOne (some (announced 7 (Read drops))) none)
+        ≡ cond aboutOther (some withdrew) (cond aboutOne (some (announced seven (Read drops))) none)
     last-worked =
         rw (c .askedOwned, c .askedForeign, c .askedMarked, c .readOther, c .plainOne, c .plainOther)
         (by-test aboutOther (λ e. rw e) (λ e. by-test aboutOne (λ f. rw (e, f, c .read)) (λ f. rw (e, f))))
 
     last-standing : deedOf (lastCounted (s .family) k (standing s))
-        ≡ cond aboutOther (some withdrew) (cond aboutOne (some (announced 7 (Read drops))) none)
+        ≡ cond aboutOther (some withdrew) (cond aboutOne (some (announced seven (Read drops))) none)
     last-standing =
         rw (c .askedOwned, c .askedDropped, c .readOther, c .plainOne, c .plainOther)
         (by-test aboutOther (λ e. rw e) (λ e. by-test aboutOne (λ f. rw (e, f, c .read)) (λ f. rw (e, f))))
 
     last-other : deedOf (lastCounted (s .family) k (other s))
-        ≡ cond aboutOne (some (announced 7 (Read drops))) (cond aboutOther (some withdrew) none)
+        ≡ cond aboutOne (some (announced seven (Read drops))) (cond aboutOther (some withdrew) none)
     last-other =
         rw (c .askedSpelled, c .readOther, c .plainSpelled, c .plainOther)
         (by-test aboutOne (λ e. rw (e, c .readSpelled)) (λ e. by-test aboutOther (λ f. rw (e, f)) (λ f. rw (e, f))))

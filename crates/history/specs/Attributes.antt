@@ -68,7 +68,7 @@ standsFor family attribute (Refused number place) = []
 
 -- What is asked of what a call is given, and holds by the types of what it is lent: a reach is octets, and its originator has 32 bits.
 abbrev pub AttributeCanBe : Attribute → Type 0
-AttributeCanBe (reach policy r) = Octets (r .attribute) × (r .originator < 2 ^ 32)
+AttributeCanBe (reach policy r) = Octets (r .attribute) × (r .origin .originator < 2 ^ 32)
 AttributeCanBe (unreach attribute) = Unit {0}
 
 -- The same of a single call or a whole attribute.

@@ -16,6 +16,7 @@ use Rattle.rule.specs.declared.Reading.{Reading}
 use Rattle.rule.specs.declared.Reading.the-variants.{Rule, Refused as NotRead}
 use Rattle.spelling.specs.Plain.{plain}
 use Rattle.rule.specs.Reading.{valueOf, oneRule}
+use Rattle.route.specs.declared.Origin.{Origin}
 use Rattle.order.specs.Key.{RuleKey, keysOf, keyOrder}
 use Rattle.action.specs.declared.Reading.{Reading as ActionsReading}
 use Rattle.action.specs.Actions.{actionsOf}
@@ -66,22 +67,22 @@ numberOf m = changeTold (m .answer) .number
 -- What is asked of what a call is given, and holds by the types of what it is lent: an announced rule is octets, and an originator has 32
 -- bits.
 abbrev pub CanBe : Call → Type 0
-CanBe (announcement policy a) = Octets (a .rule) × (a .originator < 2 ^ 32)
+CanBe (announcement policy a) = Octets (a .rule) × (a .origin .originator < 2 ^ 32)
 CanBe (withdrawal rule) = Unit {0}
 
 -- What every call of a history is given.
 abbrev pub EachCanBe : List Made → Type 0
 EachCanBe = Each (λ m. CanBe (m .call))
 
--- What two histories compare of a call: its kind and, of an announcement, the originator and the actions as read. The rule's spelling,
+-- What two histories compare of a call: its kind and, of an announcement, its origin and the actions as read. The rule's spelling,
 -- the communities' octets and the answer are not compared, and that both were lent one policy is a premise of its own (`SamePolicy`).
 pub data Deed : Type 0 where
-  announced : ℕ → ActionsReading → Deed
+  announced : Origin → ActionsReading → Deed
   withdrew : Deed
 
 -- What is compared of a call.
 abbrev pub deed : Call → Deed
-deed (announcement policy a) = announced (a .originator) (actionsOf (a .communities))
+deed (announcement policy a) = announced (a .origin) (actionsOf (a .communities))
 deed (withdrawal rule) = withdrew
 
 -- The same of a call that was made, if there is one.

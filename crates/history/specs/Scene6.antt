@@ -1,12 +1,12 @@
 -- A scene of IPv6 (Worked.antt), in a buffer of 112 octets: two rules to one network that differ in the offset of their source; and, beside
 -- it, a rule whose destination has an offset, which is infeasible whatever the setting.
 use Prim.Native.Nat.{ℕ}
-use mathlib.Core.Bool.{false, true}
+use mathlib.Core.Bool.{true}
 use mathlib.Core.List.{List, [], _∷_, _++_}
 use lib.ListN.{replicate}
 use Rattle.rule.specs.Family.{ipv6}
 use Rattle.request.specs.Input.{Announcement, Policy, announcementOf, policyOf}
-use Rattle.history.specs.Worked.{Scene, dropping}
+use Rattle.history.specs.Worked.{Scene, strict, seven, dropping}
 
 -- The words of the route 2001:db8::/32 to originator 7, over neighbour AS 64500.
 abbrev pub routeSix : List ℕ
@@ -47,7 +47,7 @@ sceneSix =
     record {
       family = ipv6;
       size = 112;
-      policy = policyOf routeSix false;
+      policy = policyOf routeSix strict;
       value = hostValue;
       rule = 22 ∷ hostValue;
       spelled = hostSpelled;
@@ -69,10 +69,10 @@ shiftedValue = 0x01 ∷ 0x80 ∷ 0x40 ∷ replicate 7 0 ++ (0x01 ∷ [])
 
 -- The same announced, where rules with no destination are allowed.
 abbrev pub shifted : Announcement
-shifted = announcementOf (11 ∷ shiftedValue) 7 dropping
+shifted = announcementOf (11 ∷ shiftedValue) seven dropping
 
 abbrev pub allowing : Policy
-allowing = policyOf routeSix true
+allowing = policyOf routeSix (record { «allows_no_destination» = true })
 
 -- A table of 64 octets with that rule, which no call leaves: it is made.
 abbrev pub shiftedTable : List ℕ

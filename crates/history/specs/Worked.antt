@@ -6,6 +6,8 @@ use Prim.Native.Nat.{ℕ}
 use mathlib.Core.Bool.{false}
 use mathlib.Core.List.{List, [], _∷_}
 use Rattle.rule.specs.declared.Family.{Family}
+use Rattle.route.specs.declared.Origin.{Origin}
+use Rattle.route.specs.declared.Settings.{Settings}
 use Rattle.action.specs.declared.Actions.{Actions}
 use Rattle.action.specs.Given.{given}
 use Rattle.action.specs.Limit.{limit}
@@ -42,6 +44,18 @@ pub record Scene : Type 0 where
   pub met : List ℕ
   pub missed : List ℕ
 
+-- Rules with no destination are not allowed.
+abbrev pub strict : Settings
+strict = record { «allows_no_destination» = false }
+
+-- Who announces both rules.
+abbrev pub seven : Origin
+seven = record { originator = 7 }
+
+-- Somebody else.
+abbrev pub eight : Origin
+eight = record { originator = 8 }
+
 -- A byte rate of 0.
 abbrev pub dropping : List ℕ
 dropping = 0x80 ∷ 0x06 ∷ 0 ∷ 0 ∷ 0 ∷ 0 ∷ 0 ∷ 0 ∷ []
@@ -69,35 +83,35 @@ made call answer left = record { call = call; answer = answer; left = left }
 module _ (s : Scene) where
   -- The one rule as the table holds it.
   abbrev pub entry : Entry
-  entry = record { originator = 7; actions = drops; value = s .value }
+  entry = record { origin = seven; actions = drops; value = s .value }
 
   -- The other rule as the table holds it.
   abbrev pub otherEntry : Entry
-  otherEntry = record { originator = 7; actions = marks; value = s .otherValue }
+  otherEntry = record { origin = seven; actions = marks; value = s .otherValue }
 
   -- The one rule announced by its originator.
   abbrev pub owned : Announcement
-  owned = announcementOf (s .rule) 7 dropping
+  owned = announcementOf (s .rule) seven dropping
 
   -- The same announced by another.
   abbrev pub foreign : Announcement
-  foreign = announcementOf (s .rule) 8 dropping
+  foreign = announcementOf (s .rule) eight dropping
 
   -- The same announced in the other spelling.
   abbrev pub respelled : Announcement
-  respelled = announcementOf (s .spelled) 7 droppingSpelled
+  respelled = announcementOf (s .spelled) seven droppingSpelled
 
   -- The other rule announced.
   abbrev pub marked : Announcement
-  marked = announcementOf (s .otherRule) 7 marking
+  marked = announcementOf (s .otherRule) seven marking
 
   -- The other rule announced to be dropped too.
   abbrev pub markedDropped : Announcement
-  markedDropped = announcementOf (s .otherRule) 7 dropping
+  markedDropped = announcementOf (s .otherRule) seven dropping
 
   -- No route is left, and rules with no destination are not allowed.
   abbrev pub unrouted : Policy
-  unrouted = policyOf [] false
+  unrouted = policyOf [] strict
 
   -- The first history.
   abbrev pub worked : List Made
@@ -118,7 +132,7 @@ module _ (s : Scene) where
 
   -- Both rules in one reach, both to be dropped.
   abbrev pub bothReached : Reach
-  bothReached = reachOf (s .reachedBoth) 7 dropping
+  bothReached = reachOf (s .reachedBoth) seven dropping
 
   -- The third: both are announced by the reach, lent three answer words, and the other is withdrawn by the unreach.
   abbrev pub attributes : List Event

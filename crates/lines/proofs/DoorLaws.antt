@@ -2,7 +2,6 @@
 -- withdrawal, each printing its answer, and any other line not at all. So what is shown of histories at the door (crate history), which
 -- have one list of routes throughout, is shown of the program's table where its route lines come first. Assumes nothing.
 use mathlib.Core.Path.{_≡_, refl, ap, _∙_}
-use mathlib.Core.Bool.{false}
 use mathlib.Core.List.{List, [], _∷_}
 use Prim.Native.Nat.{ℕ}
 use lib.ListN.{take}
@@ -18,7 +17,7 @@ use Rattle.text.specs.Print.{laid}
 use Rattle.lines.specs.declared.Served.{Served}
 use Rattle.line.specs.Line.{Line, route, announce, withdraw, list, other, lineOf}
 use Rattle.answers.specs.Answer.{changeText}
-use Rattle.lines.specs.Serve.{Serving, routeFits, servedAs, served}
+use Rattle.lines.specs.Serve.{Serving, routeFits, settingOff, originOf, servedAs, served}
 use Rattle.lines.specs.Promise.{Serves}
 
 -- an answer that is printed, and that a promise is kept with
@@ -42,10 +41,10 @@ module _ (line : List ℕ) (used : ℕ) (routes table out : List ℕ) (answer : 
   says l e = rw e
 
   pub announced-at-door : (rule : List ℕ) (originator : ℕ) (communities : List ℕ) → lineOf line ≡ announce rule originator communities
-      → AtDoor (λ change. Announces ipv4 (policyOf (take used routes) false) (announcementOf rule originator communities) table change tableExit (take used routes ∷ rule ∷ communities ∷ [])) out outExit
+      → AtDoor (λ change. Announces ipv4 (policyOf (take used routes) settingOff) (announcementOf rule (originOf originator) communities) table change tableExit (take used routes ∷ rule ∷ communities ∷ [])) out outExit
   announced-at-door rule originator communities e =
-      let policy = policyOf (take used routes) false in
-      let a = announcementOf rule originator communities in
+      let policy = policyOf (take used routes) settingOff in
+      let a = announcementOf rule (originOf originator) communities in
       let is = says (announce rule originator communities) e in
       record {
         answer = announcing ipv4 policy a table .answer;

@@ -28,7 +28,7 @@ use Rattle.line.specs.declared.Form.{Form}
 use Rattle.line.specs.declared.Form.the-variants.{Route, Announce, Withdraw, Listing, Unknown}
 use Rattle.line.specs.Line.{Line, other, lineOf, mostSigns}
 use Rattle.line.specs.Form.{formSays, FormIn, Says}
-use Rattle.lines.specs.Serve.{Serving, mostWords, routeFits, printing, changing, adding, servedAs, served, Changes, Adds, servedTold}
+use Rattle.lines.specs.Serve.{Serving, mostWords, routeFits, printing, changing, adding, settingOff, originOf, servedAs, served, Changes, Adds, servedTold}
 use Rattle.lines.specs.Promise.{Serves}
 use Rattle.line.proofs.CutLaws.{too-long}
 
@@ -147,10 +147,10 @@ module _ (line : List ℕ) (used : ℕ) (routes table out : List ℕ) (form : Fo
 
   module _ (rule ruleEnd originator communities : ℕ) (is : form ≡ Announce rule ruleEnd originator communities) where
     pub serve-announced : (count printed : ℕ) (t x : List ℕ) → count ≡ min used (length routes)
-        → Changes (announcing ipv4 (policyOf (take count routes) false) (announcementOf (octetsIn (between line rule ruleEnd)) originator (octetsIn (between line communities (length line)))) table) out printed t x
+        → Changes (announcing ipv4 (policyOf (take count routes) settingOff) (announcementOf (octetsIn (between line rule ruleEnd)) (originOf originator) (octetsIn (between line communities (length line)))) table) out printed t x
         → Serves line used routes table out (record { printed = printed; used = used }) routes t x (line ∷ [])
     serve-announced count printed t x e c =
-        serves (changing (announcing ipv4 (policyOf (take count routes) false) (announcementOf (octetsIn (between line rule ruleEnd)) originator (octetsIn (between line communities (length line)))) table) used routes)
+        serves (changing (announcing ipv4 (policyOf (take count routes) settingOff) (announcementOf (octetsIn (between line rule ruleEnd)) (originOf originator) (octetsIn (between line communities (length line)))) table) used routes)
         (served-as (Announce rule ruleEnd originator communities) is ∙ rw (in-use used count routes e)) _ _ _ _
         (λ i. record { printed = c .prints .1 i; used = used }) refl (c .leaves) (c .prints .0) (answer-fits _ _ (c .prints .2))
 

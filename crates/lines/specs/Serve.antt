@@ -7,6 +7,8 @@ use lib.Dec.{leb}
 use lib.ListN.{length, take}
 use Rattle.octets.specs.Store.{stored}
 use Rattle.rule.specs.Family.{ipv4}
+use Rattle.route.specs.declared.Origin.{Origin}
+use Rattle.route.specs.declared.Settings.{Settings}
 use Rattle.route.specs.Route.{mostRoutes}
 use Rattle.request.specs.Input.{announcementOf, policyOf}
 use Rattle.flowspec.specs.Announce.{announcing, withdrawing, Outcome}
@@ -48,12 +50,19 @@ adding words used routes table =
     (record { text = []; used = used + ipv4 .words; routes = stored routes used words; table = table })
     (printing unknownText used routes table)
 
--- What a line says is done. 01: "the setting is off": a rule with no destination is infeasible. The routes in use are all words where
--- `used` passes the buffer's end.
+-- 01: "the setting is off": a rule with no destination is infeasible.
+abbrev pub settingOff : Settings
+settingOff = record { «allows_no_destination» = false }
+
+-- The origin of a line's announcement, by the number that the line says.
+abbrev pub originOf : ℕ → Origin
+originOf originator = record { originator = originator }
+
+-- What a line says is done. The routes in use are all words where `used` passes the buffer's end.
 abbrev pub servedAs : Line → ℕ → List ℕ → List ℕ → Serving
 servedAs (route address size originator neighbour) used routes table = adding (address ∷ size ∷ originator ∷ neighbour ∷ []) used routes table
 servedAs (announce rule originator communities) used routes table =
-    changing (announcing ipv4 (policyOf (take used routes) false) (announcementOf rule originator communities) table) used routes
+    changing (announcing ipv4 (policyOf (take used routes) settingOff) (announcementOf rule (originOf originator) communities) table) used routes
 servedAs (withdraw rule) used routes table = changing (withdrawing ipv4 rule table) used routes
 servedAs list used routes table = printing (listText table) used routes table
 servedAs other used routes table = printing unknownText used routes table

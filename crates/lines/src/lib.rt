@@ -1,7 +1,6 @@
 // The work on a line of the program, on slices: gathering a line from blocks of input, and serving it by what it says. No public call has
 // a `requires`: whatever it is lent, it answers (specs/Promise.antt).
 ghost use mathlib.Core.Path.{_≡_};
-ghost use mathlib.Core.Bool.{false};
 ghost use mathlib.Core.List.{[], _∷_};
 ghost use Prim.Native.Nat.{_+_, _≤_};
 ghost use lib.ListN.{length};
@@ -10,9 +9,11 @@ ghost use Rattle.request.specs.Input.{announcementOf, policyOf};
 ghost use Rattle.flowspec.specs.Announce.{announcing, withdrawing};
 ghost use Rattle.text.specs.Hex.{octetsIn};
 ghost use Rattle.line.specs.Line.{mostSigns};
-ghost use Rattle.lines.specs.Serve.{routeFits, adding, Changes, Adds};
+ghost use Rattle.lines.specs.Serve.{routeFits, adding, settingOff, originOf, Changes, Adds};
 ghost use Rattle.lines.specs.Promise.{Gathers, Serves};
 use line::Form;
+use route::Origin;
+use route::Settings;
 use rule::AddressFamily;
 
 // The octets that a field of a line spells at most: two digits an octet.
@@ -106,19 +107,23 @@ fn serve_announce(
     out: &mut [u8],
 ) -> usize
     requires { ⌜ (length (now rule) ≤ mostSigns) × (length (now communities) ≤ mostSigns) ⌝ }
-    ensures { λ r. ⌜ Changes (announcing ipv4 (policyOf (now (routes .entry)) false) (announcementOf (octetsIn (now (rule .entry))) originator (octetsIn (now (communities .entry)))) (now (table .entry))) (now (out .entry)) r (now (table .exit)) (now (out .exit)) ⌝ }
+    ensures { λ r. ⌜ Changes (announcing ipv4 (policyOf (now (routes .entry)) settingOff) (announcementOf (octetsIn (now (rule .entry))) (originOf originator) (octetsIn (now (communities .entry)))) (now (table .entry))) (now (out .entry)) r (now (table .exit)) (now (out .exit)) ⌝ }
 {
     let mut octets = [0u8; FIELD_OCTETS];
     let size = text::read_octets(rule, &mut octets);
     let mut actions = [0u8; FIELD_OCTETS];
     let count = text::read_octets(communities, &mut actions);
+    let settings = Settings {
+        allows_no_destination: false,
+    };
+    let origin = Origin { originator };
     let change = flowspec::announce(
         AddressFamily::Ipv4,
         table,
-        false,
+        settings,
         routes,
         &octets[..size],
-        originator,
+        origin,
         &actions[..count],
     );
     answers::put_change(out, change)

@@ -7,13 +7,15 @@ use mathlib.Core.List.{List, [], _∷_, _++_, head?}
 use mathlib.Core.Option.{Option, none, some}
 use Prim.Native.Nat.{ℕ, _+_, _-_, Ordering}
 use native.Mathlib.Omega.{arith}
+use lib.Dec.{leb}
 use lib.ListN.{length, take, drop}
 use Rattle.octets.proofs.Cases.{by-test, apart}
 use Rattle.octets.proofs.Facts.{Octets}
 use Rattle.sorted.specs.Table.{lookup, insert, remove}
-use Rattle.sorted.specs.History.{costs}
+use Rattle.sorted.specs.History.{announce, withdraw, costs, apply}
 use Rattle.sorted.proofs.Cases.{by-order}
 use Rattle.sorted.proofs.MemberLaws.{every-in, found-in}
+use Rattle.sorted.proofs.HistoryLaws.{withdraw-removes}
 use Rattle.rule.specs.declared.Family.{Family}
 use Rattle.rule.specs.Family.{Fits}
 use Rattle.rule.specs.declared.Checked.the-variants.{Accepted}
@@ -27,11 +29,11 @@ use Rattle.entry.specs.Record.{recordOf}
 use Rattle.entry.proofs.ValueLaws.{is-possible}
 use Rattle.table.specs.Walk.{entries}
 use Rattle.table.specs.Sound.{cost, tableOf, Encodes}
-use Rattle.table.specs.Change.{removed, inserted, hasRoom}
+use Rattle.table.specs.Change.{changed}
 use Rattle.table.proofs.SpliceLaws.{table-record}
 use Rattle.table.proofs.SoundLaws.{encodes-entries}
 use Rattle.table.proofs.ChangeLaws.{value-octets}
-use Rattle.table.proofs.LeaveLaws.{removed-encodes, inserted-encodes}
+use Rattle.table.proofs.LeaveLaws.{changed-encodes}
 use Rattle.lookup.specs.Lookup.{hit, collected, mergedOnto, verdictOf, verdictFor, firstPlace}
 use Rattle.lookup.proofs.LookupLaws.{hit-plain}
 
@@ -179,12 +181,12 @@ module _ (family : Family) (head : List ℕ) (packet : Packet) where
       }
 
   module _ (t : List ℕ) (es : List Entry) (c : Encodes family t es) where
-    -- **so does a table without a rule that is not hit**, by its key
-    pub removed-alike : (k : RuleKey) → ((x : Entry) → lookup keyOrder (entryKey family) k es ≡ some x → hit family head packet x ≡ false)
-        → Alike t (removed family t k)
-    removed-alike k held =
-        same-hits t (removed family t k) es (remove keyOrder (entryKey family) k es) c (removed-encodes family t es c k)
-        (sym (hits-remove (hit family head packet) keyOrder (entryKey family) k es held))
+    -- **so does a table from which a rule that is not hit was withdrawn**
+    pub withdrawn-alike : (k : RuleKey) → ((x : Entry) → lookup keyOrder (entryKey family) k es ≡ some x → hit family head packet x ≡ false)
+        → Alike t (changed family t (withdraw k) .table)
+    withdrawn-alike k held =
+        same-hits t _ es (apply keyOrder (entryKey family) cost (length t) (withdraw k) es .table) c (changed-encodes family t es c (withdraw k) tt)
+        (rw (withdraw-removes keyOrder (entryKey family) cost (length t) k es) (sym (hits-remove (hit family head packet) keyOrder (entryKey family) k es held)))
 
     module _ (fits : Fits family) (octets : Octets t) (e : Entry) (own : Octets (e .value)) where
       -- the entry that a table holds under a rule's key is hit as the rule is: they have one plain spelling
@@ -197,9 +199,10 @@ module _ (family : Family) (head : List ℕ) (packet : Packet) where
           let value = value-octets family t es c k x found octets in
           hit-plain family fits head packet x e value own (keys-only family fits (x .value) (e .value) value own (old .accepted) ok (there .1))
 
-      -- **and a table with a rule that is not hit**: the one that it replaces is then not hit either
-      pub inserted-alike : possible family e ≡ true → hasRoom family t e ≡ true → hit family head packet e ≡ false → Alike t (inserted family t e)
-      inserted-alike ok room missed =
+      -- **and a table to which a rule that is not hit was announced**: the one that it replaces is then not hit either
+      pub announced-alike : possible family e ≡ true → hit family head packet e ≡ false → Alike t (changed family t (announce e true) .table)
+      announced-alike ok missed =
           let accepted = is-possible family e ok .value .accepted in
-          same-hits t (inserted family t e) es (insert keyOrder (entryKey family) e es) c (inserted-encodes family t es c e ok room)
-          (sym (hits-insert (hit family head packet) keyOrder (entryKey family) e es missed (λ x found. held-hit accepted x found ∙ missed)))
+          let same = hits-insert (hit family head packet) keyOrder (entryKey family) e es missed (λ x found. held-hit accepted x found ∙ missed) in
+          same-hits t _ es (apply keyOrder (entryKey family) cost (length t) (announce e true) es .table) c (changed-encodes family t es c (announce e true) ok)
+          (by-test (leb (costs cost (insert keyOrder (entryKey family) e es)) (length t)) (λ h. rw h (sym same)) (λ h. rw h))

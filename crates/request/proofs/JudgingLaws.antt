@@ -10,6 +10,7 @@ use Rattle.rule.specs.declared.Reading.{Reading}
 use Rattle.rule.specs.declared.Reading.the-variants.{Rule, Refused as NotRead}
 use Rattle.rule.specs.Reading.{oneRule}
 use Rattle.rule.proofs.ReadingLaws.{ReadRule, one-read}
+use Rattle.route.specs.declared.Origin.{Origin}
 use Rattle.route.specs.declared.Destination.{Destination}
 use Rattle.route.specs.Route.{routesOf, soundRoutes}
 use Rattle.route.specs.Destination.{destinationIn, destinationOf}
@@ -38,9 +39,9 @@ module _ (family : Family) (words rule : List ℕ) where
   rule-there reading start size is e = one-read family rule start size (with-routes start size (sym is ∙ e))
 
 -- judging a value
-pub value-judged : (family chosen : Family) → chosen ≡ family → (policy : Policy) (value : List ℕ) (originator : ℕ) (destination : Destination) (feasibly : Bool)
+pub value-judged : (family chosen : Family) → chosen ≡ family → (policy : Policy) (value : List ℕ) (origin : Origin) (destination : Destination) (feasibly : Bool)
     → destinationIn destination ≡ destinationOf chosen value
-    → feasibly ≡ feasible (chosen .width) (policy .allowsNoDestination) (destinationIn destination) originator (routesOf chosen (policy .routes))
-    → feasibly ≡ isFeasible family policy value originator
+    → feasibly ≡ feasible (chosen .width) (policy .settings) (destinationIn destination) origin (routesOf chosen (policy .routes))
+    → feasibly ≡ isFeasible family policy value origin
 unfolding isFeasible
-value-judged family chosen chose policy value originator destination feasibly is says = says ∙ rw (← chose, is)
+value-judged family chosen chose policy value origin destination feasibly is says = says ∙ rw (← chose, is)

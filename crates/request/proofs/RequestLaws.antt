@@ -37,7 +37,7 @@ module _ (family : Family) (policy : Policy) (a : Announcement) (reading : Readi
     ask-actions h = rw (← read-is, e, ← acts, h)
 
     pub ask-announce : (read : Actions) (judged : Bool) → actions ≡ Read read
-        → judged ≡ isFeasible family policy (valueOf (a .rule) start (start + size - start)) (a .originator)
+        → judged ≡ isFeasible family policy (valueOf (a .rule) start (start + size - start)) (a .origin)
         → Announce start size read judged ≡ requestOf family policy a
     unfolding requestOf
     ask-announce read judged h j = rw (← read-is, e, ← acts, h, j, add-sub-cancel-left start size)
@@ -46,7 +46,7 @@ module _ (family : Family) (policy : Policy) (a : Announcement) (reading : Readi
 pub record Asked (family : Family) (policy : Policy) (a : Announcement) (start size : ℕ) (actions : Actions) (judged : Bool) : Type 0 where
   pub read : oneRule family (a .rule) ≡ Rule start size
   pub acts : actionsOf (a .communities) ≡ Read actions
-  pub is : judged ≡ isFeasible family policy (valueOf (a .rule) start size) (a .originator)
+  pub is : judged ≡ isFeasible family policy (valueOf (a .rule) start size) (a .origin)
 
 module _ (family : Family) (policy : Policy) (a : Announcement) (start size : ℕ) (actions : Actions) (judged : Bool) where
   pub asked-from : requestOf family policy a ≡ Announce start size actions judged
@@ -64,7 +64,7 @@ module _ (family : Family) (policy : Policy) (a : Announcement) (start size : �
           let starts : begin ≡ start = cc in
           let sizes : extent ≡ size = cc in
           let reads : read ≡ actions = cc in
-          let judges : isFeasible family policy (valueOf (a .rule) begin extent) (a .originator) ≡ judged = cc in
+          let judges : isFeasible family policy (valueOf (a .rule) begin extent) (a .origin) ≡ judged = cc in
           record { read = with-routes family (policy .routes) (a .rule) start size (f ∙ rw (starts, sizes)); acts = g ∙ rw reads; is = sym judges ∙ rw (starts, sizes) }
 
   pub asked-rule : requestOf family policy a ≡ Announce start size actions judged → ReadRule family (a .rule) start size

@@ -6,6 +6,7 @@ use Rattle.rule.specs.declared.Family.{Family}
 use Rattle.rule.specs.declared.Reading.{Reading}
 use Rattle.rule.specs.declared.Reading.the-variants.{Refused as NotRead}
 use Rattle.rule.specs.Reading.{oneRule}
+use Rattle.route.specs.declared.Origin.{Origin}
 use Rattle.route.specs.Route.{routesOf, soundRoutes}
 use Rattle.route.specs.Destination.{destinationOf}
 use Rattle.route.specs.Feasible.{feasible}
@@ -15,7 +16,7 @@ use Rattle.request.specs.Input.{Policy}
 unfoldable pub readWithRoutes : Family → List ℕ → List ℕ → Reading
 readWithRoutes family routes rule = cond (soundRoutes family routes) (oneRule family rule) (NotRead 9 0)
 
--- An accepted value is feasible where its destination is, for this originator and by this policy.
-unfoldable pub isFeasible : Family → Policy → List ℕ → ℕ → Bool
-isFeasible family policy value originator =
-    feasible (family .width) (policy .allowsNoDestination) (destinationOf family value) originator (routesOf family (policy .routes))
+-- An accepted value is feasible where its destination is, for this origin and by this policy.
+unfoldable pub isFeasible : Family → Policy → List ℕ → Origin → Bool
+isFeasible family policy value origin =
+    feasible (family .width) (policy .settings) (destinationOf family value) origin (routesOf family (policy .routes))

@@ -20,14 +20,14 @@ abbrev pub requestFor : Family → Policy → Announcement → Reading → Actio
 requestFor family policy a (NotRead number place) actions = NoRequest number place
 requestFor family policy a (Rule start size) Unsound = NoRequest 13 0
 requestFor family policy a (Rule start size) (Read actions) =
-    Announce start size actions (isFeasible family policy (valueOf (a .rule) start size) (a .originator))
+    Announce start size actions (isFeasible family policy (valueOf (a .rule) start size) (a .origin))
 
 -- What an announcement asks of a table: its rule is read once the routes are found sound (9).
 unfoldable pub requestOf : Family → Policy → Announcement → Request
 requestOf family policy a = requestFor family policy a (readWithRoutes family (policy .routes) (a .rule)) (actionsOf (a .communities))
 
--- The entry that an announcement asks for, once its rule and its actions are read: its originator and actions, and the rule's value in its
+-- The entry that an announcement asks for, once its rule and its actions are read: its origin and actions, and the rule's value in its
 -- plain spelling.
 abbrev pub announcedEntry : Family → Announcement → ℕ → ℕ → Actions → Entry
 announcedEntry family a start size actions =
-    entryFor (record { originator = a .originator; actions = actions }) (plain family (valueOf (a .rule) start size))
+    entryFor (record { origin = a .origin; actions = actions }) (plain family (valueOf (a .rule) start size))

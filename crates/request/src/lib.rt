@@ -7,6 +7,8 @@ ghost use Rattle.request.specs.Input.{announcementOf, policyOf};
 ghost use Rattle.request.specs.Judging.{readWithRoutes, isFeasible};
 ghost use Rattle.request.specs.Request.{requestOf};
 use action::Actions;
+use route::Origin;
+use route::Settings;
 use rule::AddressFamily;
 use rule::Reading;
 
@@ -39,37 +41,31 @@ pub fn read_with_routes(family: AddressFamily, routes: &[u32], rule: &[u8]) -> R
     rule::one_rule(family, rule)
 }
 
-// Whether an accepted value is feasible for an originator by the lent routes.
+// Whether an accepted value is feasible for an origin by the lent routes.
 pub fn is_feasible(
     family: AddressFamily,
-    allows_no_destination: bool,
+    settings: Settings,
     routes: &[u32],
     value: &[u8],
-    originator: u32,
+    origin: Origin,
 ) -> bool
-    ensures { λ r. ⌜ r ≡ isFeasible (familyOf family) (policyOf (now (routes .entry)) «allows_no_destination») (now (value .entry)) originator ⌝ }
+    ensures { λ r. ⌜ r ≡ isFeasible (familyOf family) (policyOf (now (routes .entry)) settings) (now (value .entry)) origin ⌝ }
 {
     let family = rule::family_of(family);
     let destination = route::destination_of(family, value);
-    route::is_feasible(
-        family,
-        allows_no_destination,
-        destination,
-        originator,
-        routes,
-    )
+    route::is_feasible(family, settings, destination, origin, routes)
 }
 
 // Reads and judges an announcement, in the order in which 01 has the checks.
 pub fn request_of(
     family: AddressFamily,
-    allows_no_destination: bool,
+    settings: Settings,
     routes: &[u32],
     rule: &[u8],
-    originator: u32,
+    origin: Origin,
     communities: &[u8],
 ) -> Request
-    ensures { λ r. ⌜ r ≡ requestOf (familyOf family) (policyOf (now (routes .entry)) «allows_no_destination») (announcementOf (now (rule .entry)) originator (now (communities .entry))) ⌝ }
+    ensures { λ r. ⌜ r ≡ requestOf (familyOf family) (policyOf (now (routes .entry)) settings) (announcementOf (now (rule .entry)) origin (now (communities .entry))) ⌝ }
 {
     match read_with_routes(family, routes, rule) {
         Reading::Refused { number, place } => Request::Refused { number, place },
@@ -80,13 +76,7 @@ pub fn request_of(
             },
             action::Reading::Read(actions) => {
                 let end = start + size;
-                let feasible = is_feasible(
-                    family,
-                    allows_no_destination,
-                    routes,
-                    &rule[start..end],
-                    originator,
-                );
+                let feasible = is_feasible(family, settings, routes, &rule[start..end], origin);
                 Request::Announce {
                     start,
                     size,

@@ -1,12 +1,13 @@
 -- Of a destination only its offset, its length and the bits between count: destinations that differ past their length at most are judged
 -- alike. Assumes nothing.
 use mathlib.Core.Path.{_≡_, refl}
-use mathlib.Core.Bool.{Bool}
 use mathlib.Core.List.{List, [], _∷_}
 use Prim.Native.Nat.{ℕ}
 use Rattle.octets.specs.Test.{every}
 use Rattle.prefix.specs.Prefix.{Pattern}
 use Rattle.prefix.proofs.ContainLaws.{Alike, contains-alike, contained-alike}
+use Rattle.route.specs.declared.Origin.{Origin}
+use Rattle.route.specs.declared.Settings.{Settings}
 use Rattle.route.specs.Route.{Route}
 use Rattle.route.specs.Destination.{Destination, Missing, At}
 use Rattle.route.specs.Feasible.{coveredBy, moreSpecific, matched, bestMatch, undisputed, feasible}
@@ -39,11 +40,11 @@ AlikeTo w Missing (At q) = ⊥
 AlikeTo w (At p) Missing = ⊥
 AlikeTo w (At p) (At q) = Alike w p q
 
-pub destinations-alike : (w : ℕ) (allowed : Bool) (d e : Destination) (originator : ℕ) (routes : List Route) → AlikeTo w d e
-    → feasible w allowed d originator routes ≡ feasible w allowed e originator routes
+pub destinations-alike : (w : ℕ) (settings : Settings) (d e : Destination) (origin : Origin) (routes : List Route) → AlikeTo w d e
+    → feasible w settings d origin routes ≡ feasible w settings e origin routes
 unfolding feasible
-destinations-alike w allowed Missing Missing originator routes same = refl
-destinations-alike w allowed Missing (At q) originator routes same = absurd same
-destinations-alike w allowed (At p) Missing originator routes same = absurd same
-destinations-alike w allowed (At p) (At q) originator routes same =
-    judged-alike w p q originator routes routes (best-alike w p q same routes) (undisputed-alike w p q same routes)
+destinations-alike w settings Missing Missing origin routes same = refl
+destinations-alike w settings Missing (At q) origin routes same = absurd same
+destinations-alike w settings (At p) Missing origin routes same = absurd same
+destinations-alike w settings (At p) (At q) origin routes same =
+    judged-alike w p q origin routes routes (best-alike w p q same routes) (undisputed-alike w p q same routes)

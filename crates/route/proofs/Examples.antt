@@ -8,7 +8,7 @@ use Rattle.prefix.specs.Prefix.{bits, coversAddress, contains}
 use Rattle.rule.specs.Family.{ipv4, ipv6}
 use Rattle.route.specs.Route.{numberInWords, routeAt, routesFrom, routesOf, plainPrefix, rises, rising, soundRoutes}
 use Rattle.route.specs.Destination.{Destination, Missing, At}
-use Rattle.route.specs.Feasible.{coveredBy, moreSpecific, longer, matched, bestMatch, undisputed, judged, feasible}
+use Rattle.route.specs.Feasible.{coveredBy, moreSpecific, longer, matched, bestMatch, originates, undisputed, judged, feasible}
 
 -- 192.0.2.0/24 of originator 7 and AS 64500
 abbrev one : List ℕ
@@ -23,7 +23,8 @@ to address length = At (record { offset = 0; length = length; address = address 
 
 -- whether a rule to this destination is feasible by the routes, from an originator
 abbrev by : List ℕ → Bool → Destination → ℕ → Bool
-by words allowed destination originator = feasible 32 allowed destination originator (routesOf ipv4 words)
+by words allowed destination originator =
+    feasible 32 (record { «allows_no_destination» = allowed }) destination (record { originator = originator }) (routesOf ipv4 words)
 
 -- both lists are sound, and not the second before the first, nor one with a word left over, nor a length over 32 or a bit past the length
 pub sounds : (soundRoutes ipv4 []
@@ -53,7 +54,7 @@ pub examples : (by one false (to 0xc0000200 25) 7
     ∷ by two true Missing 7
     ∷ [])
     ≡ true ∷ false ∷ true ∷ false ∷ true ∷ false ∷ false ∷ false ∷ true ∷ []
-unfolding every bits sameList coversAddress contains numberInWords routeAt routesFrom routesOf coveredBy moreSpecific longer matched bestMatch undisputed judged feasible
+unfolding every bits sameList coversAddress contains numberInWords routeAt routesFrom routesOf coveredBy moreSpecific longer matched bestMatch originates undisputed judged feasible
 examples = refl
 
 -- 2001:db8::/32 of originator 7 and AS 64500, and 2001:db8:0:1::/64 of AS 64501
@@ -63,7 +64,8 @@ long = 0x20010db8 ∷ 0 ∷ 0 ∷ 0 ∷ 32 ∷ 7 ∷ 64500 ∷ 0x20010db8 ∷ 1 
 -- whether a rule to these bits of 2001:db8:: is feasible by them
 abbrev widely : ℕ → ℕ → Bool
 widely offset length =
-    feasible 128 true (At (record { offset = offset; length = length; address = 0x20010db8 * 2 ^ 96 })) 7 (routesOf ipv6 long)
+    feasible 128 (record { «allows_no_destination» = true }) (At (record { offset = offset; length = length; address = 0x20010db8 * 2 ^ 96 }))
+    (record { originator = 7 }) (routesOf ipv6 long)
 
 -- the list is sound, with a bit past the length it is not; 2001:db8::/64 is feasible, 2001:db8::/32 is disputed by the other route, and
 -- RFC 8956 section 5: a destination with an offset is infeasible, as no route covers it
@@ -74,5 +76,5 @@ pub longs : (soundRoutes ipv6 long
     ∷ widely 1 64
     ∷ [])
     ≡ true ∷ false ∷ true ∷ false ∷ false ∷ []
-unfolding every bits sameList coversAddress contains numberInWords routeAt routesFrom routesOf plainPrefix rises rising soundRoutes coveredBy moreSpecific longer matched bestMatch undisputed judged feasible
+unfolding every bits sameList coversAddress contains numberInWords routeAt routesFrom routesOf plainPrefix rises rising soundRoutes coveredBy moreSpecific longer matched bestMatch originates undisputed judged feasible
 longs = refl

@@ -15,6 +15,8 @@ use Rattle.prefix.specs.Prefix.{Pattern, WellFormed}
 use Rattle.prefix.proofs.ContainLaws.{nested, other-offset, contains-both-ways}
 use Rattle.rule.specs.declared.Family.{Family}
 use Rattle.rule.specs.Family.{Fits}
+use Rattle.route.specs.declared.Origin.{Origin}
+use Rattle.route.specs.declared.Settings.{Settings}
 use Rattle.route.specs.Route.{Route, routeAt, routesFrom, routesOf, rising, soundRoutes}
 use Rattle.route.specs.Destination.{Missing, At}
 use Rattle.route.specs.Feasible.{Longest, BestMatch, Nothing, Found, coveredBy, moreSpecific, longer, matched, bestMatch, undisputed, judged, feasible}
@@ -144,35 +146,35 @@ undisputed-only w d (r ∷ rs) n =
     (λ e. by-test (moreSpecific w d r) (λ f. rw (e, f, f, undisputed-only w d rs n)) (λ f. rw (e, f, undisputed-only w d rs n)))
 
 -- destinations with the same best match, whose routes more specific are of the same neighbour ASes, are judged alike
-pub judged-alike : (w : ℕ) (d e : Pattern) (originator : ℕ) (rs ss : List Route) → bestMatch w d rs ≡ bestMatch w e ss
-    → ((n : ℕ) → undisputed w d n rs ≡ undisputed w e n ss) → judged w d originator rs ≡ judged w e originator ss
+pub judged-alike : (w : ℕ) (d e : Pattern) (origin : Origin) (rs ss : List Route) → bestMatch w d rs ≡ bestMatch w e ss
+    → ((n : ℕ) → undisputed w d n rs ≡ undisputed w e n ss) → judged w d origin rs ≡ judged w e origin ss
 unfolding judged
-judged-alike w d e originator rs ss b u = go (bestMatch w e ss) refl
+judged-alike w d e origin rs ss b u = go (bestMatch w e ss) refl
   where
-    go : (best : BestMatch) → bestMatch w e ss ≡ best → judged w d originator rs ≡ judged w e originator ss
+    go : (best : BestMatch) → bestMatch w e ss ≡ best → judged w d origin rs ≡ judged w e origin ss
     go Nothing f = rw (judged, b, f)
     go (Found r) f = rw (judged, b, f, u (r .neighbour))
 
 -- a destination is judged by the routes that matter
-pub judged-only : (w : ℕ) (d : Pattern) (originator : ℕ) (rs : List Route) → judged w d originator (only (matters w d) rs) ≡ judged w d originator rs
-judged-only w d originator rs = judged-alike w d d originator (only (matters w d) rs) rs (best-only w d rs) (undisputed-only w d rs)
+pub judged-only : (w : ℕ) (d : Pattern) (origin : Origin) (rs : List Route) → judged w d origin (only (matters w d) rs) ≡ judged w d origin rs
+judged-only w d origin rs = judged-alike w d d origin (only (matters w d) rs) rs (best-only w d rs) (undisputed-only w d rs)
 
 -- lists with the same routes that matter judge a rule alike
-pub feasible-alike : (w : ℕ) (allowed : Bool) (d : Pattern) (originator : ℕ) (rs ss : List Route) → only (matters w d) rs ≡ only (matters w d) ss
-    → feasible w allowed (At d) originator rs ≡ feasible w allowed (At d) originator ss
+pub feasible-alike : (w : ℕ) (settings : Settings) (d : Pattern) (origin : Origin) (rs ss : List Route) → only (matters w d) rs ≡ only (matters w d) ss
+    → feasible w settings (At d) origin rs ≡ feasible w settings (At d) origin ss
 unfolding feasible
-feasible-alike w allowed d originator rs ss e =
-    sym (judged-only w d originator rs) ∙ ap (judged w d originator) e ∙ judged-only w d originator ss
+feasible-alike w settings d origin rs ss e =
+    sym (judged-only w d origin rs) ∙ ap (judged w d origin) e ∙ judged-only w d origin ss
 
 -- a rule with a destination is judged the same whatever is allowed, and one with none is feasible exactly where that is
-pub whatever-allowed : (w : ℕ) (s t : Bool) (d : Pattern) (originator : ℕ) (rs : List Route)
-    → feasible w s (At d) originator rs ≡ feasible w t (At d) originator rs
+pub whatever-allowed : (w : ℕ) (s t : Settings) (d : Pattern) (origin : Origin) (rs : List Route)
+    → feasible w s (At d) origin rs ≡ feasible w t (At d) origin rs
 unfolding feasible
-whatever-allowed w s t d originator rs = refl
+whatever-allowed w s t d origin rs = refl
 
-pub by-allowed : (w : ℕ) (s : Bool) (originator : ℕ) (rs : List Route) → feasible w s Missing originator rs ≡ s
+pub by-allowed : (w : ℕ) (s : Settings) (origin : Origin) (rs : List Route) → feasible w s Missing origin rs ≡ s .«allows_no_destination»
 unfolding feasible
-by-allowed w s originator rs = refl
+by-allowed w s origin rs = refl
 
 -- RFC 8956 section 5: a destination with an offset is covered by no route, and so infeasible whatever is allowed
 module _ (family : Family) (ws : List ℕ) (d : Pattern) (h : d .offset ≡ 0 → ⊥) where
@@ -185,6 +187,6 @@ module _ (family : Family) (ws : List ℕ) (d : Pattern) (h : d .offset ≡ 0 �
   none-matches zero at = refl
   none-matches (suc n) at = rw (no-match (family .width) d (routeAt family ws at) (elsewhere at)) (none-matches n (at + family .words))
 
-  pub offset-infeasible : (allowed : Bool) (originator : ℕ) → feasible (family .width) allowed (At d) originator (routesOf family ws) ≡ false
+  pub offset-infeasible : (settings : Settings) (origin : Origin) → feasible (family .width) settings (At d) origin (routesOf family ws) ≡ false
   unfolding feasible judged routesOf
-  offset-infeasible allowed originator = rw (judged, none-matches (length ws / family .words) 0)
+  offset-infeasible settings origin = rw (judged, none-matches (length ws / family .words) 0)

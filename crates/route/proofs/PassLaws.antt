@@ -7,7 +7,7 @@ use Prim.Native.Nat.{ℕ, _+_, _-_, _≤_, _<_}
 use native.Mathlib.Omega.{arith}
 use lib.Dec.{ltb, eqb}
 use lib.ListN.{length}
-use borrow.Author.Tests.{lt-ltb, le-ltb, ltb-true, ltb-false, eq-eqb, ne-eqb, eqb-true, eqb-false, not-true, not-false}
+use borrow.Author.Tests.{lt-ltb, le-ltb, ltb-true, ltb-false, ne-eqb, eqb-true, eqb-false, not-true, not-false}
 use Rattle.octets.specs.Test.{every}
 use Rattle.octets.proofs.Cases.{by-test, apart}
 use Rattle.prefix.specs.Prefix.{Pattern, patternOf, contains}
@@ -15,6 +15,8 @@ use Rattle.prefix.specs.declared.Prefix.{Prefix}
 use Rattle.rule.specs.declared.Family.{Family}
 use Rattle.rule.specs.Family.{Fits}
 use Rattle.route.specs.declared.Route.{Route as RouteInCode}
+use Rattle.route.specs.declared.Origin.{Origin}
+use Rattle.route.specs.declared.Settings.{Settings}
 use Rattle.route.specs.declared.Destination.{Destination as DestinationInCode}
 use Rattle.route.specs.declared.Destination.the-variants.{Missing as MissingInCode, At as AtInCode}
 use Rattle.route.specs.declared.BestMatch.{BestMatch as BestMatchInCode}
@@ -23,7 +25,7 @@ use Rattle.route.specs.declared.Neighbours.{Neighbours}
 use Rattle.route.specs.declared.Neighbours.the-variants.{Nobody, One, Several}
 use Rattle.route.specs.Route.{Route, routeOf, routeAt, routesOf}
 use Rattle.route.specs.Destination.{destinationIn}
-use Rattle.route.specs.Feasible.{BestMatch, Nothing, Found, matchOf, coveredBy, moreSpecific, longer, matched, bestMatch, undisputed, judged, feasible}
+use Rattle.route.specs.Feasible.{BestMatch, Nothing, Found, matchOf, coveredBy, moreSpecific, longer, matched, bestMatch, originates, undisputed, judged, feasible}
 use Rattle.route.specs.Pass.{added, noted, agrees, validated}
 use Rattle.route.proofs.RouteLaws.{ahead, routes-all, routes-next, routes-end}
 
@@ -115,20 +117,20 @@ module _ (family : Family) (F : Fits family) (d : Pattern) (ws : List ℕ) (best
       pass-on r best seen h e (rw (none .1) (sym (longer-none best))) (rw (none .0) refl)
 
 -- what the pass has kept says what the routes do
-kept-says : (w : ℕ) (d : Pattern) (originator : ℕ) (rs : List Route) (best : BestMatch) (seen : Neighbours) → bestMatch w d rs ≡ best
-    → ((n : ℕ) → agrees seen n ≡ undisputed w d n rs) → validated best originator seen ≡ judged w d originator rs
+kept-says : (w : ℕ) (d : Pattern) (origin : Origin) (rs : List Route) (best : BestMatch) (seen : Neighbours) → bestMatch w d rs ≡ best
+    → ((n : ℕ) → agrees seen n ≡ undisputed w d n rs) → validated best origin seen ≡ judged w d origin rs
 unfolding validated judged
-kept-says w d originator rs Nothing seen e f = rw (judged, e)
-kept-says w d originator rs (Found r) seen e f = rw (judged, e, f (r .neighbour))
+kept-says w d origin rs Nothing seen e f = rw (judged, e)
+kept-says w d origin rs (Found r) seen e f = rw (judged, e, f (r .neighbour))
 
-pub pass-end : (family : Family) (d : Pattern) (ws : List ℕ) (best : BestMatch) (seen : Neighbours) (at originator : ℕ) (v : Bool)
-    → Passed family d ws best seen at → length ws - at < family .words → v ≡ validated best originator seen
-    → v ≡ judged (family .width) d originator (routesOf family ws)
+pub pass-end : (family : Family) (d : Pattern) (ws : List ℕ) (best : BestMatch) (seen : Neighbours) (at : ℕ) (origin : Origin) (v : Bool)
+    → Passed family d ws best seen at → length ws - at < family .words → v ≡ validated best origin seen
+    → v ≡ judged (family .width) d origin (routesOf family ws)
 unfolding bestMatch undisputed every
-pass-end family d ws best seen at originator v c h e =
+pass-end family d ws best seen at origin v c h e =
     let none = routes-end family ws at h in
     e
-    ∙ kept-says (family .width) d originator (routesOf family ws) best seen (sym (rw none at (c .matching)) ∙ longer-none best)
+    ∙ kept-says (family .width) d origin (routesOf family ws) best seen (sym (rw none at (c .matching)) ∙ longer-none best)
     (λ n. sym (and-true (agrees seen n)) ∙ (rw none at (c .agreeing n)))
 
 -- one route more: the best match stays where the route does not cover the destination, or is no longer
@@ -167,27 +169,28 @@ module _ (w : ℕ) (d : Pattern) (seen : Neighbours) (r : Route) where
   inside t s says e h f = rw (← says, not-false t e, lt-ltb (d .length) (r .prefix .length) h) f
 
 -- the three ways to conclude
-module _ (best : BestMatchInCode) (originator : ℕ) (seen : Neighbours) where
-  pub no-match : best ≡ NothingInCode → false ≡ validated (matchOf best) originator seen
+module _ (best : BestMatchInCode) (origin : Origin) (seen : Neighbours) where
+  pub no-match : best ≡ NothingInCode → false ≡ validated (matchOf best) origin seen
   unfolding validated
   no-match e = rw e
 
-  pub other-originator : (r : RouteInCode) → best ≡ FoundInCode r → (r .originator ≡ originator → ⊥) → false ≡ validated (matchOf best) originator seen
-  unfolding validated
-  other-originator r e h = rw (e, ne-eqb (r .originator) originator h)
+  module _ (r : RouteInCode) (e : best ≡ FoundInCode r) (has : Bool) (says : has ≡ originates origin (routeOf r)) where
+    pub other-originator : not has ≡ true → false ≡ validated (matchOf best) origin seen
+    unfolding validated
+    other-originator h = rw (e, ← says, not-true has h)
 
-  pub by-neighbour : (r : RouteInCode) (v : Bool) → best ≡ FoundInCode r → r .originator ≡ originator → v ≡ agrees seen (r .neighbour)
-      → v ≡ validated (matchOf best) originator seen
-  unfolding validated
-  by-neighbour r v e h g = rw (e, eq-eqb (r .originator) originator h) g
+    pub by-neighbour : (v : Bool) → not has ≡ false → v ≡ agrees seen (r .neighbour) → v ≡ validated (matchOf best) origin seen
+    unfolding validated
+    by-neighbour v h g = rw (e, ← says, not-false has h) g
 
 -- with no destination what is allowed decides, and with one the routes do
-module _ (w : ℕ) (allowed : Bool) (destination : DestinationInCode) (originator : ℕ) (routes : List Route) where
-  pub no-destination : destination ≡ MissingInCode → allowed ≡ feasible w allowed (destinationIn destination) originator routes
+module _ (w : ℕ) (settings : Settings) (destination : DestinationInCode) (origin : Origin) (routes : List Route) where
+  pub no-destination : destination ≡ MissingInCode
+      → settings .«allows_no_destination» ≡ feasible w settings (destinationIn destination) origin routes
   unfolding feasible
   no-destination e = rw e
 
-  pub by-routes : (d : Prefix) (v : Bool) → destination ≡ AtInCode d → v ≡ judged w (patternOf d) originator routes
-      → v ≡ feasible w allowed (destinationIn destination) originator routes
+  pub by-routes : (d : Prefix) (v : Bool) → destination ≡ AtInCode d → v ≡ judged w (patternOf d) origin routes
+      → v ≡ feasible w settings (destinationIn destination) origin routes
   unfolding feasible
   by-routes d v e f = rw e f

@@ -1,5 +1,5 @@
--- Whether a rule is feasible by the unicast routes at hand: RFC 8955 section 6. Of a rule its destination counts, and the originator of
--- its announcement. A route covers the destination, or is more specific than it, or does neither; w is the width of an address.
+-- Whether a rule is feasible by the unicast routes at hand: RFC 8955 section 6. Of a rule its destination counts, and who announces it.
+-- A route covers the destination, or is more specific than it, or does neither; w is the width of an address.
 use Prim.Native.Nat.{ℕ, _≤_}
 use mathlib.Core.Path.{_≡_}
 use mathlib.Core.Bool.{Bool, true, false, cond, not, _&&_, _||_}
@@ -7,6 +7,8 @@ use mathlib.Core.List.{List, [], _∷_, List·Memᴰ}
 use lib.Dec.{ltb, eqb}
 use Rattle.octets.specs.Test.{every}
 use Rattle.prefix.specs.Prefix.{Pattern, contains}
+use Rattle.route.specs.declared.Origin.{Origin}
+use Rattle.route.specs.declared.Settings.{Settings}
 use Rattle.route.specs.declared.BestMatch.{BestMatch as BestMatchInCode}
 use Rattle.route.specs.declared.BestMatch.the-variants.{Nothing as NothingInCode, Found as FoundInCode}
 use Rattle.route.specs.Route.{Route, routeOf}
@@ -52,22 +54,26 @@ unfoldable pub bestMatch : ℕ → Pattern → List Route → BestMatch
 bestMatch w destination [] = Nothing
 bestMatch w destination (r ∷ routes) = longer (matched w destination r) (bestMatch w destination routes)
 
+-- Section 6 b): "The originator of the Flow Specification matches the originator of the best-match unicast route".
+unfoldable pub originates : Origin → Route → Bool
+originates origin best = eqb (best .originator) (origin .originator)
+
 -- Section 6 c): no more-specific route has been received from another neighbour AS than this one.
 unfoldable pub undisputed : ℕ → Pattern → ℕ → List Route → Bool
 undisputed w destination neighbour routes = every (λ r. not (moreSpecific w destination r) || eqb (r .neighbour) neighbour) routes
 
 -- Section 6 b) and c); 01: "the longest route that covers it exists and has the announcement's originator; no route strictly inside the
 -- destination has another neighbour AS than that best route".
-unfoldable pub judged : ℕ → Pattern → ℕ → List Route → Bool
-judged w destination originator routes =
+unfoldable pub judged : ℕ → Pattern → Origin → List Route → Bool
+judged w destination origin routes =
     elim (bestMatch w destination routes) [
       | Nothing ↦ false
-      | Found best ↦ eqb (best .originator) originator && undisputed w destination (best .neighbour) routes
+      | Found best ↦ originates origin best && undisputed w destination (best .neighbour) routes
     ]
 
 -- Section 6 a): a rule with a destination, 0.0.0.0/0 like any other, is feasible as that is judged, whatever the setting; 01: "A setting
 -- may allow rules with no destination; those are then always feasible." A destination with an offset is infeasible, as RFC 8956 section 5
 -- a) asks for offset 0: routes have offset 0, so that none covers it.
-unfoldable pub feasible : ℕ → Bool → Destination → ℕ → List Route → Bool
-feasible w allowsNoDestination Missing originator routes = allowsNoDestination
-feasible w allowsNoDestination (At destination) originator routes = judged w destination originator routes
+unfoldable pub feasible : ℕ → Settings → Destination → Origin → List Route → Bool
+feasible w settings Missing origin routes = settings .«allows_no_destination»
+feasible w settings (At destination) origin routes = judged w destination origin routes

@@ -4,10 +4,11 @@ use Prim.Native.Nat.{ℕ}
 use mathlib.Core.Bool.{Bool, true, false, cond, _&&_}
 use lib.Dec.{eqb}
 use Rattle.prefix.specs.Prefix.{Pattern}
+use Rattle.route.specs.declared.Origin.{Origin}
 use Rattle.route.specs.declared.Neighbours.{Neighbours}
 use Rattle.route.specs.declared.Neighbours.the-variants.{Nobody, One, Several}
 use Rattle.route.specs.Route.{Route, plainPrefix, rises}
-use Rattle.route.specs.Feasible.{BestMatch, Nothing, Found, moreSpecific}
+use Rattle.route.specs.Feasible.{BestMatch, Nothing, Found, moreSpecific, originates}
 
 -- A prefix may follow another in a sound list: it is plain, and the other comes before it.
 unfoldable pub mayFollow : ℕ → Pattern → Pattern → Bool
@@ -30,6 +31,6 @@ agrees (One m) n = eqb m n
 agrees Several n = false
 
 -- There is a best match, it has the announcement's originator, and all neighbour ASes noted are its own.
-unfoldable pub validated : BestMatch → ℕ → Neighbours → Bool
-validated Nothing originator seen = false
-validated (Found best) originator seen = eqb (best .originator) originator && agrees seen (best .neighbour)
+unfoldable pub validated : BestMatch → Origin → Neighbours → Bool
+validated Nothing origin seen = false
+validated (Found best) origin seen = originates origin best && agrees seen (best .neighbour)

@@ -7,7 +7,7 @@ ghost use Rattle.rule.specs.Family.{Fits};
 ghost use Rattle.rule.specs.Value.{component};
 ghost use Rattle.route.specs.Route.{routeOf, numberInWords, routeAt, routesOf, plainPrefix, rises, soundRoutes};
 ghost use Rattle.route.specs.Destination.{Missing, destinationIn, destinationFor, destinationOf};
-ghost use Rattle.route.specs.Feasible.{matchOf, matched, longer, judged, feasible};
+ghost use Rattle.route.specs.Feasible.{originates, matchOf, matched, longer, judged, feasible};
 ghost use Rattle.route.specs.Pass.{mayFollow, added, noted, agrees, validated};
 use prefix::Address;
 use prefix::Prefix;
@@ -19,6 +19,16 @@ pub struct Route {
     pub prefix: Prefix,
     pub originator: u32,
     pub neighbour: u32,
+}
+
+// Who announces a rule: what an announcement is judged by beside its destination (RFC 8955 section 6).
+pub struct Origin {
+    pub originator: u32,
+}
+
+// What is settled for judging: whether rules with no destination are allowed.
+pub struct Settings {
+    pub allows_no_destination: bool,
 }
 
 // The destination of a rule, which may have none.
@@ -225,14 +235,21 @@ fn all_agree(seen: Neighbours, neighbour: u32) -> bool
     }
 }
 
-// Whether the best match has the originator, and no other neighbour AS than its own was seen.
-fn is_validated(best: BestMatch, originator: u32, seen: Neighbours) -> bool
-    ensures { λ r. ⌜ r ≡ validated (matchOf best) originator seen ⌝ }
+// Whether a route has the announcement's originator.
+fn originates(origin: Origin, route: Route) -> bool
+    ensures { λ r. ⌜ r ≡ originates origin (routeOf route) ⌝ }
+{
+    route.originator == origin.originator
+}
+
+// Whether the best match has the announcement's originator, and no other neighbour AS than its own was seen.
+fn is_validated(best: BestMatch, origin: Origin, seen: Neighbours) -> bool
+    ensures { λ r. ⌜ r ≡ validated (matchOf best) origin seen ⌝ }
 {
     let BestMatch::Found(route) = best else {
         return false;
     };
-    if route.originator != originator {
+    if !originates(origin, route) {
         return false;
     }
     all_agree(seen, route.neighbour)
@@ -240,9 +257,9 @@ fn is_validated(best: BestMatch, originator: u32, seen: Neighbours) -> bool
 
 // Whether a rule with this destination is feasible: one pass keeps the best match and the neighbour ASes inside. Most routes neither cover
 // the destination nor lie inside it, and one comparison tells.
-fn judge(family: Family, destination: Prefix, originator: u32, words: &[u32]) -> bool
+fn judge(family: Family, destination: Prefix, origin: Origin, words: &[u32]) -> bool
     requires { ⌜ Fits family ⌝ }
-    ensures { λ r. ⌜ r ≡ judged (family .width) (patternOf destination) originator (routesOf family (now (words .entry))) ⌝ }
+    ensures { λ r. ⌜ r ≡ judged (family .width) (patternOf destination) origin (routesOf family (now (words .entry))) ⌝ }
 {
     let stride = family.words;
     let width = family.width;
@@ -258,24 +275,24 @@ fn judge(family: Family, destination: Prefix, originator: u32, words: &[u32]) ->
         best = better(width, best, destination, route);
         seen = note_neighbour(width, seen, destination, route);
     }
-    is_validated(best, originator, seen)
+    is_validated(best, origin, seen)
 }
 
 // Whether a rule is feasible by the routes; one with no destination is exactly where that is allowed.
 pub fn is_feasible(
     family: Family,
-    allows_no_destination: bool,
+    settings: Settings,
     destination: Destination,
-    originator: u32,
+    origin: Origin,
     words: &[u32],
 ) -> bool
     requires { ⌜ Fits family ⌝ }
-    ensures { λ r. ⌜ r ≡ feasible (family .width) «allows_no_destination» (destinationIn destination) originator (routesOf family (now (words .entry))) ⌝ }
+    ensures { λ r. ⌜ r ≡ feasible (family .width) settings (destinationIn destination) origin (routesOf family (now (words .entry))) ⌝ }
 {
     let Destination::At(prefix) = destination else {
-        return allows_no_destination;
+        return settings.allows_no_destination;
     };
-    judge(family, prefix, originator, words)
+    judge(family, prefix, origin, words)
 }
 
 // The destination that a rule's first component spells, if it is of type 1.

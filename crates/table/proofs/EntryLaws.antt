@@ -85,4 +85,4 @@ pub good-value : (family : Family) (r : List ℕ) → goodRecord family r ≡ tr
 unfolding possible
 good-value family r e =
     let p = good-possible family r e in
-    both (couldBe (entryOf r .actions)) (plainValue family (entryOf r .value)) (both (ltb (entryOf r .originator) (2 ^ 32)) _ p .1) .1
+    both (couldBe (entryOf r .actions)) (plainValue family (entryOf r .value)) (both (ltb (entryOf r .origin .originator) (2 ^ 32)) _ p .1) .1

@@ -16,6 +16,7 @@ use Rattle.rule.specs.Reading.{valueIn}
 use Rattle.spelling.specs.Plain.{plain}
 use Rattle.order.specs.Key.{keysOf}
 use Rattle.action.specs.Actions.{actionsOf}
+use Rattle.route.specs.declared.Settings.{Settings}
 use Rattle.entry.specs.declared.Head.{Head}
 use Rattle.entry.specs.Entry.{Entry, entryFor}
 use Rattle.table.specs.Change.{holds, hasRoom, changed}
@@ -39,11 +40,11 @@ use Rattle.update.specs.Steps.{ruleAsks, ruleCall}
 use Rattle.update.proofs.SinglesLaws.{each-listed, reachTask, announces-are, withdraws-are}
 use Rattle.update.proofs.ApplyLaws.{was-granted, were-read}
 
-announced-number : (family : Family) (routes : List ℕ) (head : Head) (allows : Bool) (rule t : List ℕ)
-    → AnnouncedNumber (changeTold (ruleCall family routes (Announce head allows) rule t .answer) .number)
+announced-number : (family : Family) (routes : List ℕ) (head : Head) (settings : Settings) (rule t : List ℕ)
+    → AnnouncedNumber (changeTold (ruleCall family routes (Announce head settings) rule t .answer) .number)
 unfolding ruleAsks changeOf
-announced-number family routes head allows rule t =
-    go (entryFor head (plain family (valueIn rule))) (isFeasible family (policyOf routes allows) (valueIn rule) (head .originator))
+announced-number family routes head settings rule t =
+    go (entryFor head (plain family (valueIn rule))) (isFeasible family (policyOf routes settings) (valueIn rule) (head .origin))
   where
     go : (e : Entry) (feasible : Bool) → AnnouncedNumber (changeTold (changeOf (changed family t (announce e feasible) .number)) .number)
     go e true = by-test (hasRoom family t e) (λ h. rw (changed-room family t e h) (inl refl)) (λ h. rw (changed-no-room family t e h) (inr (inr refl)))
@@ -72,13 +73,13 @@ granted cs singles t answers left count is e =
 
 module _ (family : Family) (t : List ℕ) where
   -- **the numbers of a reach**
-  pub announces-listed : (policy : Policy) (reach : Reach) (answers : List ℕ) → Octets (reach .attribute) → reach .originator < 2 ^ 32
+  pub announces-listed : (policy : Policy) (reach : Reach) (answers : List ℕ) → Octets (reach .attribute) → reach .origin .originator < 2 ^ 32
       → AllHold (reachChecks family policy reach t answers) → Each AnnouncedNumber (announcingEach family policy reach t .numbers)
   announces-listed policy reach answers o small hold =
       rw (announces-are family t (hold .0) policy reach (actionsRead (actionsOf (reach .communities))) (hold .1 .0)
       (were-read (actionsOf (reach .communities)) (hold .1 .1 .1 .1 .0)) small o)
       (each-listed AnnouncedNumber (ruleCall family (policy .routes) (reachTask policy reach (actionsRead (actionsOf (reach .communities)))))
-      (announced-number family (policy .routes) _ (policy .allowsNoDestination)) (rulesFrom family (reach .attribute) reachHead .items) t)
+      (announced-number family (policy .routes) _ (policy .settings)) (rulesFrom family (reach .attribute) reachHead .items) t)
 
   -- **the numbers of an unreach**
   pub withdraws-listed : (attribute answers : List ℕ) → Octets attribute → AllHold (unreachChecks family attribute t answers)
@@ -89,7 +90,7 @@ module _ (family : Family) (t : List ℕ) where
 
   module _ (answers : List ℕ) (answer : Applied) (exit words : List ℕ) (kept : List (List ℕ)) (count : ℕ) (done : answer ≡ Done count) where
     -- the same of the words at the front of the buffer, by the promises
-    pub reach-listed : (policy : Policy) (reach : Reach) → Octets (reach .attribute) → reach .originator < 2 ^ 32
+    pub reach-listed : (policy : Policy) (reach : Reach) → Octets (reach .attribute) → reach .origin .originator < 2 ^ 32
         → Reaches family policy reach t answers answer exit words kept → Each AnnouncedNumber (take count words)
     unfolding reaching
     reach-listed policy reach o small p =

@@ -19,6 +19,7 @@ use Rattle.rule.specs.Reading.{checkRule}
 use Rattle.rule.proofs.RefusalsLaws.{Numbered, value-numbered, rule-numbered}
 use Rattle.action.specs.declared.Reading.{Reading as ActionsReading}
 use Rattle.packet.specs.Packet.{isUnusable}
+use Rattle.route.specs.declared.Origin.{Origin}
 use Rattle.order.specs.declared.Comparison.{Comparison}
 use Rattle.flowspec.specs.declared.Feasibility.{Feasibility}
 use Rattle.flowspec.specs.declared.Change.{Change}
@@ -122,10 +123,10 @@ compare-numbers {family} {first} {second} p =
 
 -- ---- judging ----
 
-pub judge-numbers : {family : Family} {policy : Policy} {rule : List ℕ} {originator : ℕ} {answer : Feasibility} {kept : List (List ℕ)}
-    → JudgesOne family policy rule originator answer kept → JudgeNumbers family policy rule originator (feasibilityTold answer)
-judge-numbers {family} {policy} {rule} {originator} p =
-    let cs = judgeChecks family policy rule originator in
+pub judge-numbers : {family : Family} {policy : Policy} {rule : List ℕ} {origin : Origin} {answer : Feasibility} {kept : List (List ℕ)}
+    → JudgesOne family policy rule origin answer kept → JudgeNumbers family policy rule origin (feasibilityTold answer)
+judge-numbers {family} {policy} {rule} {origin} p =
+    let cs = judgeChecks family policy rule origin in
     let fifteen = apart-from family rule 15 (omega arith) in
     rw (p .tells) (record {
       nine = number-at _ 9 (λ e. omega arith) cs 0 (refl, (apart-from family rule 9 (omega arith), (refl, (refl, tt))));

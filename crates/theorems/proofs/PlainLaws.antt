@@ -16,6 +16,7 @@ use Rattle.spelling.specs.Plain.{bodyOf, plain}
 use Rattle.spelling.specs.PlainComponent.{plainComponent}
 use Rattle.spelling.proofs.SpellingLaws.{components-plain}
 use Rattle.rule.proofs.ComponentsLaws.{SoundComponent, each-octets, each-sound}
+use Rattle.route.specs.declared.Origin.{Origin}
 use Rattle.route.specs.Route.{routesOf}
 use Rattle.route.specs.Destination.{destinationFor, destinationAmong, destinationOf}
 use Rattle.route.proofs.AlikeLaws.{AlikeTo, destinations-alike}
@@ -33,16 +34,16 @@ destination-alike family fits (p ∷ ps) o s =
     (λ t. rw t (destination-alike family fits ps (o .1) (s .1)))
 
 -- **a rule is feasible where its plain spelling is**, whatever octets its value is
-pub feasible-plain : (family : Family) → Fits family → (policy : Policy) (v : List ℕ) (originator : ℕ) → Octets v → isFeasible family policy (plain family v) originator ≡ isFeasible family policy v originator
+pub feasible-plain : (family : Family) → Fits family → (policy : Policy) (v : List ℕ) (origin : Origin) → Octets v → isFeasible family policy (plain family v) origin ≡ isFeasible family policy v origin
 unfolding isFeasible destinationOf
-feasible-plain family fits policy v originator o =
+feasible-plain family fits policy v origin o =
     rw (components-plain family v o)
-    (destinations-alike (family .width) (policy .allowsNoDestination) _ _ originator (routesOf family (policy .routes))
+    (destinations-alike (family .width) (policy .settings) _ _ origin (routesOf family (policy .routes))
     (destination-alike family fits (components family v) (each-octets family v o) (each-sound family v)))
 
 -- values of one plain spelling, which are one rule, are judged alike
-pub feasible-alone : (family : Family) → Fits family → (policy : Policy) (v w : List ℕ) (originator : ℕ) → Octets v → Octets w → plain family v ≡ plain family w
-    → isFeasible family policy v originator ≡ isFeasible family policy w originator
-feasible-alone family fits policy v w originator o q e =
-    sym (feasible-plain family fits policy v originator o) ∙ ap (λ (x : List ℕ). isFeasible family policy x originator) e
-    ∙ feasible-plain family fits policy w originator q
+pub feasible-alone : (family : Family) → Fits family → (policy : Policy) (v w : List ℕ) (origin : Origin) → Octets v → Octets w → plain family v ≡ plain family w
+    → isFeasible family policy v origin ≡ isFeasible family policy w origin
+feasible-alone family fits policy v w origin o q e =
+    sym (feasible-plain family fits policy v origin o) ∙ ap (λ (x : List ℕ). isFeasible family policy x origin) e
+    ∙ feasible-plain family fits policy w origin q

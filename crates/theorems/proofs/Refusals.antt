@@ -174,7 +174,7 @@ one-rule-is family rule accepts ends = go (oneRule family rule) refl
 
 module _ (family : Family) (policy : Policy) (a : Announcement) (t : List ℕ) where
   -- what 8 leaves is the table without the rule
-  eight-leaves : SoundBoth family policy t (OneRule family (a .rule) (Yes (isSound (actionsOf (a .communities))) × No (isFeasible family policy (valueIn (a .rule)) (a .originator))))
+  eight-leaves : SoundBoth family policy t (OneRule family (a .rule) (Yes (isSound (actionsOf (a .communities))) × No (isFeasible family policy (valueIn (a .rule)) (a .origin))))
       → announcing family policy a t .table ≡ removed family t (keysOf family (plain family (valueIn (a .rule))))
   unfolding announcing requestOf readWithRoutes
   eight-leaves (sound, (routes, (accepts, (ends, (acts, not))))) =

@@ -52,7 +52,7 @@ module _ (family : Family) (fits : Fits family) (policy : Policy) (a : Announcem
           let v = octets-value (a .rule) start size octets in
           let done = held-is-done family t o sound (announcedEntry family a start size actions) fits
           (octets-plain family (valueOf (a .rule) start size) v) (plain-held family (valueOf (a .rule) start size) v (one-read family (a .rule) start size read .accepted)) held in
-          by-test (isFeasible family policy (valueOf (a .rule) start size) (a .originator))
+          by-test (isFeasible family policy (valueOf (a .rule) start size) (a .origin))
           (λ f. rw (f, done) (λ place e. apart (cc)))
           (λ f. rw (f, changed-infeasible family t (announcedEntry family a start size actions)) (λ place e. apart (cc)))
 

@@ -7,6 +7,7 @@ use Rattle.rule.specs.declared.Reading.{Reading}
 use Rattle.spelling.specs.declared.Writing.{Writing}
 use Rattle.action.specs.declared.Reading.{Reading as ActionsReading}
 use Rattle.order.specs.declared.Comparison.{Comparison}
+use Rattle.route.specs.declared.Origin.{Origin}
 use Rattle.flowspec.specs.declared.Feasibility.{Feasibility}
 use Rattle.flowspec.specs.declared.Change.{Change}
 use Rattle.flowspec.specs.declared.Looked.{Looked}
@@ -29,9 +30,9 @@ module _ (family : Family) (k l : List (List ℕ)) where
   pub one-comparison : (first second : List ℕ) (a b : Comparison) → ComparesTwo family first second a k → ComparesTwo family first second b l → (a ≡ b) × (k ≡ l)
   one-comparison first second a b p q = (p .is ∙ sym (q .is), p .keeps ∙ sym (q .keeps))
 
-  pub one-judgement : (policy : Policy) (rule : List ℕ) (originator : ℕ) (a b : Feasibility) → JudgesOne family policy rule originator a k
-      → JudgesOne family policy rule originator b l → (a ≡ b) × (k ≡ l)
-  one-judgement policy rule originator a b p q = (p .is ∙ sym (q .is), p .keeps ∙ sym (q .keeps))
+  pub one-judgement : (policy : Policy) (rule : List ℕ) (origin : Origin) (a b : Feasibility) → JudgesOne family policy rule origin a k
+      → JudgesOne family policy rule origin b l → (a ≡ b) × (k ≡ l)
+  one-judgement policy rule origin a b p q = (p .is ∙ sym (q .is), p .keeps ∙ sym (q .keeps))
 
   pub one-announcement : (policy : Policy) (announcement : Announcement) (table : List ℕ) (a b : Change) (x y : List ℕ)
       → Announces family policy announcement table a x k → Announces family policy announcement table b y l

@@ -20,7 +20,7 @@ use Rattle.rule.specs.Family.{ipv4}
 use Rattle.spelling.specs.Plain.{bodyOf, operandAfter, after, plainOperator, plainOperand, plainPattern, clearedOctet, plainFrom, plain, expectedAtStart, patternAfter, withoutReserved}
 use Rattle.order.specs.Key.{bodyKey, keyOf, keysOf}
 use Rattle.route.specs.Destination.{destinationFor, destinationAmong, destinationOf}
-use Rattle.route.specs.Feasible.{coveredBy, moreSpecific, longer, matched, bestMatch, undisputed, judged, feasible}
+use Rattle.route.specs.Feasible.{coveredBy, moreSpecific, longer, matched, bestMatch, originates, undisputed, judged, feasible}
 use Rattle.route.specs.Route.{routeAt, routesOf, plainPrefix, rises, rising, soundRoutes, numberInWords, routesFrom}
 use Rattle.rate.specs.Rate.{scaled, numberFor, numberOfParts, rateOfParts, rateOf, fitsSignificand, rateGiven}
 use Rattle.action.specs.Actions.{communitiesAt, actionsOf, flagsOf, ofType, smallest, first, ruleActions}
@@ -40,7 +40,7 @@ use Rattle.attribute.specs.Rules.{ruleAt, rulesFrom}
 use Rattle.update.specs.declared.Applied.the-variants.{Done, Refused}
 use Rattle.update.specs.Singles.{Reach, reachOf}
 use Rattle.update.specs.Apply.{Left, reaching, unreaching}
-use Rattle.theorems.specs.WorkedAttributes.{routed, reachStart, unreachStart, fiveRules, fiveCut, echoTwice, withReserved, withNextHop, ofAnother, ofVpn, echoOfAnother, unsoundRate, fromSeven, noneHeld, webHeld, bothHeld, wordsLent}
+use Rattle.theorems.specs.WorkedAttributes.{routed, reachStart, unreachStart, fiveRules, fiveCut, echoTwice, withReserved, withNextHop, ofAnother, ofVpn, echoOfAnother, unsoundRate, seven, fromSeven, noneHeld, webHeld, bothHeld, wordsLent}
 
 -- a reach on the empty table, with so many words
 abbrev onEmpty : Reach → ℕ → Left
@@ -63,14 +63,14 @@ pub record Computed : Type 0 where
   pub noRule : onEmpty (fromSeven reachStart) 7 ≡ refusedWith 19 7
   pub cut : onEmpty (fromSeven fiveCut) 7 ≡ refusedWith 1 7
   pub fewWords : onEmpty (fromSeven fiveRules) 4 ≡ refusedWith 16 4
-  pub unsound : onEmpty (reachOf fiveRules 7 unsoundRate) 4 ≡ refusedWith 13 4
+  pub unsound : onEmpty (reachOf fiveRules seven unsoundRate) 4 ≡ refusedWith 13 4
 
 pub computed : Computed
 unfolding
     numberAt octetsOf every oneHolds allZero sameList walk bits coversAddress contains patternIn pairAt pairsFrom leadOf offsetAt
     prefixEnd bodyEnd componentAt endsList sizeOf expectedAtStart bodyOf patternAfter operandAfter after withoutReserved plainOperator
     plainOperand plainPattern clearedOctet plainFrom plain fieldSize fieldLength firstRule oneRule componentsFrom components checkValue
-    bodyKey keyOf keysOf destinationFor destinationAmong destinationOf coveredBy moreSpecific longer matched bestMatch undisputed judged
+    bodyKey keyOf keysOf destinationFor destinationAmong destinationOf coveredBy moreSpecific longer matched bestMatch originates undisputed judged
     feasible numberInWords routeAt routesFrom routesOf plainPrefix rises rising soundRoutes ofType smallest first ruleActions
     communitiesAt actionsOf flagsOf firstOf smallerOf allowed couldBe plainValue possible writtenFields readFields headNumbers recordOf
     actionsIn entryOf goodRecord changed recordsOf tableOf soundTable recordAt recordsFrom records

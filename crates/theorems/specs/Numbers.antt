@@ -16,6 +16,7 @@ use Rattle.rule.specs.Value.{checkValue}
 use Rattle.rule.specs.Reading.{valueIn, checkRule}
 use Rattle.spelling.specs.Writing.{ruleFor}
 use Rattle.order.specs.Key.{keysOf}
+use Rattle.route.specs.declared.Origin.{Origin}
 use Rattle.route.specs.Route.{soundRoutes}
 use Rattle.action.specs.Actions.{actionsOf}
 use Rattle.packet.specs.Packet.{isUnusable}
@@ -68,15 +69,15 @@ pub record CompareNumbers (family : Family) (first second : List ℕ) (answer : 
   pub zero : (answer .number ≡ 0) ↔ AllHold (compareChecks family first second)
 
 -- Judging one rule.
-pub record JudgeNumbers (family : Family) (policy : Policy) (rule : List ℕ) (originator : ℕ) (answer : Told) : Type 0 where
+pub record JudgeNumbers (family : Family) (policy : Policy) (rule : List ℕ) (origin : Origin) (answer : Told) : Type 0 where
   pub nine : (answer .number ≡ 9) ↔ No (soundRoutes family (policy .routes))
   pub one-to-seven : OneToSeven answer
       (λ number place. Yes (soundRoutes family (policy .routes)) × (checkRule family rule ≡ Refused number place))
   pub fifteen : (answer .number ≡ 15)
       ↔ (Yes (soundRoutes family (policy .routes)) × (Accepts (checkRule family rule) × No (endsThere rule)))
   pub eight : (answer .number ≡ 8)
-      ↔ (Yes (soundRoutes family (policy .routes)) × OneRule family rule (No (isFeasible family policy (valueIn rule) originator)))
-  pub zero : (answer .number ≡ 0) ↔ AllHold (judgeChecks family policy rule originator)
+      ↔ (Yes (soundRoutes family (policy .routes)) × OneRule family rule (No (isFeasible family policy (valueIn rule) origin)))
+  pub zero : (answer .number ≡ 0) ↔ AllHold (judgeChecks family policy rule origin)
 
 -- Reading actions.
 pub record ActionsNumbers (communities : List ℕ) (answer : Told) : Type 0 where
@@ -97,10 +98,10 @@ pub record AnnounceNumbers (family : Family) (policy : Policy) (a : Announcement
       ↔ SoundBoth family policy table (OneRule family (a .rule) (No (isSound (actionsOf (a .communities)))))
   pub eight : (answer .number ≡ 8)
       ↔ SoundBoth family policy table (OneRule family (a .rule) (Yes (isSound (actionsOf (a .communities)))
-      × No (isFeasible family policy (valueIn (a .rule)) (a .originator))))
+      × No (isFeasible family policy (valueIn (a .rule)) (a .origin))))
   pub eleven : (answer .number ≡ 11)
       ↔ SoundBoth family policy table (OneRule family (a .rule) (Yes (isSound (actionsOf (a .communities)))
-      × (Yes (isFeasible family policy (valueIn (a .rule)) (a .originator)) × No (hasRoom family table (entryIn family a)))))
+      × (Yes (isFeasible family policy (valueIn (a .rule)) (a .origin)) × No (hasRoom family table (entryIn family a)))))
   pub zero : (answer .number ≡ 0) ↔ AllHold (announceChecks family policy a table)
 
 -- Withdrawing.

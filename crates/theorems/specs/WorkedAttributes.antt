@@ -6,12 +6,13 @@ use Prim.Native.Nat.{ℕ}
 use mathlib.Core.Bool.{false}
 use mathlib.Core.List.{List, [], _∷_, _++_}
 use lib.ListN.{replicate, take}
+use Rattle.route.specs.declared.Origin.{Origin}
 use Rattle.request.specs.Input.{Policy, policyOf}
 use Rattle.update.specs.Singles.{Reach, reachOf}
 
 -- 192.0.2.0/24 is routed to originator 7, over neighbour AS 64500.
 abbrev pub routed : Policy
-routed = policyOf (0xc0000200 ∷ 24 ∷ 7 ∷ 64500 ∷ []) false
+routed = policyOf (0xc0000200 ∷ 24 ∷ 7 ∷ 64500 ∷ []) (record { «allows_no_destination» = false })
 
 -- Web: destination 192.0.2.0/25, protocol 6, destination port 80.
 abbrev pub webValue : List ℕ
@@ -85,9 +86,13 @@ discarding = 0x80 ∷ 0x06 ∷ 0 ∷ 0 ∷ 0 ∷ 0 ∷ 0 ∷ 0 ∷ []
 abbrev pub unsoundRate : List ℕ
 unsoundRate = 0x80 ∷ 0x06 ∷ 0 ∷ 0 ∷ 0x7f ∷ 0xc0 ∷ 0 ∷ 0 ∷ []
 
+-- Originator 7.
+abbrev pub seven : Origin
+seven = record { originator = 7 }
+
 -- A reach from originator 7, with byte rate 0.
 abbrev pub fromSeven : List ℕ → Reach
-fromSeven attribute = reachOf attribute 7 discarding
+fromSeven attribute = reachOf attribute seven discarding
 
 -- A record's head: so many octets of value, originator 7, byte rate 0.
 abbrev pub headFor : ℕ → List ℕ

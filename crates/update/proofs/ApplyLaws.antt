@@ -176,7 +176,7 @@ module _ (family chosen : Family) (chose : chosen ≡ family) (policy : Policy) 
           let same : actionsRead (actionsOf (reach .communities)) ≡ actions = cc in
           were-read (actionsOf (reach .communities)) (granted .0 .1 .1 .1 .0) ∙ ap Read same
 
-      pub reach-prepared : Fits chosen → reach .originator < 2 ^ 32
+      pub reach-prepared : Fits chosen → reach .origin .originator < 2 ^ 32
           → Prepared family (reachTask policy reach actions) (reach .attribute) reachHead t used (length answers)
       reach-prepared fits small =
           rw (← chose) (record {
@@ -186,7 +186,7 @@ module _ (family chosen : Family) (chose : chosen ≡ family) (policy : Policy) 
             enough = leb-true (reachCount chosen (reach .attribute)) (length answers) (granted .0 .1 .1 .1 .1 .0);
           })
 
-      pub reach-done : Octets (reach .attribute) → reach .originator < 2 ^ 32 → (exit words : List ℕ)
+      pub reach-done : Octets (reach .attribute) → reach .origin .originator < 2 ^ 32 → (exit words : List ℕ)
           → LeavesAll (tasksFrom family (policy .routes) (reachTask policy reach actions) (reach .attribute) reachHead t) answers exit words
           → Reaches family policy reach t answers (Done count) exit words (policy .routes ∷ reach .attribute ∷ reach .communities ∷ [])
       reach-done o small exit words h =

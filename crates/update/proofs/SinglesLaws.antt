@@ -75,7 +75,7 @@ change-coded family t coded routes task value could octets ok =
 
 -- the task of a reach whose actions are read
 abbrev pub reachTask : Policy → Reach → Actions → Task
-reachTask policy reach actions = Announce (record { originator = reach .originator; actions = actions }) (policy .allowsNoDestination)
+reachTask policy reach actions = Announce (record { origin = reach .origin; actions = actions }) (policy .settings)
 
 -- what is done for a rule that is read alone, on a sound table, is what its announcement does
 one-announced : (family : Family) (policy : Policy) (reach : Reach) (actions : Actions) → soundRoutes family (policy .routes) ≡ true
@@ -119,7 +119,7 @@ module _ (family : Family) (t : List ℕ) (sound : soundTable family t ≡ true)
 
   -- **the announcements of a reach**
   pub announces-are : (policy : Policy) (reach : Reach) (actions : Actions) → soundRoutes family (policy .routes) ≡ true
-      → actionsOf (reach .communities) ≡ Read actions → reach .originator < 2 ^ 32 → Octets (reach .attribute)
+      → actionsOf (reach .communities) ≡ Read actions → reach .origin .originator < 2 ^ 32 → Octets (reach .attribute)
       → announcingEach family policy reach t ≡ tasksFrom family (policy .routes) (reachTask policy reach actions) (reach .attribute) reachHead t
   announces-are policy reach actions routes acts small o =
       tasks-are (λ rule. announcing family policy (announcementIn reach rule)) (policy .routes) (reachTask policy reach actions)

@@ -11,6 +11,7 @@ use Rattle.rule.specs.declared.Checked.the-variants.{Accepted}
 use Rattle.rule.specs.Value.{checkValue}
 use Rattle.spelling.specs.Plain.{plain}
 use Rattle.order.specs.Key.{keysOf}
+use Rattle.route.specs.declared.Settings.{Settings}
 use Rattle.entry.specs.declared.Head.{Head}
 use Rattle.entry.specs.Entry.{entryFor, possible}
 use Rattle.entry.proofs.ValueLaws.{make-possible}
@@ -27,7 +28,7 @@ use Rattle.update.specs.Steps.{ruleAsks, ruleChange, TaskCouldBe}
 pub task-brings : (family : Family) (routes : List ℕ) (task : Task) (value : List ℕ) → TaskCouldBe task → Octets value
     → checkValue family value ≡ Accepted → Brings (possible family) (ruleAsks family routes task value)
 unfolding ruleAsks
-task-brings family routes (Announce head allowsNoDestination) value could o ok =
+task-brings family routes (Announce head settings) value could o ok =
     make-possible family (entryFor head (plain family value)) (could .0) (could .1) (plain-held family value o ok)
 task-brings family routes Withdraw value could o ok = tt
 
@@ -42,8 +43,8 @@ module _ (family chosen : Family) (chose : chosen ≡ family) (t value : List �
     unfolding ruleAsks
     step-withdrawn e h = rw (e, ← chose) h
 
-    pub step-announced : (head : Head) (allowsNoDestination feasible : Bool) → task ≡ Announce head allowsNoDestination
-        → feasible ≡ isFeasible family (policyOf routes allowsNoDestination) value (head .originator)
+    pub step-announced : (head : Head) (settings : Settings) (feasible : Bool) → task ≡ Announce head settings
+        → feasible ≡ isFeasible family (policyOf routes settings) value (head .origin)
         → Leaves (changed chosen t (announce (entryFor head (plain chosen value)) feasible)) answer exit → Leaves (ruleChange family routes task value t) answer exit
     unfolding ruleAsks
-    step-announced head allowsNoDestination feasible e judged h = rw (e, ← judged, ← chose) h
+    step-announced head settings feasible e judged h = rw (e, ← judged, ← chose) h

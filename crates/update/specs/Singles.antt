@@ -3,6 +3,7 @@
 use Prim.Native.Nat.{ℕ}
 use mathlib.Core.List.{List, [], _∷_}
 use Rattle.rule.specs.declared.Family.{Family}
+use Rattle.route.specs.declared.Origin.{Origin}
 use Rattle.request.specs.Input.{Announcement, Policy, announcementOf}
 use Rattle.flowspec.specs.Announce.{Outcome, announcing, withdrawing}
 use Rattle.flowspec.specs.Told.{changeTold}
@@ -11,12 +12,12 @@ use Rattle.attribute.specs.Rules.{reachRules, unreachRules}
 -- A reach, with whatever octets it came: the attribute, who announces its rules, and the extended communities of their actions.
 pub record Reach : Type 0 where
   pub attribute : List ℕ
-  pub originator : ℕ
+  pub origin : Origin
   pub communities : List ℕ
 
 -- A reach from the values that a call is lent one by one.
-abbrev pub reachOf : List ℕ → ℕ → List ℕ → Reach
-reachOf attribute originator communities = record { attribute = attribute; originator = originator; communities = communities }
+abbrev pub reachOf : List ℕ → Origin → List ℕ → Reach
+reachOf attribute origin communities = record { attribute = attribute; origin = origin; communities = communities }
 
 -- What single calls leave: the number that each is answered with, and the table's octets after the last.
 pub record Singles : Type 0 where
@@ -32,7 +33,7 @@ eachRule call (rule ∷ rules) table =
 
 -- The announcement of one rule of a reach.
 abbrev pub announcementIn : Reach → List ℕ → Announcement
-announcementIn reach rule = announcementOf rule (reach .originator) (reach .communities)
+announcementIn reach rule = announcementOf rule (reach .origin) (reach .communities)
 
 -- What the announcements of a reach leave.
 abbrev pub announcingEach : Family → Policy → Reach → List ℕ → Singles

@@ -26,8 +26,8 @@ use Rattle.update.specs.Apply.{appliedAll}
 
 -- What a task asks of a sound table for one rule, by its accepted value: to announce it, as it is judged, or to withdraw it.
 unfoldable pub ruleAsks : Family → List ℕ → Task → List ℕ → Op RuleKey Entry
-ruleAsks family routes (Announce head allowsNoDestination) value =
-    announce (entryFor head (plain family value)) (isFeasible family (policyOf routes allowsNoDestination) value (head .originator))
+ruleAsks family routes (Announce head settings) value =
+    announce (entryFor head (plain family value)) (isFeasible family (policyOf routes settings) value (head .origin))
 ruleAsks family routes Withdraw value = withdraw (keysOf family (plain family value))
 
 -- What is done to the table for it.
@@ -44,7 +44,7 @@ tasksFrom family routes task attribute at t = eachRule (ruleCall family routes t
 
 -- What an announcement heads its rules with could be: an originator of 32 bits, and actions that some communities give.
 abbrev pub TaskCouldBe : Task → Type 0
-TaskCouldBe (Announce head allowsNoDestination) = (head .originator < 2 ^ 32) × (couldBe (head .actions) ≡ true)
+TaskCouldBe (Announce head settings) = (head .origin .originator < 2 ^ 32) × (couldBe (head .actions) ≡ true)
 TaskCouldBe Withdraw = Unit {0}
 
 -- What the code asks before it goes through the rules: a table that is ready, a task that could be, and rules that are all accepted, with

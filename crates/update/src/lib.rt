@@ -19,6 +19,8 @@ use action::Actions;
 use attribute::Counted;
 use attribute::NextRule;
 use entry::Head;
+use route::Origin;
+use route::Settings;
 use rule::AddressFamily;
 use rule::Checked;
 use rule::Family;
@@ -33,10 +35,7 @@ pub enum Reached {
 
 // What is done for each rule of an attribute: it is announced under a head, or withdrawn.
 pub enum Task {
-    Announce {
-        head: Head,
-        allows_no_destination: bool,
-    },
+    Announce { head: Head, settings: Settings },
     Withdraw,
 }
 
@@ -132,18 +131,9 @@ fn apply_rule(
     let chosen = rule::family_of(family);
     match task {
         Task::Withdraw => table::withdraw_value(chosen, table, used, value),
-        Task::Announce {
-            head,
-            allows_no_destination,
-        } => {
-            let originator = head.originator;
-            let feasible = request::is_feasible(
-                family,
-                allows_no_destination,
-                routes,
-                value,
-                originator,
-            );
+        Task::Announce { head, settings } => {
+            let origin = head.origin;
+            let feasible = request::is_feasible(family, settings, routes, value, origin);
             table::announce_value(chosen, table, used, head, feasible, value)
         }
     }
@@ -195,14 +185,14 @@ fn apply_rules(
 pub fn reach(
     family: AddressFamily,
     table: &mut [u8],
-    allows_no_destination: bool,
+    settings: Settings,
     routes: &[u32],
     attribute: &[u8],
-    originator: u32,
+    origin: Origin,
     communities: &[u8],
     answers: &mut [u32],
 ) -> Applied
-    ensures { λ r. ⌜ Reaches (familyOf family) (policyOf (now (routes .entry)) «allows_no_destination») (reachOf (now (attribute .entry)) originator (now (communities .entry))) (now (table .entry)) (now (answers .entry)) r (now (table .exit)) (now (answers .exit)) (now (routes .exit) ∷ now (attribute .exit) ∷ now (communities .exit) ∷ []) ⌝ }
+    ensures { λ r. ⌜ Reaches (familyOf family) (policyOf (now (routes .entry)) settings) (reachOf (now (attribute .entry)) origin (now (communities .entry))) (now (table .entry)) (now (answers .entry)) r (now (table .exit)) (now (answers .exit)) (now (routes .exit) ∷ now (attribute .exit) ∷ now (communities .exit) ∷ []) ⌝ }
 {
     let chosen = rule::family_of(family);
     match table::sound_table(chosen, table) {
@@ -215,14 +205,8 @@ pub fn reach(
             match read_reach(chosen, routes, attribute, communities, words) {
                 Reached::Refused { number, place } => Applied::Refused { number, place },
                 Reached::Rules { count, actions } => {
-                    let head = Head {
-                        originator,
-                        actions,
-                    };
-                    let task = Task::Announce {
-                        head,
-                        allows_no_destination,
-                    };
+                    let head = Head { origin, actions };
+                    let task = Task::Announce { head, settings };
                     apply_rules(
                         family,
                         table,

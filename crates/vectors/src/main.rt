@@ -23,6 +23,8 @@ use libc::STDIN_FILENO;
 use libc::STDOUT_FILENO;
 use lookup::Verdict;
 use order::Comparison;
+use route::Origin;
+use route::Settings;
 use rule::AddressFamily;
 use rule::Checked;
 use rule::Reading;
@@ -128,19 +130,27 @@ fn answer_actions(line: &[u8], octets: &mut [u8]) {
 
 // ---- Feasibility ----
 
+// The settings of a line that judges a rule: its first field is 00 or 01.
+fn settings_in(line: &[u8]) -> Settings {
+    let allows_no_destination = fields::number_of(line, 1) != 0;
+    Settings {
+        allows_no_destination,
+    }
+}
+
+// The origin of a rule that a line judges: its fourth field.
+fn origin_in(line: &[u8]) -> Origin {
+    let originator = fields::number_of(line, 4);
+    Origin { originator }
+}
+
 // feasible SETTING ROUTES RULE ORIGINATOR: the setting is 00 or 01, and a route is four words, of IPv6 seven.
 fn answer_feasible(family: AddressFamily, line: &[u8], octets: &mut [u8], words: &mut [u32]) {
-    let allows_no_destination = fields::number_of(line, 1) != 0;
+    let settings = settings_in(line);
     let count = fields::put_words(line, 2, octets, words);
     let end = put_octets(line, 3, octets);
-    let originator = fields::number_of(line, 4);
-    match flowspec::judge_rule(
-        family,
-        allows_no_destination,
-        &words[..count],
-        &octets[..end],
-        originator,
-    ) {
+    let origin = origin_in(line);
+    match flowspec::judge_rule(family, settings, &words[..count], &octets[..end], origin) {
         Feasibility::Feasible => print_refusal(0, 0),
         Feasibility::Refused { number, place } => print_refusal(number, place),
     }
@@ -237,15 +247,15 @@ fn announce(
 )
     requires { ⌜ (middle ≤ end) × (end ≤ length (now octets)) ⌝ }
 {
-    let allows_no_destination = fields::number_of(line, 1) != 0;
-    let originator = fields::number_of(line, 4);
+    let settings = settings_in(line);
+    let origin = origin_in(line);
     let change = flowspec::announce(
         family,
         table,
-        allows_no_destination,
+        settings,
         routes,
         &octets[0..middle],
-        originator,
+        origin,
         &octets[middle..end],
     );
     print_change(change, table);

@@ -15,4 +15,5 @@ returns-3 c = search (by-neighbour, needs)
 
 pub is-validated-spec : {M : Type 1} → statement M
 is-validated-spec =
-    tie.close (tie.spec (λ c. search needs) (λ c. search needs) returns returns-2 (λ c κs. search needs) returns-3)
+    tie.close
+    (tie.spec (λ c. search needs) (λ c. search needs) returns (λ c κs. search needs) returns-2 (λ c κs. search needs) returns-3)

@@ -9,10 +9,10 @@ use Rattle.route.proofs.judge.Statement.{statement}
 use Rattle.route.proofs.judge.Tie as tie
 
 abbrev Inv-loop : tie.InvT-loop
-Inv-loop family destination originator words stride width best₀ seen₀ at₀ best seen at = Passed family (patternOf destination) words (matchOf best) seen at
+Inv-loop family destination origin words stride width best₀ seen₀ at₀ best seen at = Passed family (patternOf destination) words (matchOf best) seen at
 
 abbrev μ-loop : tie.MeasureT-loop
-μ-loop family destination originator words stride width best₀ seen₀ at₀ best seen at = length words - at
+μ-loop family destination origin words stride width best₀ seen₀ at₀ best seen at = length words - at
 
 loop-holds : tie.Need-loop-holds Inv-loop μ-loop
 loop-holds c = search (pass-start, needs)

@@ -8,7 +8,7 @@ withdraw-value-requires : tie.Need-withdraw-value-requires
 withdraw-value-requires c κs = step-asks _ _ (c .before .before .before .family-of .ensures) _ _ _ (search needs)
 
 announce-value-requires : tie.Need-announce-value-requires
-announce-value-requires c κs = step-asks _ _ (c .before .before .before .before .before .family-of .ensures) _ _ _ (search needs)
+announce-value-requires c κs = step-asks _ _ (c .before .before .before .before .before .before .family-of .ensures) _ _ _ (search needs)
 
 returns : tie.Need-returns
 returns c = search (step-withdrawn, needs)

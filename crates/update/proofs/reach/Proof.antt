@@ -1,4 +1,6 @@
 -- One law for each return: the table is not sound, what is given is refused, or its rules are announced.
+use Prim.Native.Nat.{_^_, _<_}
+use native.Mathlib.Omega.{arith}
 use Rattle.octets.proofs.Facts.{Octets}
 use Rattle.request.specs.Input.{Policy, policyOf}
 use Rattle.rule.proofs.FamilyLaws.{chosen-fits}
@@ -26,13 +28,16 @@ module _ (c : tie.After-known-told3) where
   start = lent .before .before .before
 
   abbrev policy : Policy
-  policy = policyOf (start .args .routes .now) (start .args .allows-no-destination)
+  policy = policyOf (start .args .routes .now) (start .args .settings)
 
   abbrev asked : Reach
-  asked = reachOf (start .args .attribute .now) (start .args .originator) (start .args .communities .now)
+  asked = reachOf (start .args .attribute .now) (start .args .origin) (start .args .communities .now)
 
   attribute-octets : Octets (start .args .attribute .now)
   attribute-octets i = lent .shared-slice-known2 .given i .fits
+
+  origin-fits : start .args .origin .originator < 2 ^ 32
+  origin-fits = omega (arith, start .good)
 
 sound-table-requires : tie.Need-sound-table-requires
 sound-table-requires c κs = search (chosen-fits, needs)
@@ -45,7 +50,7 @@ apply-rules-requires c κs =
     let k = c .before .before in
     reach-prepared _ _ (chosen k .family-of .ensures) (policy k) (asked k) _ (start k .args .answers .now) _ (checked k .sound-table .ensures) _
     (reading k .before .before .used .given .1) _ (reading k .read-reach .ensures) _ _ (k .before .count .given .1)
-    (chosen-fits (start k .args .family) _ (chosen k .family-of .ensures)) (start k .fits .originator .fits)
+    (chosen-fits (start k .args .family) _ (chosen k .family-of .ensures)) (origin-fits k)
 
 returns : tie.Need-returns
 returns c = search (reach-unsound, needs)
@@ -59,7 +64,7 @@ returns-3 c =
     let k = applied .before .before .before in
     reach-done _ _ (chosen k .family-of .ensures) (policy k) (asked k) _ (start k .args .answers .now) _ (checked k .sound-table .ensures) _
     (reading k .before .before .used .given .1) _ (reading k .read-reach .ensures) _ _ (k .before .count .given .1)
-    (attribute-octets k) (start k .fits .originator .fits) _ _ (applied .apply-rules .ensures)
+    (attribute-octets k) (origin-fits k) _ _ (applied .apply-rules .ensures)
 
 pub reach-spec : {M : Type 1} → statement M
 reach-spec =
