@@ -17,21 +17,9 @@ use Rattle.extension.specs.declared.Progress.{Progress}
 use Rattle.extension.specs.declared.NextHeader.{NextHeader}
 use Rattle.extension.specs.declared.NextHeader.the-variants.{Another, Upper, Lost}
 use Rattle.extension.specs.declared.Ended.{Ended}
-use Rattle.extension.specs.Extension.{isWalked, isFirstFragment, offsetOfFragment, extensionSize, extensionAt, fragmentAt, headerAt, ended, headersFrom, atFirst, upperLayer}
+use Rattle.extension.specs.Extension.{isWalked, isFirstFragment, offsetOfFragment, extensionSize, extensionAt, fragmentAt, headerAt, ended, headersFrom, atFirst, upperLayer, walkedOver, beforeFragment, pastFragment}
 use Rattle.extension.proofs.ExtensionLaws.{another-within, headers-on, headers-upper, headers-lost, headers-ind, unfragmented-zero}
 use Rattle.extension.proofs.LaidOut.{upper-here, second-fragment, later-lost}
-
--- the headers that are walked over behind a packet's own, each as where the walk had come to before it
-abbrev pub walkedOver : List ℕ → List Progress
-walkedOver s = headersFrom s (atFirst s) .items
-
--- where a walk has come to before the first fragment header, by the place where that begins
-abbrev pub beforeFragment : ℕ → Progress
-beforeFragment place = record { kind = 44; at = place; fragmented = false; field = 0 }
-
--- and behind it, by its octets
-abbrev pub pastFragment : List ℕ → ℕ → Progress
-pastFragment s place = record { kind = getD s place 0; at = place + 8; fragmented = true; field = numberAt 2 s (place + 2) }
 
 module _ (s : List ℕ) where
   -- a header that is walked over leads on to where the walk ends

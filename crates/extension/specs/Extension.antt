@@ -75,3 +75,15 @@ headersFrom s p = through s (ended false (atFirst s)) (λ q. headerStep q (heade
 -- that none is found.
 unfoldable pub upperLayer : List ℕ → Ended
 upperLayer s = headersFrom s (atFirst s) .ending
+
+-- The headers that are walked over behind a packet's own, each as where the walk had come to before it.
+abbrev pub walkedOver : List ℕ → List Progress
+walkedOver s = headersFrom s (atFirst s) .items
+
+-- Where a walk has come to before the first fragment header, by the place where that begins.
+abbrev pub beforeFragment : ℕ → Progress
+beforeFragment place = record { kind = 44; at = place; fragmented = false; field = 0 }
+
+-- And behind it, by its octets.
+abbrev pub pastFragment : List ℕ → ℕ → Progress
+pastFragment s place = record { kind = getD s place 0; at = place + 8; fragmented = true; field = numberAt 2 s (place + 2) }

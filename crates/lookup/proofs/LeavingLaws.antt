@@ -34,22 +34,9 @@ use Rattle.table.proofs.SpliceLaws.{table-record}
 use Rattle.table.proofs.SoundLaws.{encodes-entries}
 use Rattle.table.proofs.ChangeLaws.{value-octets}
 use Rattle.table.proofs.LeaveLaws.{changed-encodes}
+use Rattle.lookup.specs.Leaving.{hits, upTo, firstHit, firstRecord, Alike}
 use Rattle.lookup.specs.Lookup.{hit, collected, mergedOnto, verdictOf, verdictFor, firstPlace}
 use Rattle.lookup.proofs.LookupLaws.{hit-plain}
-
--- the entries that are hit
-abbrev pub hits : (Entry → Bool) → List Entry → List Entry
-hits test [] = []
-hits test (e ∷ es) = cond (test e) (e ∷ hits test es) (hits test es)
-
--- entries down to the first without T
-abbrev pub upTo : List Entry → List Entry
-upTo [] = []
-upTo (e ∷ es) = e ∷ cond (e .actions .onward) (upTo es) []
-
--- the first entry that is hit, if one is
-abbrev pub firstHit : (Entry → Bool) → List Entry → Option Entry
-firstHit test es = head? (hits test es)
 
 module _ (test : Entry → Bool) where
   -- a lookup collects the hits down to the first without T
@@ -141,11 +128,7 @@ abbrev recordIf : Option Entry → List ℕ
 recordIf none = []
 recordIf (some e) = recordOf e
 
--- the octets of the first match's record in a table
-abbrev pub firstRecord : (Entry → Bool) → List ℕ → List ℕ
-firstRecord test t = between t (firstPlace test 0 (entries t) .start) (firstPlace test 0 (entries t) .end)
-
--- they are those of the first entry that is hit
+-- the first record of a table is that of the first entry that is hit
 first-record : (test : Entry → Bool) (family : Family) (t : List ℕ) (es : List Entry) → Encodes family t es → firstRecord test t ≡ recordIf (firstHit test es)
 first-record test family t es c =
     rw (encodes-entries family t es c)
@@ -164,14 +147,9 @@ module _ (family : Family) (head : List ℕ) (packet : Packet) where
   verdict-hits es gs same =
       ap (λ (l : List Entry). verdictOf (mergedOnto noActions l) (length l)) (collected-same (hit family head packet) es gs same)
 
-  -- two tables say the same of a packet: one verdict, and first records of the same octets
-  pub record Alike (t u : List ℕ) : Type 0 where
-    pub verdict : verdictFor family head packet (entries t) ≡ verdictFor family head packet (entries u)
-    pub octets : firstRecord (hit family head packet) t ≡ firstRecord (hit family head packet) u
-
   -- **tables with the same hits say the same**
   pub same-hits : (t u : List ℕ) (es gs : List Entry) → Encodes family t es → Encodes family u gs
-      → hits (hit family head packet) es ≡ hits (hit family head packet) gs → Alike t u
+      → hits (hit family head packet) es ≡ hits (hit family head packet) gs → Alike family head packet t u
   same-hits t u es gs c d same =
       record {
         verdict = rw (encodes-entries family t es c, encodes-entries family u gs d) (verdict-hits es gs same);
@@ -183,7 +161,7 @@ module _ (family : Family) (head : List ℕ) (packet : Packet) where
   module _ (t : List ℕ) (es : List Entry) (c : Encodes family t es) where
     -- **so does a table from which a rule that is not hit was withdrawn**
     pub withdrawn-alike : (k : RuleKey) → ((x : Entry) → lookup keyOrder (entryKey family) k es ≡ some x → hit family head packet x ≡ false)
-        → Alike t (changed family t (withdraw k) .table)
+        → Alike family head packet t (changed family t (withdraw k) .table)
     withdrawn-alike k held =
         same-hits t _ es (apply keyOrder (entryKey family) cost (length t) (withdraw k) es .table) c (changed-encodes family t es c (withdraw k) tt)
         (rw (withdraw-removes keyOrder (entryKey family) cost (length t) k es) (sym (hits-remove (hit family head packet) keyOrder (entryKey family) k es held)))
@@ -200,7 +178,7 @@ module _ (family : Family) (head : List ℕ) (packet : Packet) where
           hit-plain family fits head packet x e value own (keys-only family fits (x .value) (e .value) value own (old .accepted) ok (there .1))
 
       -- **and a table to which a rule that is not hit was announced**: the one that it replaces is then not hit either
-      pub announced-alike : possible family e ≡ true → hit family head packet e ≡ false → Alike t (changed family t (announce e true) .table)
+      pub announced-alike : possible family e ≡ true → hit family head packet e ≡ false → Alike family head packet t (changed family t (announce e true) .table)
       announced-alike ok missed =
           let accepted = is-possible family e ok .value .accepted in
           let same = hits-insert (hit family head packet) keyOrder (entryKey family) e es missed (λ x found. held-hit accepted x found ∙ missed) in

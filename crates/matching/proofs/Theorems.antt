@@ -29,7 +29,8 @@ use Rattle.packet.specs.Header.{fragmentField, fragmentOffset}
 use Rattle.packet.specs.declared.Field.the-variants.{Hidden}
 use Rattle.packet.specs.Header6.{counted}
 use Rattle.packet.specs.Packet.{fieldsOf, packetOf}
-use Rattle.packet.proofs.Theorems.{hidden, usable-fields, later-hidden}
+use Rattle.packet.specs.Transport.{hidden}
+use Rattle.packet.proofs.Theorems.{usable-fields, later-hidden}
 use Rattle.packet.proofs.Theorems6.{lost-hidden, later-six-hidden}
 use Rattle.extension.specs.Extension.{offsetOfFragment, upperLayer}
 use Rattle.matching.specs.Operator.{bitmaskHolds}

@@ -9,15 +9,14 @@ use Rattle.octets.specs.Number.{numberAt}
 use Rattle.octets.specs.Walk.{walk}
 use Rattle.octets.proofs.Cases.{apart}
 use Rattle.rule.specs.Family.{ipv6}
-use Rattle.extension.specs.Extension.{offsetOfFragment, extensionAt, fragmentAt, headerAt, headersFrom, upperLayer}
-use Rattle.extension.proofs.FragmentLaws.{walkedOver, beforeFragment}
+use Rattle.extension.specs.Extension.{offsetOfFragment, extensionAt, fragmentAt, headerAt, headersFrom, upperLayer, walkedOver, beforeFragment}
 use Rattle.packet.specs.declared.Field.{Field}
 use Rattle.packet.specs.declared.Field.the-variants.{Shown, Hidden}
 use Rattle.packet.specs.declared.Packet.{Packet}
 use Rattle.packet.specs.Header6.{ipv6Unusable, counted, upperOctets}
 use Rattle.packet.specs.Transport.{hasPorts, hasIcmp, transportFields}
 use Rattle.packet.specs.Packet.{fragmentData, ipv6Fields}
-use Rattle.packet.proofs.Theorems6.{LaterFragment}
+use Rattle.packet.specs.Later.{LaterFragment}
 
 -- an IPv6 header by its first octet, its payload length and its next header, and what follows
 abbrev own : ℕ → ℕ → ℕ → List ℕ → List ℕ

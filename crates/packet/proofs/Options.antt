@@ -18,9 +18,9 @@ use Rattle.packet.specs.declared.Packet.{Packet}
 use Rattle.packet.specs.declared.Reading.{Reading}
 use Rattle.packet.specs.declared.Reading.the-variants.{Usable, Unusable}
 use Rattle.packet.specs.Header.{headerWords, totalLength, fragmentField, dontFragment, fragmentOffset, moreFragments, ipv4Unusable, destination, source, protocol, dscp}
-use Rattle.packet.specs.Transport.{transportOctets, transportFields}
+use Rattle.packet.specs.Transport.{transportOctets, transportFields, hidden}
 use Rattle.packet.specs.Packet.{fragmentData, oneWord, ipv4Fields, packetOf}
-use Rattle.packet.proofs.Theorems.{four-read, hidden, no-octets}
+use Rattle.packet.proofs.Theorems.{four-read, no-octets}
 
 -- 01 before 2026-02: transport octets "are found only if header length is 5 words and fragment offset 0"
 abbrev octetsBefore : List ℕ → List ℕ

@@ -21,13 +21,9 @@ use Rattle.packet.specs.declared.Packet.{Packet}
 use Rattle.packet.specs.declared.Reading.the-variants.{Usable, Unusable}
 use Rattle.packet.specs.Header.{headerWords, totalLength, fragmentField, fragmentOffset, ipv4Unusable, protocol}
 use Rattle.packet.specs.Header6.{ipv6Unusable}
-use Rattle.packet.specs.Transport.{transportFound, transportOctets, transportFields}
+use Rattle.packet.specs.Transport.{transportFound, transportOctets, transportFields, hidden}
 use Rattle.packet.specs.Packet.{ipv4Fields, ipv6Fields, readingOf, isUnusable, fieldsOf, packetOf}
 use Rattle.packet.proofs.TransportLaws.{later-not-found, empty}
-
--- a transport header of which nothing is shown
-abbrev pub hidden : Transport
-hidden = record { «source_port» = Hidden; «destination_port» = Hidden; «icmp_type» = Hidden; «icmp_code» = Hidden; flags = Hidden }
 
 -- no octets show nothing, whatever the protocol
 pub no-octets : (family : Family) (protocol : ℕ) → transportFields family protocol [] ≡ hidden

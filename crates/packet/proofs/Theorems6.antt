@@ -3,7 +3,7 @@
 -- header's octets**. Assumes nothing.
 use mathlib.Core.Path.{_≡_, sym, ap, subst, _∙_}
 use mathlib.Core.Bool.{true, false, not, cond, and-false}
-use mathlib.Core.List.{List, _++_, List·Memᴰ}
+use mathlib.Core.List.{List, _++_}
 use Prim.Native.Nat.{ℕ, _+_, _<_, _≤_}
 use native.Mathlib.Omega.{arith}
 use lib.Dec.{eqb}
@@ -14,16 +14,17 @@ use Rattle.octets.proofs.Cases.{by-test}
 use Rattle.octets.proofs.NumberLaws.{number-before}
 use Rattle.rule.specs.declared.Family.{Family}
 use Rattle.rule.specs.Family.{ipv6}
-use Rattle.extension.specs.Extension.{isWalked, offsetOfFragment, moreFlag, ended, upperLayer}
+use Rattle.extension.specs.Extension.{isWalked, offsetOfFragment, moreFlag, ended, upperLayer, pastFragment}
 use Rattle.packet.specs.declared.Field.the-variants.{Shown, Hidden}
 use Rattle.packet.specs.declared.Packet.{Packet}
 use Rattle.packet.specs.declared.Reading.the-variants.{Usable}
 use Rattle.packet.specs.Header6.{packetLength, counted, upperOctets}
-use Rattle.packet.specs.Transport.{shownIf}
+use Rattle.packet.specs.Transport.{hidden}
+use Rattle.packet.specs.Later.{LaterFragment, ShownLater}
 use Rattle.packet.specs.Packet.{fragmentData, ipv6Fields, fieldsOf, packetOf}
 use Rattle.extension.proofs.ExtensionLaws.{unfragmented-zero}
-use Rattle.extension.proofs.FragmentLaws.{walkedOver, beforeFragment, pastFragment, fragment-within, fragment-ends, came-over-later}
-use Rattle.packet.proofs.Theorems.{hidden, no-octets, usable-fields}
+use Rattle.extension.proofs.FragmentLaws.{fragment-within, fragment-ends, came-over-later}
+use Rattle.packet.proofs.Theorems.{no-octets, usable-fields}
 
 module _ (family : Family) (s : List ℕ) where
   -- 2026-04: a walk that "finds none, so types 3 to 9 don't match"
@@ -47,18 +48,6 @@ module _ (family : Family) (s : List ℕ) where
   pub unfragmented-none : upperLayer (counted s) .progress .fragmented ≡ false → ipv6Fields family s .fragment ≡ 0
   unfolding ipv6Fields fragmentData
   unfragmented-none none = rw (unfragmented-zero (counted s) none)
-
--- a later fragment of IPv6, by its octets: at a place begins the first header 44 that the walk comes over, and the offset in it is not 0
-pub record LaterFragment (s : List ℕ) (place : ℕ) : Type 0 where
-  pub walked : List·Memᴰ (beforeFragment place) (walkedOver (counted s))
-  pub later : offsetOfFragment (numberAt 2 s (place + 2)) ≡ 0 → ⊥
-
--- what it shows. Types 4 to 9 are hidden. Type 12 has 0x02, and with it 0x08 where M is clear. Type 3 has the number in the header's first octet,
--- its "Next Header", unless that is 0, 43 or 60; then it is hidden too.
-pub record ShownLater (s : List ℕ) (place : ℕ) (packet : Packet) : Type 0 where
-  pub transport : packet .transport ≡ hidden
-  pub fragment : packet .fragment ≡ cond (moreFlag (numberAt 2 s (place + 2))) 0x02 0x0a
-  pub protocol : packet .protocol ≡ shownIf (not (isWalked (getD s place 0))) (getD s place 0)
 
 -- the fragment data behind an offset that is not 0
 later-data : (field : ℕ) → (offsetOfFragment field ≡ 0 → ⊥) → fragmentData false (eqb (offsetOfFragment field) 0) (moreFlag field) ≡ cond (moreFlag field) 0x02 0x0a

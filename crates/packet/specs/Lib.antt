@@ -3,3 +3,4 @@ pub mod Header
 pub mod Header6
 pub mod Transport
 pub mod Packet
+pub mod Later

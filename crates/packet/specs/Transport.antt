@@ -40,6 +40,10 @@ hasFlags protocol there = eqb protocol 6 && leb 14 there
 abbrev pub shownIf : Bool → ℕ → Field
 shownIf holds number = cond holds (Shown number) Hidden
 
+-- A transport header of which nothing is shown.
+abbrev pub hidden : Transport
+hidden = record { «source_port» = Hidden; «destination_port» = Hidden; «icmp_type» = Hidden; «icmp_code» = Hidden; flags = Hidden }
+
 -- The fields that transport octets show. Flags are in their two-octet form, 01: "octets 12 and 13 with the top four bits as 0"; a value of
 -- one octet asks for no bit above those of octet 13 (`flags-octet` in matching/proofs/Theorems.antt).
 unfoldable pub transportFields : Family → ℕ → List ℕ → Transport
