@@ -1,22 +1,22 @@
 -- **Demand 3 for the program**: after any input, route lines anywhere, its table holds exactly the rules whose last counted call was a feasible
 -- announcement, by the routes in use at that line, each with that call's actions, once, in precedence order (`input-holds`); and each line
--- that makes a call prints the answer of that call (`announce-prints`, `withdraw-prints`). Assumes nothing.
+-- that makes a call prints the answer of that call (`calls-printed`). Assumes nothing.
 use mathlib.Core.Path.{_≡_, refl, sym, ap, subst, _∙_}
-use mathlib.Core.Bool.{false}
 use mathlib.Core.List.{List, [], _∷_, _++_}
 use Prim.Native.Nat.{ℕ, _≤_}
 use native.Mathlib.Omega.{arith}
 use lib.ListN.{take}
 use Rattle.octets.specs.Test.{Each}
-use Rattle.octets.proofs.Cases.{by-test}
+use Rattle.octets.proofs.Cases.{by-test, apart}
 use Rattle.rule.specs.Family.{ipv4}
 use Rattle.table.specs.Sound.{mostOctets}
-use Rattle.request.specs.Input.{announcementOf, policyOf}
+use Rattle.request.specs.Input.{originOf, announcementOf, policyOf}
 use Rattle.line.specs.Line.{Line, route, announce, withdraw, list, other, lineOf}
 use Rattle.line.proofs.SaidLaws.{announced-could}
-use Rattle.lines.specs.Serve.{routeFits, served}
-use Rattle.lines.specs.Input.{State, programOctets, firstState, linesOf, afterLine, afterLines, leftBy}
-use Rattle.history.specs.History.{Call, Made, CanBe, EachCanBe, Happened, endOf, historyOf, emptyTable, FromEmpty, HoldsExactly}
+use Rattle.lines.specs.Serve.{Serving, routeFits, settingOff, servedAs, served}
+use Rattle.answers.specs.Answer.{changeText}
+use Rattle.lines.specs.Input.{State, lineText, programOctets, firstState, linesOf, afterLine, afterLines, leftBy}
+use Rattle.history.specs.History.{Call, announcement, withdrawal, answerTold, Made, CanBe, EachCanBe, Happened, endOf, outcomeOf, historyOf, emptyTable, FromEmpty, HoldsExactly}
 use Rattle.history.proofs.HistoryLaws.{history-holds}
 use Rattle.history.proofs.Happens.{end-append, given-append, happened-append, happens, each-given}
 use Rattle.line_history.specs.Calls.{callsOf, madeBy}
@@ -33,8 +33,8 @@ line-given state line =
     go list e = tt
     go other e = tt
 
--- they leave the table that the line leaves
-line-left : (state : State) (line : List ℕ) → endOf (state .table) (historyOf ipv4 (state .table) (callsOf state (lineOf line))) ≡ afterLine state line .table
+-- **a line leaves the table that its calls leave**, and so one that makes none leaves it as it was
+pub line-left : (state : State) (line : List ℕ) → endOf (state .table) (historyOf ipv4 (state .table) (callsOf state (lineOf line))) ≡ afterLine state line .table
 unfolding afterLine served
 line-left state line =
     go (lineOf line) refl
@@ -81,3 +81,29 @@ lines-hold n fits state empty lines =
 pub input-holds : (input : List ℕ) → HoldsExactly ipv4 programOctets (madeBy (firstState programOctets) (linesOf input)) (leftBy programOctets input .table)
 unfolding firstState
 input-holds input = lines-hold programOctets (omega arith) (firstState programOctets) refl (linesOf input)
+
+-- a line prints the answer of a call that is made in its state
+abbrev Prints : State → List ℕ → Call → Type 0
+Prints state line call = lineText state line ≡ changeText (answerTold call (outcomeOf ipv4 call (state .table) .answer))
+
+-- what a line says is served
+says : (state : State) (line : List ℕ) (l : Line) → lineOf line ≡ l
+    → served line (state .used) (state .routes) (state .table) ≡ servedAs l (state .used) (state .routes) (state .table)
+unfolding served
+says state line l e = rw e
+
+-- **a line that makes a call prints the answer of that call**
+pub calls-printed : (state : State) (line : List ℕ) (call : Call) → callsOf state (lineOf line) ≡ call ∷ [] → Prints state line call
+calls-printed state line call is =
+    go (lineOf line) refl is
+  where
+    go : (l : Line) → lineOf line ≡ l → callsOf state l ≡ call ∷ [] → Prints state line call
+    go (announce rule originator communities) e made =
+        let same : announcement (policyOf (take (state .used) (state .routes)) settingOff) (announcementOf rule (originOf originator) communities) ≡ call = cc in
+        subst (Prints state line) same (ap (λ (o : Serving). o .text) (says state line _ e))
+    go (withdraw rule) e made =
+        let same : withdrawal rule ≡ call = cc in
+        subst (Prints state line) same (ap (λ (o : Serving). o .text) (says state line _ e))
+    go (route address size originator neighbour) e made = apart (cc)
+    go list e made = apart (cc)
+    go other e made = apart (cc)

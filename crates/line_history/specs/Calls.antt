@@ -5,9 +5,9 @@ use mathlib.Core.List.{List, [], _∷_, _++_}
 use Prim.Native.Nat.{ℕ}
 use lib.ListN.{take}
 use Rattle.rule.specs.Family.{ipv4}
-use Rattle.request.specs.Input.{announcementOf, policyOf}
+use Rattle.request.specs.Input.{originOf, announcementOf, policyOf}
 use Rattle.line.specs.Line.{Line, route, announce, withdraw, list, other, lineOf}
-use Rattle.lines.specs.Serve.{settingOff, originOf}
+use Rattle.lines.specs.Serve.{settingOff}
 use Rattle.lines.specs.Input.{State, afterLine}
 use Rattle.history.specs.History.{Call, announcement, withdrawal, Made, historyOf}
 

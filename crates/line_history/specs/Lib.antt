@@ -1,2 +1,3 @@
--- The definitions of this crate.
+-- The definitions of this crate, in the order in which to read them.
 pub mod Calls
+pub mod Worked
