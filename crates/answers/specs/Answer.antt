@@ -48,17 +48,17 @@ countText count = quoted "rules\t" ++ (decimalOf count ++ quoted "\n")
 unfoldable pub listText : List ℕ → List ℕ
 listText table = cond (soundTable ipv4 table) (countText (length (records table)) ++ rulesText (records table)) (answerText 10 0)
 
--- The most octets of an answer: `answer` and a tab, a number of at most 3 digits, a tab and a place of at most 20, and LF. The first line
+-- No answer has more octets than these: `answer` and a tab, a number of at most 3 digits, a tab and a place of at most 20, and LF. The first line
 -- of a list, `rules` and a tab, a count of at most 20 digits and LF, has less.
 abbrev pub mostAnswer : ℕ
 mostAnswer = 32
 
--- The least octets of a record: a head, and a value of one octet.
+-- No record has fewer octets than these: a head, and a value of one octet.
 abbrev pub leastRecord : ℕ
 leastRecord = headCost + 1
 
--- The most octets that a line prints over a table of n octets: an answer, or a list, whose first line has no more than an answer, and whose
--- others have two digits for each octet of the table and six more, `rule`, a tab and LF, for each record that n octets can hold.
+-- No line prints more octets than these over a table of n octets: it prints an answer, or a list, whose first line has no more than an answer,
+-- and whose others have two digits for each octet of the table and six more, `rule`, a tab and LF, for each record that n octets can hold.
 abbrev pub mostText : ℕ → ℕ
 mostText n = mostAnswer + (2 * n + 6 * (n / leastRecord))
 

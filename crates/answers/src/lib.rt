@@ -5,18 +5,16 @@ ghost use Prim.Native.Nat.{_≤_};
 ghost use lib.ListN.{length};
 ghost use Rattle.table.specs.Sound.{mostOctets};
 ghost use Rattle.table.specs.Walk.{records};
-ghost use Rattle.flowspec.specs.Told.{changeTold};
 ghost use Rattle.text.specs.Print.{Printed};
-ghost use Rattle.answers.specs.Answer.{placeText, answerText, unknownText, changeText, countText, ruleText, rulesText, listText, mostAnswer, mostText, Answered};
-use flowspec::Change;
+ghost use Rattle.answers.specs.Answer.{placeText, answerText, unknownText, countText, ruleText, rulesText, listText, mostAnswer, mostText, Answered};
 use rule::AddressFamily;
 use table::NextRecord;
 use table::Soundness;
 
-// The most octets of an answer, which `mostAnswer` in specs/Answer.antt counts.
+// No answer has more octets than these, which `mostAnswer` in specs/Answer.antt counts.
 pub const MOST_ANSWER: usize = 32;
 
-// The least octets of a record: a head, and a value of one octet.
+// No record has fewer octets than these: a head, and a value of one octet.
 pub const LEAST_RECORD: usize = entry::HEAD_COST + 1;
 
 // ---- Printing an answer ----
@@ -37,23 +35,13 @@ fn put_place(out: &mut [u8], at: usize, number: u8, place: usize) -> usize
 }
 
 // Prints the answer of a call: how long the text is.
-fn put_answer(out: &mut [u8], number: u8, place: usize) -> usize
+pub fn put_answer(out: &mut [u8], number: u8, place: usize) -> usize
     ensures { λ r. ⌜ Answered mostAnswer (now (out .entry)) (answerText number place) (now (out .exit)) r ⌝ }
 {
     let start = text::put_octets(out, 0, b"answer\t");
     let end = text::put_decimal(out, start, number as u64);
     let stop = put_place(out, end, number, place);
     text::put_octets(out, stop, b"\n")
-}
-
-// Prints the answer of a change of the table: how long the text is.
-pub fn put_change(out: &mut [u8], change: Change) -> usize
-    ensures { λ r. ⌜ Answered mostAnswer (now (out .entry)) (changeText (changeTold change)) (now (out .exit)) r ⌝ }
-{
-    match change {
-        Change::Done => put_answer(out, 0, 0),
-        Change::Refused { number, place } => put_answer(out, number, place),
-    }
 }
 
 // Prints the answer to a line of another form: how long the text is.

@@ -2,7 +2,8 @@
 // words of its name (crate calls) for the family of its number, 4 for IPv4 and 6 for IPv6, and promises what that call does. No promise can name
 // a C function: rust/flowspec/tests/names.rs holds names, families and parameters to each other and to the header.
 ghost use Rattle.rule.specs.Family.{ipv4, ipv6};
-ghost use Rattle.calls.specs.Word.{settingIn, originatorIn};
+ghost use Rattle.request.specs.Input.{originOf};
+ghost use Rattle.calls.specs.Word.{settingsIn};
 ghost use Rattle.calls.specs.Promise.{ReadCall, WriteCall, CompareCall, FeasibleCall, ActionsCall, AnnounceCall, WithdrawCall, ReachCall, UnreachCall, LookupCall, FirstMatchCall};
 use rule::AddressFamily;
 
@@ -49,7 +50,7 @@ pub extern "C" fn flowspec4_feasible(
     rule: &[u8],
     originator: u32,
 ) -> u64
-    ensures { λ r. ⌜ FeasibleCall ipv4 (settingIn «allow_no_destination») (originatorIn originator)
+    ensures { λ r. ⌜ FeasibleCall ipv4 (settingsIn «allow_no_destination») (originOf originator)
         (record { routes = now (routes .entry); rule = now (rule .entry) })
         r
         (record { routes = now (routes .exit); rule = now (rule .exit) }) ⌝ }
@@ -84,7 +85,7 @@ pub extern "C" fn flowspec4_announce(
     originator: u32,
     communities: &[u8],
 ) -> u64
-    ensures { λ r. ⌜ AnnounceCall ipv4 (settingIn «allow_no_destination») (originatorIn originator)
+    ensures { λ r. ⌜ AnnounceCall ipv4 (settingsIn «allow_no_destination») (originOf originator)
         (record {
           table = now (table .entry);
           routes = now (routes .entry);
@@ -133,7 +134,7 @@ pub extern "C" fn flowspec4_reach(
     answers: &mut [u32],
     out: &mut [u64; 1],
 ) -> u64
-    ensures { λ r. ⌜ ReachCall ipv4 (settingIn «allow_no_destination») (originatorIn originator)
+    ensures { λ r. ⌜ ReachCall ipv4 (settingsIn «allow_no_destination») (originOf originator)
         (record {
           table = now (table .entry);
           routes = now (routes .entry);
@@ -256,7 +257,7 @@ pub extern "C" fn flowspec6_feasible(
     rule: &[u8],
     originator: u32,
 ) -> u64
-    ensures { λ r. ⌜ FeasibleCall ipv6 (settingIn «allow_no_destination») (originatorIn originator)
+    ensures { λ r. ⌜ FeasibleCall ipv6 (settingsIn «allow_no_destination») (originOf originator)
         (record { routes = now (routes .entry); rule = now (rule .entry) })
         r
         (record { routes = now (routes .exit); rule = now (rule .exit) }) ⌝ }
@@ -280,7 +281,7 @@ pub extern "C" fn flowspec6_announce(
     originator: u32,
     communities: &[u8],
 ) -> u64
-    ensures { λ r. ⌜ AnnounceCall ipv6 (settingIn «allow_no_destination») (originatorIn originator)
+    ensures { λ r. ⌜ AnnounceCall ipv6 (settingsIn «allow_no_destination») (originOf originator)
         (record {
           table = now (table .entry);
           routes = now (routes .entry);
@@ -329,7 +330,7 @@ pub extern "C" fn flowspec6_reach(
     answers: &mut [u32],
     out: &mut [u64; 1],
 ) -> u64
-    ensures { λ r. ⌜ ReachCall ipv6 (settingIn «allow_no_destination») (originatorIn originator)
+    ensures { λ r. ⌜ ReachCall ipv6 (settingsIn «allow_no_destination») (originOf originator)
         (record {
           table = now (table .entry);
           routes = now (routes .entry);

@@ -2,19 +2,21 @@
 -- it was lent; every history at the door is one of calls in words; so whatever is asked of whatever table has one, of exactly this, with the
 -- door's answers, and demand 3 holds of it. Assumes nothing.
 use mathlib.Core.Path.{_≡_, refl, sym, ap, subst, _∙_}
-use mathlib.Core.Bool.{Bool}
 use mathlib.Core.List.{List, [], _∷_, map}
 use Prim.Native.Nat.{ℕ, _≤_}
 use Rattle.octets.specs.Test.{Each}
 use Rattle.rule.specs.declared.Family.{Family}
+use Rattle.route.specs.declared.Origin.{Origin}
+use Rattle.route.specs.declared.Settings.{Settings}
 use Rattle.table.specs.Sound.{mostOctets}
-use Rattle.request.specs.Input.{Policy, announcementOf, policyOf}
-use Rattle.flowspec.specs.declared.Change.{Change}
-use Rattle.flowspec.specs.Told.{changeTold}
+use Rattle.request.specs.Input.{announcementOf, policyOf}
+use Rattle.flowspec.specs.declared.Announced.{Announced}
+use Rattle.flowspec.specs.declared.Withdrawn.{Withdrawn}
+use Rattle.flowspec.specs.Told.{announcedTold, withdrawnTold}
 use Rattle.update.specs.declared.Applied.{Applied}
 use Rattle.update.specs.Singles.{reachOf}
 use Rattle.update.specs.Apply.{appliedTold}
-use Rattle.history.specs.History.{Call, announcement, withdrawal, Promised, emptyTable, HoldsExactly}
+use Rattle.history.specs.History.{Call, announcement, withdrawal, AnswerTo, answerTold, Promised, emptyTable, HoldsExactly}
 use Rattle.history.specs.Attributes.{Attribute, reach, unreach, Event, single, whole, Asked, askedBy, endOfEvents, AskedCanBe, EventCanBe, WholePromised, EventsHappened, eventsOf, singlesOf}
 use Rattle.history.proofs.AttributesHappen.{events-happen, of-these-asks, events-happen-from-empty, events-happen-only}
 use Rattle.calls.specs.Word.{wordOf, outAfter}
@@ -26,14 +28,14 @@ use Rattle.called.proofs.HistoryLaws.{returned-happened, returned-holds
 
 -- ---- what a call ensures is what a history asks of it ----
 
-module _ (family : Family) (setting : Bool) (originator : ℕ) where
-  pub announce-returned : (lent : AnnounceBuffers) (result : ℕ) (left : AnnounceBuffers) → AnnounceCall family setting originator lent result left
-      → Returned family (announcement (policyOf (lent .routes) setting) (announcementOf (lent .rule) originator (lent .communities))) (lent .table) result (left .table)
+module _ (family : Family) (settings : Settings) (origin : Origin) where
+  pub announce-returned : (lent : AnnounceBuffers) (result : ℕ) (left : AnnounceBuffers) → AnnounceCall family settings origin lent result left
+      → Returned family (announcement (policyOf (lent .routes) settings) (announcementOf (lent .rule) origin (lent .communities))) (lent .table) result (left .table)
   announce-returned lent result left p =
       record { is = p .is; leaves = ap (λ (b : AnnounceBuffers). announces (b .table) (lent .routes) (lent .rule) (lent .communities)) (p .leaves) }
 
-  pub reach-returned : (lent : ReachBuffers) (result : ℕ) (left : ReachBuffers) → ReachCall family setting originator lent result left
-      → let attribute = reach (policyOf (lent .routes) setting) (reachOf (lent .attribute) originator (lent .communities)) in
+  pub reach-returned : (lent : ReachBuffers) (result : ℕ) (left : ReachBuffers) → ReachCall family settings origin lent result left
+      → let attribute = reach (policyOf (lent .routes) settings) (reachOf (lent .attribute) origin (lent .communities)) in
       WholeReturned family attribute (lent .table)
       (record {
         attribute = attribute;
@@ -80,16 +82,16 @@ told-tells a b e out = record { is = ap (λ (x : Applied). wordOf (appliedTold x
 
 module _ (family : Family) where
   -- what is promised at the door is what a call in words returns, with the answer's word
-  promised-returned : (call : Call) (table : List ℕ) (answer : Change) (left : List ℕ) → Promised family call table answer left
-      → Returned family call table (wordOf (changeTold answer)) left
+  promised-returned : (call : Call) (table : List ℕ) (answer : AnswerTo call) (left : List ℕ) → Promised family call table answer left
+      → Returned family call table (wordOf (answerTold call answer)) left
   promised-returned (announcement policy a) table answer left p =
       record {
-        is = ap (λ (c : Change). wordOf (changeTold c)) (p .is);
+        is = ap (λ (c : Announced). wordOf (announcedTold c)) (p .is);
         leaves = ap (λ (t : List ℕ). announces t (policy .routes) (a .rule) (a .communities)) (p .leaves);
       }
   promised-returned (withdrawal rule) table answer left p =
       record {
-        is = ap (λ (c : Change). wordOf (changeTold c)) (p .is);
+        is = ap (λ (c : Withdrawn). wordOf (withdrawnTold c)) (p .is);
         leaves = ap (λ (t : List ℕ). withdraws t rule) (p .leaves);
       }
 

@@ -11,11 +11,13 @@ use Rattle.rule.specs.declared.Family.{Family}
 use Rattle.rule.specs.Family.{Fits}
 use Rattle.rule.proofs.Refusal.{Refusal}
 use Rattle.table.specs.Sound.{mostOctets}
-use Rattle.flowspec.specs.declared.Change.{Change}
-use Rattle.flowspec.specs.declared.Change.the-variants.{Done, Refused}
-use Rattle.request.specs.Input.{Policy}
+use Rattle.flowspec.specs.declared.Announced.{Announced}
+use Rattle.flowspec.specs.declared.Announced.the-variants.{Held, Refused as NotAnnounced}
+use Rattle.flowspec.specs.declared.Withdrawn.{Withdrawn}
+use Rattle.flowspec.specs.declared.Withdrawn.the-variants.{Done, Refused as NotWithdrawn}
+use Rattle.request.specs.Input.{Announcement, Policy}
 use Rattle.flowspec.specs.Announce.{announcing, withdrawing}
-use Rattle.flowspec.specs.Told.{changeTold}
+use Rattle.flowspec.specs.Told.{announcedTold, withdrawnTold}
 use Rattle.flowspec.proofs.TableLaws.{announce-kept, withdraw-kept}
 use Rattle.update.specs.declared.Applied.{Applied}
 use Rattle.update.specs.declared.Applied.the-variants.{Done as AllDone, Refused as NotApplied}
@@ -33,9 +35,18 @@ use Rattle.calls.proofs.Places.{not-announced, not-withdrawn}
 use Rattle.calls.proofs.AttributePlaces.{not-reached, not-unreached}
 
 -- a word says the answer that it is the word of
-word-says : (c : Change) → ((number place : ℕ) → c ≡ Refused number place → Refusal number place) → answerIn (wordOf (changeTold c)) ≡ c
-word-says Done h = refl
-word-says (Refused number place) h =
+announced-says : (policy : Policy) (a : Announcement) (c : Announced) → ((number place : ℕ) → c ≡ NotAnnounced number place → Refusal number place)
+    → answerIn (announcement policy a) (wordOf (announcedTold c)) ≡ c
+announced-says policy a Held h = refl
+announced-says policy a (NotAnnounced number place) h =
+    let listed = h number place refl in
+    let some : number ≡ 0 → ⊥ = λ z. omega (arith, listed) in
+    rw (low-half number place listed, high-half number place listed, ne-eqb number 0 some)
+
+withdrawn-says : (rule : List ℕ) (c : Withdrawn) → ((number place : ℕ) → c ≡ NotWithdrawn number place → Refusal number place)
+    → answerIn (withdrawal rule) (wordOf (withdrawnTold c)) ≡ c
+withdrawn-says rule Done h = refl
+withdrawn-says rule (NotWithdrawn number place) h =
     let listed = h number place refl in
     let some : number ≡ 0 → ⊥ = λ z. omega (arith, listed) in
     rw (low-half number place listed, high-half number place listed, ne-eqb number 0 some)
@@ -52,14 +63,14 @@ applied-says (NotApplied number place) h entry result exit p =
 module _ (family : Family) where
   -- what a call in words promises is the door's promise, with the answer that its word says
   pub returned-promised : (call : Call) (table : List ℕ) (result : ℕ) (left : List ℕ) → Returned family call table result left
-      → Promised family call table (answerIn result) left
+      → Promised family call table (answerIn call result) left
   returned-promised (announcement policy a) table result left p =
-      announce-kept family policy a table (announcing family policy a table) (answerIn result) left refl
-      (rw (p .is) (word-says (announcing family policy a table .answer) (not-announced family policy a table)))
+      announce-kept family policy a table (announcing family policy a table) (answerIn (announcement policy a) result) left refl
+      (rw (p .is) (announced-says policy a (announcing family policy a table .answer) (not-announced family policy a table)))
       (ap (λ (b : AnnounceBuffers). b .table) (p .leaves))
   returned-promised (withdrawal rule) table result left p =
-      withdraw-kept family rule table (withdrawing family rule table) (answerIn result) left refl
-      (rw (p .is) (word-says (withdrawing family rule table .answer) (not-withdrawn family rule table)))
+      withdraw-kept family rule table (withdrawing family rule table) (answerIn (withdrawal rule) result) left refl
+      (rw (p .is) (withdrawn-says rule (withdrawing family rule table .answer) (not-withdrawn family rule table)))
       (ap (λ (b : WithdrawBuffers). b .table) (p .leaves))
 
   -- the same of a whole attribute
@@ -110,5 +121,5 @@ module _ (family : Family) where
         → AllReturned family (emptyTable n) g
         → Agree family (singlesOf family (emptyTable n) (answered h)) (singlesOf family (emptyTable n) (answered g))
         → EndAlike family (endOfEvents (emptyTable n) (answered h)) (endOfEvents (emptyTable n) (answered g))
-    returned-alike whole policy h g same one given also p q agree =
-        events-alike family n whole policy (answered h) (answered g) (from-empty h given p) (from-empty g also q) same one agree
+    returned-alike whole policy h g lent other given also p q agree =
+        events-alike family n whole policy (answered h) (answered g) (from-empty h given p) (from-empty g also q) lent other agree

@@ -7,14 +7,13 @@ use mathlib.Core.List.{List, [], _∷_, map}
 use lib.Dec.{eqb}
 use lib.ListN.{getD}
 use Rattle.rule.specs.declared.Family.{Family}
-use Rattle.flowspec.specs.declared.Change.{Change}
-use Rattle.flowspec.specs.declared.Change.the-variants.{Done, Refused}
-use Rattle.flowspec.specs.Told.{changeTold}
+use Rattle.flowspec.specs.declared.Announced.the-variants.{Held, Refused as NotAnnounced}
+use Rattle.flowspec.specs.declared.Withdrawn.the-variants.{Done, Refused as NotWithdrawn}
 use Rattle.request.specs.Input.{Policy}
 use Rattle.update.specs.declared.Applied.{Applied}
 use Rattle.update.specs.declared.Applied.the-variants.{Done as AllDone, Refused as NotApplied}
 use Rattle.update.specs.Apply.{appliedTold}
-use Rattle.history.specs.History.{Call, announcement, withdrawal, Made}
+use Rattle.history.specs.History.{Call, announcement, withdrawal, AnswerTo, answerTold, Made}
 use Rattle.history.specs.Attributes.{Attribute, reach, unreach, Event, single, whole, Asked, eventsOf}
 use Rattle.calls.specs.Word.{wordOf, outAfter}
 use Rattle.calls.specs.Promise.{AnnounceCall, WithdrawCall, ReachCall, UnreachCall}
@@ -25,9 +24,11 @@ pub record Called : Type 0 where
   pub result : ℕ
   pub left : List ℕ
 
--- The answer that a word says: done, or the refusal whose number stands in the low 32 bits and whose place in the high 32.
-abbrev pub answerIn : ℕ → Change
-answerIn result = cond (eqb (result % 2 ^ 32) 0) Done (Refused (result % 2 ^ 32) (result / 2 ^ 32))
+-- The answer that a word says, by the kind of the call: held or done, or the refusal whose number stands in the low 32 bits and whose place in
+-- the high 32.
+abbrev pub answerIn : (call : Call) → ℕ → AnswerTo call
+answerIn (announcement policy a) result = cond (eqb (result % 2 ^ 32) 0) Held (NotAnnounced (result % 2 ^ 32) (result / 2 ^ 32))
+answerIn (withdrawal rule) result = cond (eqb (result % 2 ^ 32) 0) Done (NotWithdrawn (result % 2 ^ 32) (result / 2 ^ 32))
 
 -- A call with a whole attribute as it was made: what it was given, the answer words and `out` that it was lent, the word that it returned,
 -- and `out`, the answer words and the table's octets after it.
@@ -51,7 +52,7 @@ pub data CalledEvent : Type 0 where
 
 -- A call with the answer that its word says.
 abbrev pub answeredOne : Called → Made
-answeredOne m = record { call = m .call; answer = answerIn (m .result); left = m .left }
+answeredOne m = record { call = m .call; answer = answerIn (m .call) (m .result); left = m .left }
 
 -- The same of a call with a whole attribute.
 abbrev pub answeredEvent : CalledEvent → Event
@@ -70,7 +71,7 @@ leftIn (all w) = w .left
 
 -- What was done at the door, as a call in words does it that is lent this `out`.
 abbrev pub asCalled : List ℕ → Event → CalledEvent
-asCalled out (single m) = one (record { call = m .call; result = wordOf (changeTold (m .answer)); left = m .left })
+asCalled out (single m) = one (record { call = m .call; result = wordOf (answerTold (m .call) (m .answer)); left = m .left })
 asCalled out (whole w) =
     let told = appliedTold (w .answer) in
     all (record { attribute = w .attribute; lent = w .lent; entry = out; result = wordOf told; exit = outAfter told out; words = w .words; left = w .left })
@@ -79,7 +80,7 @@ module _ (family : Family) where
   -- A call's promise, with a table at entry and one at exit: what else it is lent it leaves as it was.
   abbrev pub Returned : Call → List ℕ → ℕ → List ℕ → Type 0
   Returned (announcement policy a) table result left =
-      AnnounceCall family (policy .allowsNoDestination) (a .originator)
+      AnnounceCall family (policy .settings) (a .origin)
       (record { table = table; routes = policy .routes; rule = a .rule; communities = a .communities })
       result
       (record { table = left; routes = policy .routes; rule = a .rule; communities = a .communities })
@@ -89,7 +90,7 @@ module _ (family : Family) where
   -- The promise of a call with a whole attribute.
   abbrev pub WholeReturned : Attribute → List ℕ → WholeCalled → Type 0
   WholeReturned (reach policy r) table w =
-      ReachCall family (policy .allowsNoDestination) (r .originator)
+      ReachCall family (policy .settings) (r .origin)
       (record {
         table = table;
         routes = policy .routes;

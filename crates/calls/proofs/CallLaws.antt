@@ -1,5 +1,6 @@
 -- How a call comes to its word and to what it leaves in `out`, done or refused, and so to its promise. Assumes nothing.
 use mathlib.Core.Path.{_≡_, refl, sym, ap, subst, _∙_}
+use mathlib.Core.Bool.{false}
 use mathlib.Core.List.{List, [], _∷_}
 use Prim.Native.Nat.{ℕ, _-_, _≤_}
 use native.Mathlib.Omega.{arith}
@@ -19,7 +20,7 @@ use Rattle.lookup.specs.declared.Verdict.the-variants.{Unmatched, Matched}
 use Rattle.rule.specs.Value.{mostValue}
 use Rattle.flowspec.specs.declared.Looked.the-variants.{Answered}
 use Rattle.flowspec.specs.declared.MatchPlace.{MatchPlace}
-use Rattle.flowspec.specs.Told.{Told, readingTold, actionsTold, verdictTold, lookupTold, matchPlaceTold}
+use Rattle.flowspec.specs.Told.{Told, done as doneTold, readingTold, actionsTold, verdictTold, lookupTold, matchPlaceTold}
 use Rattle.flowspec.specs.Look.{matchPlace}
 use Rattle.flowspec.specs.Promise.{ReadsOne, LocatesFirst}
 use Rattle.calls.specs.Word.{word, wordOf, outAfter}
@@ -70,14 +71,12 @@ looks table packet out = record { table = table; packet = packet; out = out }
 -- ---- what is told ----
 
 -- refused: `out` stays as it was
-pub refused : (number place : ℕ) (values entry : List ℕ) → Refusal number place → (result : ℕ) → result ≡ word number place
-    → Tells (record { number = number; place = place; values = values }) entry result entry
-refused number place values entry h result e =
-    let n : number ≡ 0 → ⊥ = λ z. omega arith in
-    record { is = e; out = rw (ne-eqb number 0 n) }
+pub refused : (number place : ℕ) (values entry : List ℕ) (result : ℕ) → result ≡ word number place
+    → Tells (record { grants = false; number = number; place = place; values = values }) entry result entry
+refused number place values entry result e = record { is = e; out = refl }
 
 -- done: `out` has the values
-pub done : (values entry : List ℕ) → Tells (record { number = 0; place = 0; values = values }) entry 0 values
+pub done : (values entry : List ℕ) → Tells (doneTold values) entry 0 values
 done values entry = record { is = refl; out = refl }
 
 -- the door's answer x is what its definition d says, and it was found to be y
@@ -100,7 +99,7 @@ module _ (family : Family) (rule : List ℕ) (r : Reading) (lent : List (List �
       → Tells (readingTold (oneRule family rule)) entry result entry
   read-refused entry number place result e h =
       answered readingTold (oneRule family rule) r (kept .is) (NotRead number place) e entry result entry
-      (refused number place (0 ∷ 0 ∷ []) entry (read-refusal number place e) result h)
+      (refused number place (0 ∷ 0 ∷ []) entry result h)
 
   pub read-done : (entry : List ℕ) (start size : ℕ) → r ≡ Rule start size → Tells (readingTold (oneRule family rule)) entry 0 (start ∷ size ∷ [])
   read-done entry start size e =
@@ -108,7 +107,7 @@ module _ (family : Family) (rule : List ℕ) (r : Reading) (lent : List (List �
 
 -- reading actions: unsound ones, and those that are read
 pub actions-refused : (entry : List ℕ) (result : ℕ) → result ≡ word 13 0 → Tells (actionsTold Unsound) entry result entry
-actions-refused entry result h = refused 13 0 _ entry (placeless 13 (omega arith) (omega arith)) result h
+actions-refused entry result h = refused 13 0 _ entry result h
 
 pub actions-done : (actions : Actions) (values entry : List ℕ) → values ≡ valuesOf actions → Tells (actionsTold (Read actions)) entry 0 values
 actions-done actions values entry h = rw h (done (valuesOf actions) entry)
@@ -129,7 +128,7 @@ matched-words v actions count values e h = rw (e, h)
 -- the first match, by its place with the lookup's number
 module _ (family : Family) (t octets entry : List ℕ) (place : MatchPlace) (lent : List (List ℕ)) (kept : LocatesFirst family t octets place lent) where
   pub first-refused : (place .number ≡ 0 → ⊥) → (result : ℕ) → result ≡ word (place .number) 0 → Tells (matchPlaceTold (matchPlace family t octets)) entry result entry
-  first-refused n result h = rw (← kept .is) (record { is = h; out = rw (ne-eqb (place .number) 0 n) })
+  first-refused n result h = rw (← kept .is, ne-eqb (place .number) 0 n) (record { is = h; out = refl })
 
   pub first-done : place .number ≡ 0 → Tells (matchPlaceTold (matchPlace family t octets)) entry 0 (place .start ∷ (place .end - place .start) ∷ [])
-  first-done z = rw (← kept .is) (record { is = rw z; out = rw (eq-eqb (place .number) 0 z) })
+  first-done z = rw (← kept .is, eq-eqb (place .number) 0 z) (record { is = refl; out = refl })

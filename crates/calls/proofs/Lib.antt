@@ -4,4 +4,5 @@ pub mod AttributePlaces
 pub mod Halves
 pub mod CallLaws
 pub mod Verdicts
+pub mod NumberLaws
 pub mod Unique

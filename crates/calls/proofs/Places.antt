@@ -4,12 +4,15 @@ use mathlib.Core.Bool.{Bool, true, false}
 use mathlib.Core.List.{List}
 use Prim.Native.Nat.{ℕ, _≤_}
 use native.Mathlib.Omega.{arith}
-use lib.Dec.{eqb}
+use lib.Dec.{leb, eqb}
+use lib.ListN.{length}
 use borrow.Author.Tests.{eqb-false}
 use Rattle.octets.specs.Order.{ordered}
 use Rattle.octets.specs.declared.Order.{Order}
 use Rattle.octets.specs.declared.Order.the-variants.{First as OrderFirst, Second as OrderSecond, Same as OrderSame}
-use Rattle.octets.proofs.Cases.{by-test}
+use Rattle.octets.proofs.Cases.{by-test, apart}
+use Rattle.sorted.specs.Table.{lookup, insert}
+use Rattle.sorted.specs.History.{Op, refuse, announce, withdraw, costs, isHeld}
 use Rattle.rule.specs.declared.Family.{Family}
 use Rattle.rule.specs.declared.Reading.{Reading}
 use Rattle.rule.specs.declared.Reading.the-variants.{Rule, Refused as NotRead}
@@ -17,8 +20,9 @@ use Rattle.spelling.specs.Plain.{plain}
 use Rattle.rule.specs.Reading.{valueOf, oneRule}
 use Rattle.rule.proofs.Refusal.{highestNumber, Refusal, placeless}
 use Rattle.rule.proofs.ReadingLaws.{SaysRule, one-says}
-use Rattle.order.specs.Key.{keysOf}
+use Rattle.order.specs.Key.{RuleKey, keysOf, keyOrder}
 use Rattle.order.specs.Precedence.{precedence}
+use Rattle.route.specs.declared.Origin.{Origin}
 use Rattle.route.specs.Route.{soundRoutes}
 use Rattle.action.specs.declared.Reading.{Reading as ActionsReading}
 use Rattle.action.specs.declared.Reading.the-variants.{Read, Unsound}
@@ -26,9 +30,10 @@ use Rattle.action.specs.Actions.{actionsOf}
 use Rattle.packet.specs.declared.Reading.{Reading as PacketReading}
 use Rattle.packet.specs.declared.Reading.the-variants.{Usable, Unusable}
 use Rattle.packet.specs.Packet.{packetOf}
-use Rattle.entry.specs.Entry.{Entry}
-use Rattle.table.specs.Sound.{soundTable}
-use Rattle.table.specs.Change.{holds, hasRoom, announced, withdrawn}
+use Rattle.entry.specs.Entry.{Entry, entryKey}
+use Rattle.table.specs.Walk.{entries}
+use Rattle.table.specs.Sound.{cost, soundTable}
+use Rattle.table.specs.Change.{changed}
 use Rattle.rule.specs.Value.{mostValue}
 use Rattle.order.specs.declared.Comparison.{Comparison}
 use Rattle.order.specs.declared.Comparison.the-variants.{First, Second, Same, Refused as NotCompared}
@@ -36,17 +41,19 @@ use Rattle.flowspec.specs.declared.Feasibility.{Feasibility}
 use Rattle.flowspec.specs.declared.Feasibility.the-variants.{Feasible, Refused as NotFeasible}
 use Rattle.request.specs.declared.Request.{Request}
 use Rattle.request.specs.declared.Request.the-variants.{Announce, Refused as NoRequest}
-use Rattle.flowspec.specs.declared.Change.{Change}
-use Rattle.flowspec.specs.declared.Change.the-variants.{Done, Refused as NotDone}
+use Rattle.flowspec.specs.declared.Announced.{Announced}
+use Rattle.flowspec.specs.declared.Announced.the-variants.{Held, Refused as NotAnnounced}
+use Rattle.flowspec.specs.declared.Withdrawn.{Withdrawn}
+use Rattle.flowspec.specs.declared.Withdrawn.the-variants.{Done, Refused as NotWithdrawn}
 use Rattle.flowspec.specs.declared.Looked.{Looked}
 use Rattle.flowspec.specs.declared.Looked.the-variants.{Answered, Refused as NotLookedUp}
-use Rattle.flowspec.specs.Told.{changeTold}
+use Rattle.flowspec.specs.Told.{announcedTold, withdrawnTold}
 use Rattle.order.specs.Compare.{comparisonOf, compareRead, compareRules}
 use Rattle.request.specs.Input.{Announcement, Policy}
 use Rattle.request.specs.Judging.{readWithRoutes, isFeasible}
 use Rattle.flowspec.specs.Feasibility.{feasibilityOf, judgeRead, judgement}
 use Rattle.request.specs.Request.{announcedEntry, requestFor, requestOf}
-use Rattle.flowspec.specs.Announce.{changeOf, announcedBy, announcing, withdrawnBy, withdrawing}
+use Rattle.flowspec.specs.Announce.{announcedOf, announcedBy, announcing, withdrawnOf, withdrawnBy, withdrawing}
 use Rattle.lookup.specs.Opening.{openingOf, opening}
 use Rattle.flowspec.specs.Look.{lookedUp, lookingUp}
 
@@ -92,33 +99,57 @@ with-says family words rule =
     go (NotRead number place) h = h
     go (Rule start size) h = tt
 
-pub not-feasible : (family : Family) (policy : Policy) (rule : List ℕ) (originator number place : ℕ) → judgement family policy rule originator ≡ NotFeasible number place
+pub not-feasible : (family : Family) (policy : Policy) (rule : List ℕ) (origin : Origin) (number place : ℕ) → judgement family policy rule origin ≡ NotFeasible number place
     → Refusal number place
 unfolding judgement
-not-feasible family policy rule originator number place e = subst Judges e (go (readWithRoutes family (policy .routes) rule) (with-says family (policy .routes) rule))
+not-feasible family policy rule origin number place e = subst Judges e (go (readWithRoutes family (policy .routes) rule) (with-says family (policy .routes) rule))
   where
     verdict : (b : Bool) → Judges (feasibilityOf b)
     verdict true = tt
     verdict false = placeless 8 (omega arith) (omega arith)
 
-    go : (r : Reading) → Reads r → Judges (judgeRead family policy rule originator r)
+    go : (r : Reading) → Reads r → Judges (judgeRead family policy rule origin r)
     go (NotRead number place) h = h
-    go (Rule start size) h = verdict (isFeasible family policy (valueOf rule start size) originator)
+    go (Rule start size) h = verdict (isFeasible family policy (valueOf rule start size) origin)
 
 -- ---- announcing and withdrawing ----
 
-abbrev Changes : Change → Type 0
-Changes (NotDone number place) = Refusal number place
-Changes Done = Unit {0}
+abbrev Announces : Announced → Type 0
+Announces (NotAnnounced number place) = Refusal number place
+Announces Held = Unit {0}
 
--- a change is near where each of its refusals is one of 01's table
-pub change-near : (c : Change) → ((number place : ℕ) → c ≡ NotDone number place → Refusal number place) → changeTold c .place ≤ mostValue
-change-near (NotDone number place) h = h number place refl .near
-change-near Done h = omega arith
+abbrev Withdraws : Withdrawn → Type 0
+Withdraws (NotWithdrawn number place) = Refusal number place
+Withdraws Done = Unit {0}
 
-changes : (number : ℕ) → number ≤ highestNumber → Changes (changeOf number)
-unfolding changeOf
-changes number h =
+-- an answer is near where each of its refusals is one of 01's table
+pub announced-near : (c : Announced) → ((number place : ℕ) → c ≡ NotAnnounced number place → Refusal number place) → announcedTold c .place ≤ mostValue
+announced-near (NotAnnounced number place) h = h number place refl .near
+announced-near Held h = omega arith
+
+pub withdrawn-near : (c : Withdrawn) → ((number place : ℕ) → c ≡ NotWithdrawn number place → Refusal number place) → withdrawnTold c .place ≤ mostValue
+withdrawn-near (NotWithdrawn number place) h = h number place refl .near
+withdrawn-near Done h = omega arith
+
+-- a change of an applied call has one of four numbers
+changed-known : (family : Family) (t : List ℕ) (op : Op RuleKey Entry) → ((number : ℕ) → op ≡ refuse number → number ≤ highestNumber)
+    → changed family t op .number ≤ highestNumber
+unfolding changed
+changed-known family t (refuse number) h = h number refl
+changed-known family t (announce e true) h =
+    by-test (leb (costs cost (insert keyOrder (entryKey family) e (entries t))) (length t)) (λ r. rw r (omega arith)) (λ r. rw r (omega arith))
+changed-known family t (announce e false) h = omega arith
+changed-known family t (withdraw k) h =
+    by-test (isHeld (lookup keyOrder (entryKey family) k (entries t))) (λ r. rw r (omega arith)) (λ r. rw r (omega arith))
+
+announces : (number : ℕ) → number ≤ highestNumber → Announces (announcedOf number)
+unfolding announcedOf
+announces number h =
+    by-test (eqb number 0) (λ t. rw t tt) (λ t. let n = eqb-false number 0 t in rw t (placeless number (omega arith) h))
+
+withdraws : (number : ℕ) → number ≤ highestNumber → Withdraws (withdrawnOf number)
+unfolding withdrawnOf
+withdraws number h =
     by-test (eqb number 0) (λ t. rw t tt) (λ t. let n = eqb-false number 0 t in rw t (placeless number (omega arith) h))
 
 abbrev Asks : Request → Type 0
@@ -135,38 +166,29 @@ module _ (family : Family) (policy : Policy) (a : Announcement) where
       go (Rule start size) h Unsound = placeless 13 (omega arith) (omega arith)
       go (Rule start size) h (Read actions) = tt
 
-  pub not-announced : (t : List ℕ) (number place : ℕ) → announcing family policy a t .answer ≡ NotDone number place
+  pub not-announced : (t : List ℕ) (number place : ℕ) → announcing family policy a t .answer ≡ NotAnnounced number place
       → Refusal number place
   unfolding announcing
   not-announced t number place e =
-      subst Changes e
+      subst Announces e
       (by-test (soundTable family t) (λ s. rw s (go (requestOf family policy a) asks))
       (λ s. rw s (placeless 10 (omega arith) (omega arith))))
     where
-      told : (n : Entry) (feasible : Bool) → announced family t n feasible .number ≤ highestNumber
-      told n true = by-test (hasRoom family t n) (λ h. rw h (omega arith)) (λ h. rw h (omega arith))
-      told n false = omega arith
-
-      go : (r : Request) → Asks r → Changes (announcedBy family a t r .answer)
+      go : (r : Request) → Asks r → Announces (announcedBy family a t r .answer)
       go (NoRequest number place) h = h
       go (Announce start size actions feasible) h =
-          let n : Entry = announcedEntry family a start size actions in
-          changes (announced family t n feasible .number) (told n feasible)
+          announces _ (changed-known family t (announce (announcedEntry family a start size actions) feasible) (λ n z. apart (cc)))
 
-pub not-withdrawn : (family : Family) (rule t : List ℕ) (number place : ℕ) → withdrawing family rule t .answer ≡ NotDone number place → Refusal number place
-unfolding withdrawing withdrawn
+pub not-withdrawn : (family : Family) (rule t : List ℕ) (number place : ℕ) → withdrawing family rule t .answer ≡ NotWithdrawn number place → Refusal number place
+unfolding withdrawing
 not-withdrawn family rule t number place e =
-    subst Changes e
+    subst Withdraws e
     (by-test (soundTable family t) (λ s. rw s (go (oneRule family rule) (one-says family rule))) (λ s. rw s (placeless 10 (omega arith) (omega arith))))
   where
-    told : (k : List (List ℕ)) → withdrawn family t k .number ≤ highestNumber
-    told k = by-test (holds family t k) (λ h. rw h (omega arith)) (λ h. rw h (omega arith))
-
-    go : (r : Reading) → SaysRule family rule r → Changes (withdrawnBy family t rule r .answer)
+    go : (r : Reading) → SaysRule family rule r → Withdraws (withdrawnBy family t rule r .answer)
     go (NotRead number place) h = h
     go (Rule start size) h =
-        let k = keysOf family (plain family (valueOf rule start size)) in
-        changes (withdrawn family t k .number) (told k)
+        withdraws _ (changed-known family t (withdraw (keysOf family (plain family (valueOf rule start size)))) (λ n z. apart (cc)))
 
 -- ---- looking up ----
 

@@ -1,8 +1,9 @@
 -- For each call: two results that satisfy its promise are equal, in the word and in every lent buffer at exit. Assumes nothing.
 use mathlib.Core.Path.{_≡_, sym, _∙_}
-use mathlib.Core.Bool.{Bool}
 use Prim.Native.Nat.{ℕ}
 use Rattle.rule.specs.declared.Family.{Family}
+use Rattle.route.specs.declared.Origin.{Origin}
+use Rattle.route.specs.declared.Settings.{Settings}
 use Rattle.flowspec.specs.Told.{Told}
 use Rattle.calls.specs.Buffers.{ReadBuffers, WriteBuffers, CompareBuffers, FeasibleBuffers, ActionsBuffers, AnnounceBuffers, WithdrawBuffers, ReachBuffers, UnreachBuffers, LookupBuffers}
 use Rattle.calls.specs.Promise.{Returns, ReadCall, WriteCall, CompareCall, FeasibleCall, ActionsCall, AnnounceCall, WithdrawCall, ReachCall, UnreachCall, LookupCall, FirstMatchCall}
@@ -36,15 +37,15 @@ module _ (family : Family) where
   pub one-first-match : (lent : LookupBuffers) (a b : ℕ) (x y : LookupBuffers) → FirstMatchCall family lent a x → FirstMatchCall family lent b y → (a ≡ b) × (x ≡ y)
   one-first-match lent a b x y p q = one-return p q
 
-  module _ (setting : Bool) (originator : ℕ) where
-    pub one-feasible : (lent : FeasibleBuffers) (a b : ℕ) (x y : FeasibleBuffers) → FeasibleCall family setting originator lent a x
-        → FeasibleCall family setting originator lent b y → (a ≡ b) × (x ≡ y)
+  module _ (settings : Settings) (origin : Origin) where
+    pub one-feasible : (lent : FeasibleBuffers) (a b : ℕ) (x y : FeasibleBuffers) → FeasibleCall family settings origin lent a x
+        → FeasibleCall family settings origin lent b y → (a ≡ b) × (x ≡ y)
     one-feasible lent a b x y p q = one-return p q
 
-    pub one-announce : (lent : AnnounceBuffers) (a b : ℕ) (x y : AnnounceBuffers) → AnnounceCall family setting originator lent a x
-        → AnnounceCall family setting originator lent b y → (a ≡ b) × (x ≡ y)
+    pub one-announce : (lent : AnnounceBuffers) (a b : ℕ) (x y : AnnounceBuffers) → AnnounceCall family settings origin lent a x
+        → AnnounceCall family settings origin lent b y → (a ≡ b) × (x ≡ y)
     one-announce lent a b x y p q = one-return p q
 
-    pub one-reach : (lent : ReachBuffers) (a b : ℕ) (x y : ReachBuffers) → ReachCall family setting originator lent a x
-        → ReachCall family setting originator lent b y → (a ≡ b) × (x ≡ y)
+    pub one-reach : (lent : ReachBuffers) (a b : ℕ) (x y : ReachBuffers) → ReachCall family settings origin lent a x
+        → ReachCall family settings origin lent b y → (a ≡ b) × (x ≡ y)
     one-reach lent a b x y p q = one-return p q

@@ -1,20 +1,21 @@
 -- What each call promises, for whatever family of addresses and whatever octets it is lent: the word that it returns (`result`), and what
--- every buffer that it is lent (`lent`, Buffers.antt) holds at exit (`left`): one that is lent to be read alone what it held. No call has a
+-- every buffer that it is lent (`lent`, Buffers.antt) holds at exit (`left`): one that is lent to be read alone holds what it held. No call has a
 -- `requires`. That no second result satisfies a promise is shown in proofs/Unique.antt. The answers are the door's, by its own definitions.
 use Prim.Native.Nat.{ℕ}
 use mathlib.Core.Path.{_≡_}
-use mathlib.Core.Bool.{Bool}
 use lib.ListN.{length}
 use Rattle.rule.specs.declared.Family.{Family}
 use Rattle.rule.specs.Reading.{oneRule}
 use Rattle.spelling.specs.Writing.{writing, afterWriting}
 use Rattle.action.specs.Actions.{actionsOf}
 use Rattle.order.specs.Compare.{compareRules}
+use Rattle.route.specs.declared.Origin.{Origin}
+use Rattle.route.specs.declared.Settings.{Settings}
 use Rattle.request.specs.Input.{announcementOf, policyOf}
 use Rattle.flowspec.specs.Feasibility.{judgement}
 use Rattle.flowspec.specs.Announce.{announcing, withdrawing}
 use Rattle.flowspec.specs.Look.{lookingUp, matchPlace}
-use Rattle.flowspec.specs.Told.{Told, readingTold, writingTold, comparisonTold, feasibilityTold, actionsTold, changeTold, lookupTold, matchPlaceTold}
+use Rattle.flowspec.specs.Told.{Told, readingTold, writingTold, comparisonTold, feasibilityTold, actionsTold, announcedTold, withdrawnTold, lookupTold, matchPlaceTold}
 use Rattle.update.specs.Singles.{reachOf}
 use Rattle.update.specs.Apply.{reaching, unreaching, appliedTold}
 use Rattle.calls.specs.Word.{wordOf, outAfter}
@@ -45,9 +46,9 @@ CompareCall family lent result left =
     Returns answer (record { a = lent .a; b = lent .b; out = outAfter answer (lent .out) }) result left
 
 -- `feasible`: refusals 9, 1 to 7, 15, 8.
-abbrev pub FeasibleCall : Family → Bool → ℕ → FeasibleBuffers → ℕ → FeasibleBuffers → Type 0
-FeasibleCall family setting originator lent result left =
-    let answer = feasibilityTold (judgement family (policyOf (lent .routes) setting) (lent .rule) originator) in
+abbrev pub FeasibleCall : Family → Settings → Origin → FeasibleBuffers → ℕ → FeasibleBuffers → Type 0
+FeasibleCall family settings origin lent result left =
+    let answer = feasibilityTold (judgement family (policyOf (lent .routes) settings) (lent .rule) origin) in
     Returns answer (record { routes = lent .routes; rule = lent .rule }) result left
 
 -- `actions`: refusal 13.
@@ -57,11 +58,11 @@ ActionsCall lent result left =
     Returns answer (record { communities = lent .communities; out = outAfter answer (lent .out) }) result left
 
 -- `announce`: refusals 10, 9, 1 to 7, 15, 13, 8, 11; of these 8 alone changes the table, where the rule was held.
-abbrev pub AnnounceCall : Family → Bool → ℕ → AnnounceBuffers → ℕ → AnnounceBuffers → Type 0
-AnnounceCall family setting originator lent result left =
-    let announcement = announcementOf (lent .rule) originator (lent .communities) in
-    let outcome = announcing family (policyOf (lent .routes) setting) announcement (lent .table) in
-    Returns (changeTold (outcome .answer))
+abbrev pub AnnounceCall : Family → Settings → Origin → AnnounceBuffers → ℕ → AnnounceBuffers → Type 0
+AnnounceCall family settings origin lent result left =
+    let announcement = announcementOf (lent .rule) origin (lent .communities) in
+    let outcome = announcing family (policyOf (lent .routes) settings) announcement (lent .table) in
+    Returns (announcedTold (outcome .answer))
     (record { table = outcome .table; routes = lent .routes; rule = lent .rule; communities = lent .communities })
     result left
 
@@ -69,13 +70,13 @@ AnnounceCall family setting originator lent result left =
 abbrev pub WithdrawCall : Family → WithdrawBuffers → ℕ → WithdrawBuffers → Type 0
 WithdrawCall family lent result left =
     let outcome = withdrawing family (lent .rule) (lent .table) in
-    Returns (changeTold (outcome .answer)) (record { table = outcome .table; rule = lent .rule }) result left
+    Returns (withdrawnTold (outcome .answer)) (record { table = outcome .table; rule = lent .rule }) result left
 
 -- `reach`: refusals 10, 9, 19, 1 to 7 rule by rule, 13, 16, none of which changes an octet or a word.
-abbrev pub ReachCall : Family → Bool → ℕ → ReachBuffers → ℕ → ReachBuffers → Type 0
-ReachCall family setting originator lent result left =
-    let reach = reachOf (lent .attribute) originator (lent .communities) in
-    let applied = reaching family (policyOf (lent .routes) setting) reach (lent .table) (lent .answers) in
+abbrev pub ReachCall : Family → Settings → Origin → ReachBuffers → ℕ → ReachBuffers → Type 0
+ReachCall family settings origin lent result left =
+    let reach = reachOf (lent .attribute) origin (lent .communities) in
+    let applied = reaching family (policyOf (lent .routes) settings) reach (lent .table) (lent .answers) in
     let answer = appliedTold (applied .answer) in
     Returns answer
     (record {

@@ -4,14 +4,18 @@ ghost use mathlib.Core.Path.{_≡_};
 ghost use Prim.Native.Nat.{_≤_};
 ghost use Rattle.rule.specs.Family.{familyOf};
 ghost use Rattle.rule.specs.Value.{mostValue};
-ghost use Rattle.flowspec.specs.Told.{changeTold, verdictTold};
-ghost use Rattle.calls.specs.Word.{word, wordOf, settingIn, originatorIn};
+ghost use Rattle.flowspec.specs.Told.{announcedTold, withdrawnTold, verdictTold};
+ghost use Rattle.request.specs.Input.{originOf};
+ghost use Rattle.calls.specs.Word.{word, wordOf, settingsIn};
 ghost use Rattle.calls.specs.Promise.{ReadCall, WriteCall, CompareCall, FeasibleCall, ActionsCall, AnnounceCall, WithdrawCall, ReachCall, UnreachCall, LookupCall, FirstMatchCall};
-use flowspec::Change;
+use flowspec::Announced;
 use flowspec::Feasibility;
 use flowspec::Looked;
+use flowspec::Withdrawn;
 use lookup::Verdict;
 use order::Comparison;
+use route::Origin;
+use route::Settings;
 use rule::AddressFamily;
 use rule::Reading;
 use spelling::Writing;
@@ -25,22 +29,35 @@ fn word_of(number: u8, place: usize) -> u64
     number as u64 + place as u64 * 0x1_0000_0000
 }
 
-// The word of a change: its refusal's, and 0 where it is done.
-fn change_word(change: Change) -> u64
-    requires { ⌜ changeTold change .place ≤ mostValue ⌝ }
-    ensures { λ r. ⌜ r ≡ wordOf (changeTold change) ⌝ }
+// The word of an announcement's answer: its refusal's, and 0 where the rule is held.
+fn announced_word(answer: Announced) -> u64
+    requires { ⌜ announcedTold answer .place ≤ mostValue ⌝ }
+    ensures { λ r. ⌜ r ≡ wordOf (announcedTold answer) ⌝ }
 {
-    match change {
-        Change::Refused { number, place } => word_of(number, place),
-        Change::Done => 0,
+    match answer {
+        Announced::Refused { number, place } => word_of(number, place),
+        Announced::Held => 0,
     }
 }
 
-// Whether the header's `allow_no_destination` is on: 0 is off and any other number on.
-fn is_on(allow: u32) -> bool
-    ensures { λ r. ⌜ r ≡ settingIn allow ⌝ }
+// The word of a withdrawal's answer: its refusal's, and 0 where it is done.
+fn withdrawn_word(answer: Withdrawn) -> u64
+    requires { ⌜ withdrawnTold answer .place ≤ mostValue ⌝ }
+    ensures { λ r. ⌜ r ≡ wordOf (withdrawnTold answer) ⌝ }
 {
-    allow != 0
+    match answer {
+        Withdrawn::Refused { number, place } => word_of(number, place),
+        Withdrawn::Done => 0,
+    }
+}
+
+// The settings that the header's `allow_no_destination` says: 0 is off and any other number on.
+fn settings_in(allow: u32) -> Settings
+    ensures { λ r. ⌜ r ≡ settingsIn allow ⌝ }
+{
+    Settings {
+        allows_no_destination: allow != 0,
+    }
 }
 
 // The words of a verdict: the count and the merged actions' values, all 0 where no rule matches.
@@ -127,13 +144,14 @@ pub fn feasible(
     rule: &[u8],
     originator: u32,
 ) -> u64
-    ensures { λ r. ⌜ FeasibleCall (familyOf family) (settingIn «allow_no_destination») (originatorIn originator)
+    ensures { λ r. ⌜ FeasibleCall (familyOf family) (settingsIn «allow_no_destination») (originOf originator)
         (record { routes = now (routes .entry); rule = now (rule .entry) })
         r
         (record { routes = now (routes .exit); rule = now (rule .exit) }) ⌝ }
 {
-    let on = is_on(allow_no_destination);
-    match flowspec::judge_rule(family, on, routes, rule, originator) {
+    let settings = settings_in(allow_no_destination);
+    let origin = Origin { originator };
+    match flowspec::judge_rule(family, settings, routes, rule, origin) {
         Feasibility::Refused { number, place } => word_of(number, place),
         Feasibility::Feasible => 0,
     }
@@ -165,7 +183,7 @@ pub fn announce(
     originator: u32,
     communities: &[u8],
 ) -> u64
-    ensures { λ r. ⌜ AnnounceCall (familyOf family) (settingIn «allow_no_destination») (originatorIn originator)
+    ensures { λ r. ⌜ AnnounceCall (familyOf family) (settingsIn «allow_no_destination») (originOf originator)
         (record {
           table = now (table .entry);
           routes = now (routes .entry);
@@ -180,9 +198,10 @@ pub fn announce(
           communities = now (communities .exit);
         }) ⌝ }
 {
-    let on = is_on(allow_no_destination);
-    let change = flowspec::announce(family, table, on, routes, rule, originator, communities);
-    change_word(change)
+    let settings = settings_in(allow_no_destination);
+    let origin = Origin { originator };
+    let answer = flowspec::announce(family, table, settings, routes, rule, origin, communities);
+    announced_word(answer)
 }
 
 // Withdraws a rule from a table.
@@ -192,8 +211,8 @@ pub fn withdraw(family: AddressFamily, table: &mut [u8], rule: &[u8]) -> u64
         r
         (record { table = now (table .exit); rule = now (rule .exit) }) ⌝ }
 {
-    let change = flowspec::withdraw(family, table, rule);
-    change_word(change)
+    let answer = flowspec::withdraw(family, table, rule);
+    withdrawn_word(answer)
 }
 
 // Announces the rules of an MP_REACH_NLRI attribute to a table; `allow_no_destination` is on where it is not 0. answers: a number for each
@@ -209,7 +228,7 @@ pub fn reach(
     answers: &mut [u32],
     out: &mut [u64; 1],
 ) -> u64
-    ensures { λ r. ⌜ ReachCall (familyOf family) (settingIn «allow_no_destination») (originatorIn originator)
+    ensures { λ r. ⌜ ReachCall (familyOf family) (settingsIn «allow_no_destination») (originOf originator)
         (record {
           table = now (table .entry);
           routes = now (routes .entry);
@@ -228,14 +247,15 @@ pub fn reach(
           out = now (out .exit);
         }) ⌝ }
 {
-    let on = is_on(allow_no_destination);
+    let settings = settings_in(allow_no_destination);
+    let origin = Origin { originator };
     match update::reach(
         family,
         table,
-        on,
+        settings,
         routes,
         attribute,
-        originator,
+        origin,
         communities,
         answers,
     ) {

@@ -5,8 +5,10 @@ use mathlib.Core.List.{List, [], _∷_}
 use Prim.Native.Nat.{ℕ, _+_, _-_, _≤_}
 use native.Mathlib.Omega.{arith}
 use native.Mathlib.Nat.{add-sub-cancel-left}
-use borrow.Author.Tests.{eq-eqb, ne-eqb}
+use lib.Dec.{eqb}
+use borrow.Author.Tests.{eq-eqb, ne-eqb, eqb-true}
 use lib.ListN.{length, take, drop}
+use Rattle.octets.proofs.Cases.{by-test}
 use Rattle.sorted.specs.History.{announce, withdraw}
 use Rattle.rule.specs.declared.Family.{Family}
 use Rattle.rule.specs.declared.Checked.the-variants.{Accepted}
@@ -34,58 +36,63 @@ use Rattle.table.specs.Change.{changed, Ready, Leaves}
 use Rattle.table.proofs.LeaveLaws.{was-sound, was-ready, was-unsound}
 use Rattle.request.specs.declared.Request.{Request}
 use Rattle.request.specs.declared.Request.the-variants.{Announce, Refused as NoRequest}
-use Rattle.flowspec.specs.declared.Change.{Change}
-use Rattle.flowspec.specs.declared.Change.the-variants.{Done, Refused as NotDone}
+use Rattle.flowspec.specs.declared.Announced.{Announced}
+use Rattle.flowspec.specs.declared.Announced.the-variants.{Held, Refused as NotAnnounced}
+use Rattle.flowspec.specs.declared.Withdrawn.{Withdrawn}
+use Rattle.flowspec.specs.declared.Withdrawn.the-variants.{Done, Refused as NotWithdrawn}
 use Rattle.flowspec.specs.declared.Looked.{Looked}
 use Rattle.flowspec.specs.declared.Looked.the-variants.{Answered, Refused as NotLookedUp}
 use Rattle.flowspec.specs.declared.MatchPlace.{MatchPlace}
 use Rattle.request.specs.Request.{announcedEntry, requestOf}
-use Rattle.flowspec.specs.Announce.{Outcome, changeOf, outcome, refusal, announcing, withdrawing}
+use Rattle.flowspec.specs.Announce.{Outcome, outcome, refusal, announcedOf, announcing, withdrawnOf, withdrawing}
 use Rattle.lookup.specs.declared.Opening.{Opening}
 use Rattle.lookup.specs.declared.Opening.the-variants.{With, Refused as NotOpened}
 use Rattle.request.specs.Input.{Announcement, Policy}
 use Rattle.lookup.specs.Opening.{opening}
 use Rattle.flowspec.specs.Look.{noHead, lookingUp, firstMatch, matchPlace}
-use Rattle.flowspec.specs.Told.{changeTold, verdictTold, lookupTold, matchPlaceTold}
+use Rattle.flowspec.specs.Told.{announcedTold, withdrawnTold, verdictTold, lookupTold, matchPlaceTold}
 use Rattle.flowspec.specs.Promise.{Announces, Withdraws, LooksUp, LocatesFirst}
 use Rattle.flowspec.proofs.ToldLaws.{announce-tells, withdraw-tells, lookup-tells, locate-tells}
 use Rattle.request.proofs.RequestLaws.{asked-rule}
 
--- ---- changes ----
-
--- how `change_of` comes to its answers
-pub change-done : (number : ℕ) → number ≡ 0 → Done ≡ changeOf number
-unfolding changeOf
-change-done number h = rw (eq-eqb number 0 h)
-
-pub change-refused : (number : ℕ) → (number ≡ 0 → ⊥) → NotDone number 0 ≡ changeOf number
-unfolding changeOf
-change-refused number h = rw (ne-eqb number 0 h)
-
 -- ---- announcing ----
 
+-- how `announced_of` comes to its answers
+pub announced-held : (number : ℕ) → number ≡ 0 → Held ≡ announcedOf number
+unfolding announcedOf
+announced-held number h = rw (eq-eqb number 0 h)
+
+pub announced-refused : (number : ℕ) → (number ≡ 0 → ⊥) → NotAnnounced number 0 ≡ announcedOf number
+unfolding announcedOf
+announced-refused number h = rw (ne-eqb number 0 h)
+
+-- the answer for a change's number tells that number
+pub announced-told : (number : ℕ) → announcedTold (announcedOf number) .number ≡ number
+unfolding announcedOf
+announced-told number = by-test (eqb number 0) (λ h. rw h (sym (eqb-true number 0 h))) (λ h. rw h)
+
 -- a promise from the equation for the outcome
-pub announce-kept : (family : Family) (policy : Policy) (a : Announcement) (t : List ℕ) (o : Outcome) (answer : Change) (exit : List ℕ)
+pub announce-kept : (family : Family) (policy : Policy) (a : Announcement) (t : List ℕ) (o : Outcome Announced) (answer : Announced) (exit : List ℕ)
     → announcing family policy a t ≡ o → answer ≡ o .answer → exit ≡ o .table
     → Announces family policy a t answer exit (policy .routes ∷ a .rule ∷ a .communities ∷ [])
 announce-kept family policy a t o answer exit e h x =
     let q : answer ≡ announcing family policy a t .answer = rw e h in
-    record { is = q; tells = ap changeTold q ∙ announce-tells family policy a t; leaves = rw e x; keeps = refl }
+    record { is = q; tells = ap announcedTold q ∙ announce-tells family policy a t; leaves = rw e x; keeps = refl }
 
 module _ (family chosen : Family) (chose : chosen ≡ family) (policy : Policy) (a : Announcement) (t : List ℕ) (s : Soundness) (is : s ≡ soundness chosen t) where
-  pub announce-unsound : s ≡ Unsound → Announces family policy a t (NotDone 10 0) t (policy .routes ∷ a .rule ∷ a .communities ∷ [])
+  pub announce-unsound : s ≡ Unsound → Announces family policy a t (NotAnnounced 10 0) t (policy .routes ∷ a .rule ∷ a .communities ∷ [])
   unfolding announcing
-  announce-unsound e = rw (← chose) (announce-kept chosen policy a t (refusal 10 0 t) _ _ (rw (was-unsound chosen t s is e)) refl refl)
+  announce-unsound e = rw (← chose) (announce-kept chosen policy a t (refusal (NotAnnounced 10 0) t) _ _ (rw (was-unsound chosen t s is e)) refl refl)
 
   module _ (used : ℕ) (e : s ≡ Sound used) (request : Request) (asks : request ≡ requestOf family policy a) where
     asks-so : request ≡ requestOf chosen policy a
     asks-so = rw chose asks
 
     pub announce-refused : (number place : ℕ) → request ≡ NoRequest number place
-        → Announces family policy a t (NotDone number place) t (policy .routes ∷ a .rule ∷ a .communities ∷ [])
+        → Announces family policy a t (NotAnnounced number place) t (policy .routes ∷ a .rule ∷ a .communities ∷ [])
     unfolding announcing
     announce-refused number place f =
-        rw (← chose) (announce-kept chosen policy a t (refusal number place t) _ _ (rw (was-sound chosen t s is used e .0, ← asks-so, f)) refl refl)
+        rw (← chose) (announce-kept chosen policy a t (refusal (NotAnnounced number place) t) _ _ (rw (was-sound chosen t s is used e .0, ← asks-so, f)) refl refl)
 
     module _ (start size : ℕ) (actions : Actions) (feasible : Bool) (f : request ≡ Announce start size actions feasible) where
       pub announce-rule : ReadRule chosen (a .rule) start size
@@ -94,34 +101,49 @@ module _ (family chosen : Family) (chose : chosen ≡ family) (policy : Policy) 
       pub announce-requires : Fits chosen → Ready chosen t used × (checkValue chosen (take (start + size - start) (drop start (a .rule))) ≡ Accepted)
       announce-requires fits = (was-ready chosen t s is fits used e, rw (add-sub-cancel-left start size) (announce-rule .accepted))
 
-      pub announce-done : (told : Answer) (answer : Change) (exit : List ℕ)
+      pub announce-done : (told : Answer) (answer : Announced) (exit : List ℕ)
           → Leaves (changed chosen t (announce (entryFor (record { origin = a .origin; actions = actions }) (plain chosen (take (start + size - start) (drop start (a .rule))))) feasible)) told exit
-          → answer ≡ changeOf (told .number) → Announces family policy a t answer exit (policy .routes ∷ a .rule ∷ a .communities ∷ [])
+          → answer ≡ announcedOf (told .number) → Announces family policy a t answer exit (policy .routes ∷ a .rule ∷ a .communities ∷ [])
       unfolding announcing
       announce-done told answer exit h says =
           let k = rw (add-sub-cancel-left start size) at h in
           rw (← chose)
-          (announce-kept chosen policy a t (outcome (changed chosen t (announce (announcedEntry chosen a start size actions) feasible))) answer exit
-          (rw (was-sound chosen t s is used e .0, ← asks-so, f)) (says ∙ ap changeOf (k .number)) (k .table))
+          (announce-kept chosen policy a t (outcome announcedOf (changed chosen t (announce (announcedEntry chosen a start size actions) feasible))) answer exit
+          (rw (was-sound chosen t s is used e .0, ← asks-so, f)) (says ∙ ap announcedOf (k .number)) (k .table))
 
 -- ---- withdrawing ----
 
-pub withdraw-kept : (family : Family) (rule t : List ℕ) (o : Outcome) (answer : Change) (exit : List ℕ) → withdrawing family rule t ≡ o
+-- how `withdrawn_of` comes to its answers
+pub withdrawn-done : (number : ℕ) → number ≡ 0 → Done ≡ withdrawnOf number
+unfolding withdrawnOf
+withdrawn-done number h = rw (eq-eqb number 0 h)
+
+pub withdrawn-refused : (number : ℕ) → (number ≡ 0 → ⊥) → NotWithdrawn number 0 ≡ withdrawnOf number
+unfolding withdrawnOf
+withdrawn-refused number h = rw (ne-eqb number 0 h)
+
+-- the answer for a change's number tells that number
+pub withdrawn-told : (number : ℕ) → withdrawnTold (withdrawnOf number) .number ≡ number
+unfolding withdrawnOf
+withdrawn-told number = by-test (eqb number 0) (λ h. rw h (sym (eqb-true number 0 h))) (λ h. rw h)
+
+-- a promise from the equation for the outcome
+pub withdraw-kept : (family : Family) (rule t : List ℕ) (o : Outcome Withdrawn) (answer : Withdrawn) (exit : List ℕ) → withdrawing family rule t ≡ o
     → answer ≡ o .answer → exit ≡ o .table → Withdraws family rule t answer exit (rule ∷ [])
 withdraw-kept family rule t o answer exit e a x =
     let q : answer ≡ withdrawing family rule t .answer = rw e a in
-    record { is = q; tells = ap changeTold q ∙ withdraw-tells family rule t; leaves = rw e x; keeps = refl }
+    record { is = q; tells = ap withdrawnTold q ∙ withdraw-tells family rule t; leaves = rw e x; keeps = refl }
 
 module _ (family chosen : Family) (chose : chosen ≡ family) (rule t : List ℕ) (s : Soundness) (is : s ≡ soundness chosen t) where
-  pub withdraw-unsound : s ≡ Unsound → Withdraws family rule t (NotDone 10 0) t (rule ∷ [])
+  pub withdraw-unsound : s ≡ Unsound → Withdraws family rule t (NotWithdrawn 10 0) t (rule ∷ [])
   unfolding withdrawing
-  withdraw-unsound e = rw (← chose) (withdraw-kept chosen rule t (refusal 10 0 t) _ _ (rw (was-unsound chosen t s is e)) refl refl)
+  withdraw-unsound e = rw (← chose) (withdraw-kept chosen rule t (refusal (NotWithdrawn 10 0) t) _ _ (rw (was-unsound chosen t s is e)) refl refl)
 
   module _ (used : ℕ) (e : s ≡ Sound used) (reading : Reading) (read-is : reading ≡ oneRule chosen rule) where
-    pub withdraw-refused : (number place : ℕ) → reading ≡ NotRead number place → Withdraws family rule t (NotDone number place) t (rule ∷ [])
+    pub withdraw-refused : (number place : ℕ) → reading ≡ NotRead number place → Withdraws family rule t (NotWithdrawn number place) t (rule ∷ [])
     unfolding withdrawing
     withdraw-refused number place f =
-        rw (← chose) (withdraw-kept chosen rule t (refusal number place t) _ _ (rw (was-sound chosen t s is used e .0, ← read-is, f)) refl refl)
+        rw (← chose) (withdraw-kept chosen rule t (refusal (NotWithdrawn number place) t) _ _ (rw (was-sound chosen t s is used e .0, ← read-is, f)) refl refl)
 
     module _ (start size : ℕ) (f : reading ≡ Rule start size) where
       pub withdraw-rule : ReadRule chosen rule start size
@@ -130,15 +152,15 @@ module _ (family chosen : Family) (chose : chosen ≡ family) (rule t : List ℕ
       pub withdraw-requires : Fits chosen → Ready chosen t used × (checkValue chosen (take (start + size - start) (drop start rule)) ≡ Accepted)
       withdraw-requires fits = (was-ready chosen t s is fits used e, rw (add-sub-cancel-left start size) (withdraw-rule .accepted))
 
-      pub withdraw-done : (told : Answer) (answer : Change) (exit : List ℕ)
+      pub withdraw-done : (told : Answer) (answer : Withdrawn) (exit : List ℕ)
           → Leaves (changed chosen t (withdraw (keysOf chosen (plain chosen (take (start + size - start) (drop start rule)))))) told exit
-          → answer ≡ changeOf (told .number) → Withdraws family rule t answer exit (rule ∷ [])
+          → answer ≡ withdrawnOf (told .number) → Withdraws family rule t answer exit (rule ∷ [])
       unfolding withdrawing
       withdraw-done told answer exit h a =
           let k = rw (add-sub-cancel-left start size) at h in
           rw (← chose)
-          (withdraw-kept chosen rule t (outcome (changed chosen t (withdraw (keysOf chosen (plain chosen (valueOf rule start size)))))) answer exit
-          (rw (was-sound chosen t s is used e .0, ← read-is, f)) (a ∙ ap changeOf (k .number)) (k .table))
+          (withdraw-kept chosen rule t (outcome withdrawnOf (changed chosen t (withdraw (keysOf chosen (plain chosen (valueOf rule start size)))))) answer exit
+          (rw (was-sound chosen t s is used e .0, ← read-is, f)) (a ∙ ap withdrawnOf (k .number)) (k .table))
 
 -- ---- looking up ----
 

@@ -3,6 +3,7 @@ use mathlib.Core.Path.{_≡_, refl, sym, ap, _∙_}
 use mathlib.Core.List.{List, [], _∷_}
 use Prim.Native.Nat.{ℕ, _≤_, Ordering, Ordering·lt, Ordering·eq, Ordering·gt}
 use native.Mathlib.Omega.{arith}
+use mathlib.Core.Bool.{cond}
 use lib.Dec.{leb, ltb, eqb}
 use lib.ListN.{length}
 use borrow.Author.Tests.{le-leb, lt-leb, ltb-true, ltb-false, eqb-true, eqb-false, ne-eqb}
@@ -41,10 +42,10 @@ use Rattle.request.specs.Input.{Announcement, Policy}
 use Rattle.request.specs.Judging.{readWithRoutes, isFeasible}
 use Rattle.flowspec.specs.Feasibility.{judgeRead, judgement}
 use Rattle.request.specs.Request.{requestFor, requestOf, announcedEntry}
-use Rattle.flowspec.specs.Announce.{changeOf, announcedBy, announcing, withdrawnBy, withdrawing}
+use Rattle.flowspec.specs.Announce.{announcedOf, announcedBy, announcing, withdrawnOf, withdrawnBy, withdrawing}
 use Rattle.lookup.specs.Opening.{opening}
 use Rattle.flowspec.specs.Look.{noHead, lookingUp, firstMatch, matchPlace}
-use Rattle.flowspec.specs.Told.{Told, done, refused, readingTold, writingTold, comparisonTold, feasibilityTold, actionsTold, changeTold, verdictTold, lookupTold, matchPlaceTold}
+use Rattle.flowspec.specs.Told.{Told, done, refused, readingTold, writingTold, comparisonTold, feasibilityTold, actionsTold, announcedTold, withdrawnTold, verdictTold, lookupTold, matchPlaceTold}
 use Rattle.flowspec.specs.Checks.{judgeChecks, announceChecks, Check, check, oneToSeven, told, endsThere, readChecks, readValues, writeChecks, writeValues, compareChecks, compareValues, actionsChecks, actionsValues, withdrawChecks, lookupChecks, lookupValues, firstMatchValues, isSound, actionsRead}
 
 -- ---- reading ----
@@ -55,16 +56,16 @@ afterReading (Rule start size) many next = next
 afterReading (NotRead number place) many next = refused number place many
 
 -- 1 to 7 and 15 are the refusals of reading, whatever is checked next
-module _ (family : Family) (rule : List ℕ) (cs : List Check) (values : List ℕ) where
-  pub read-first : told (oneToSeven (checkRule family rule) ∷ check (endsThere rule) 15 ∷ cs) values
-      ≡ afterReading (oneRule family rule) (length values) (told cs values)
+module _ (family : Family) (rule : List ℕ) (cs : List Check) (grant : Told) where
+  pub read-first : told (oneToSeven (checkRule family rule) ∷ check (endsThere rule) 15 ∷ cs) grant
+      ≡ afterReading (oneRule family rule) (length (grant .values)) (told cs grant)
   unfolding oneRule firstRule
   read-first =
       by-test (ltb (length rule) (ruleEnd rule)) (λ t. rw t)
       (λ t. let h = ltb-false (length rule) (ruleEnd rule) t in rw t (go (omega arith) (checkValue family (valueIn rule))))
     where
-      go : ruleEnd rule ≤ length rule → (c : Checked) → told (oneToSeven c ∷ check (endsThere rule) 15 ∷ cs) values
-          ≡ afterReading (alone (length rule) (readAs (fieldSize rule) (fieldLength rule) c)) (length values) (told cs values)
+      go : ruleEnd rule ≤ length rule → (c : Checked) → told (oneToSeven c ∷ check (endsThere rule) 15 ∷ cs) grant
+          ≡ afterReading (alone (length rule) (readAs (fieldSize rule) (fieldLength rule) c)) (length (grant .values)) (told cs grant)
       go fits Accepted =
           by-test (eqb (ruleEnd rule) (length rule))
           (λ t. let e = eqb-true (ruleEnd rule) (length rule) t in rw (t, le-leb (length rule) (ruleEnd rule) (omega arith)))
@@ -75,8 +76,8 @@ module _ (family : Family) (rule : List ℕ) (cs : List Check) (values : List �
 read-value : (family : Family) (rule : List ℕ) (start size : ℕ) → oneRule family rule ≡ Rule start size → (start ≡ fieldSize rule) × (size ≡ fieldLength rule)
 read-value family rule start size e = let r = one-read family rule start size e in (r .field, r .tells)
 
-pub read-tells : (family : Family) (rule : List ℕ) → readingTold (oneRule family rule) ≡ told (readChecks family rule) (readValues rule)
-read-tells family rule = go (oneRule family rule) refl ∙ sym (read-first family rule [] (readValues rule))
+pub read-tells : (family : Family) (rule : List ℕ) → readingTold (oneRule family rule) ≡ told (readChecks family rule) (done (readValues rule))
+read-tells family rule = go (oneRule family rule) refl ∙ sym (read-first family rule [] (done (readValues rule)))
   where
     go : (r : Reading) → oneRule family rule ≡ r → readingTold r ≡ afterReading r 2 (done (readValues rule))
     go (Rule start size) e = let v = read-value family rule start size e in rw (v .0, v .1)
@@ -84,12 +85,12 @@ read-tells family rule = go (oneRule family rule) refl ∙ sym (read-first famil
 
 -- ---- writing ----
 
-pub write-tells : (family : Family) (value buffer : List ℕ) → writingTold (writing family value (length buffer)) ≡ told (writeChecks family value buffer) (writeValues family value)
+pub write-tells : (family : Family) (value buffer : List ℕ) → writingTold (writing family value (length buffer)) ≡ told (writeChecks family value buffer) (done (writeValues family value))
 unfolding writing
 write-tells family value buffer = go (checkValue family value)
   where
     go : (c : Checked) → writingTold (intoRoom family value (length buffer) c)
-        ≡ told (oneToSeven c ∷ check (leb (length (ruleFor family value)) (length buffer)) 16 ∷ []) (writeValues family value)
+        ≡ told (oneToSeven c ∷ check (leb (length (ruleFor family value)) (length buffer)) 16 ∷ []) (done (writeValues family value))
     go Accepted =
         by-test (ltb (length buffer) (length (ruleFor family value)))
         (λ t. rw (t, lt-leb (length (ruleFor family value)) (length buffer) (ltb-true (length buffer) (length (ruleFor family value)) t)))
@@ -98,12 +99,12 @@ write-tells family value buffer = go (checkValue family value)
 
 -- ---- comparing ----
 
-pub compare-tells : (family : Family) (a b : List ℕ) → comparisonTold (compareRules family a b) ≡ told (compareChecks family a b) (compareValues family a b)
+pub compare-tells : (family : Family) (a b : List ℕ) → comparisonTold (compareRules family a b) ≡ told (compareChecks family a b) (done (compareValues family a b))
 unfolding compareRules
 compare-tells family a b =
     go (oneRule family a) refl (oneRule family b) refl
-    ∙ sym (read-first family a (oneToSeven (checkRule family b) ∷ check (endsThere b) 15 ∷ []) (compareValues family a b)
-    ∙ ap (afterReading (oneRule family a) 1) (read-first family b [] (compareValues family a b)))
+    ∙ sym (read-first family a (oneToSeven (checkRule family b) ∷ check (endsThere b) 15 ∷ []) (done (compareValues family a b))
+    ∙ ap (afterReading (oneRule family a) 1) (read-first family b [] (done (compareValues family a b))))
   where
     order : (o : Ordering) → comparisonTold (comparisonOf (ordered o)) ≡ done (byOrder o 1 3 2 ∷ [])
     order Ordering·lt = refl
@@ -121,25 +122,25 @@ compare-tells family a b =
 
 -- ---- actions ----
 
-pub actions-tells : (communities : List ℕ) → actionsTold (actionsOf communities) ≡ told (actionsChecks communities) (actionsValues communities)
+pub actions-tells : (communities : List ℕ) → actionsTold (actionsOf communities) ≡ told (actionsChecks communities) (done (actionsValues communities))
 actions-tells communities = go (actionsOf communities)
   where
-    go : (a : ActionsReading) → actionsTold a ≡ told (check (isSound a) 13 ∷ []) (valuesOf (actionsRead a))
+    go : (a : ActionsReading) → actionsTold a ≡ told (check (isSound a) 13 ∷ []) (done (valuesOf (actionsRead a)))
     go (Read actions) = refl
     go Unsound = refl
 
 -- ---- judging ----
 
 pub judge-tells : (family : Family) (policy : Policy) (rule : List ℕ) (origin : Origin)
-    → feasibilityTold (judgement family policy rule origin) ≡ told (judgeChecks family policy rule origin) []
+    → feasibilityTold (judgement family policy rule origin) ≡ told (judgeChecks family policy rule origin) (done [])
 unfolding judgement readWithRoutes
 judge-tells family policy rule origin =
     by-test (soundRoutes family (policy .routes))
-    (λ s. rw s (go (oneRule family rule) refl ∙ sym (read-first family rule (check (isFeasible family policy (valueIn rule) origin) 8 ∷ []) [])))
+    (λ s. rw s (go (oneRule family rule) refl ∙ sym (read-first family rule (check (isFeasible family policy (valueIn rule) origin) 8 ∷ []) (done []))))
     (λ s. rw s)
   where
     go : (r : Reading) → oneRule family rule ≡ r → feasibilityTold (judgeRead family policy rule origin r)
-        ≡ afterReading r 0 (told (check (isFeasible family policy (valueIn rule) origin) 8 ∷ []) [])
+        ≡ afterReading r 0 (told (check (isFeasible family policy (valueIn rule) origin) 8 ∷ []) (done []))
     go (NotRead number place) e = refl
     go (Rule start size) e =
         let v = read-value family rule start size e in
@@ -156,17 +157,17 @@ module _ (family : Family) (policy : Policy) (a : Announcement) (t : List ℕ) w
       ∷ check (hasRoom family t (announcedEntry family a (fieldSize (a .rule)) (fieldLength (a .rule)) (actionsRead c))) 11
       ∷ []
 
-  pub announce-tells : changeTold (announcing family policy a t .answer) ≡ told (announceChecks family policy a t) []
-  unfolding announcing requestOf readWithRoutes changeOf
+  pub announce-tells : announcedTold (announcing family policy a t .answer) ≡ told (announceChecks family policy a t) (done [])
+  unfolding announcing requestOf readWithRoutes announcedOf
   announce-tells =
       by-test (soundTable family t)
       (λ s. by-test (soundRoutes family (policy .routes))
-      (λ r. rw (s, r) (go (oneRule family (a .rule)) refl (actionsOf (a .communities)) ∙ sym (read-first family (a .rule) (behindRule (actionsOf (a .communities))) [])))
+      (λ r. rw (s, r) (go (oneRule family (a .rule)) refl (actionsOf (a .communities)) ∙ sym (read-first family (a .rule) (behindRule (actionsOf (a .communities))) (done []))))
       (λ r. rw (s, r)))
       (λ s. rw s)
     where
       go : (r : Reading) → oneRule family (a .rule) ≡ r → (c : ActionsReading)
-          → changeTold (announcedBy family a t (requestFor family policy a r c) .answer) ≡ afterReading r 0 (told (behindRule c) [])
+          → announcedTold (announcedBy family a t (requestFor family policy a r c) .answer) ≡ afterReading r 0 (told (behindRule c) (done []))
       go (NotRead number place) e c = refl
       go (Rule start size) e Unsound = refl
       go (Rule start size) e (Read actions) =
@@ -179,16 +180,16 @@ module _ (family : Family) (policy : Policy) (a : Announcement) (t : List ℕ) w
 
 -- ---- withdrawing ----
 
-pub withdraw-tells : (family : Family) (rule t : List ℕ) → changeTold (withdrawing family rule t .answer) ≡ told (withdrawChecks family rule t) []
-unfolding withdrawing changeOf
+pub withdraw-tells : (family : Family) (rule t : List ℕ) → withdrawnTold (withdrawing family rule t .answer) ≡ told (withdrawChecks family rule t) (done [])
+unfolding withdrawing withdrawnOf
 withdraw-tells family rule t =
     by-test (soundTable family t)
     (λ s. rw s (go (oneRule family rule) refl
-    ∙ sym (read-first family rule (check (holds family t (keysOf family (plain family (valueIn rule)))) 14 ∷ []) [])))
+    ∙ sym (read-first family rule (check (holds family t (keysOf family (plain family (valueIn rule)))) 14 ∷ []) (done []))))
     (λ s. rw s)
   where
-    go : (r : Reading) → oneRule family rule ≡ r → changeTold (withdrawnBy family t rule r .answer)
-        ≡ afterReading r 0 (told (check (holds family t (keysOf family (plain family (valueIn rule)))) 14 ∷ []) [])
+    go : (r : Reading) → oneRule family rule ≡ r → withdrawnTold (withdrawnBy family t rule r .answer)
+        ≡ afterReading r 0 (told (check (holds family t (keysOf family (plain family (valueIn rule)))) 14 ∷ []) (done []))
     go (NotRead number place) e = refl
     go (Rule start size) e =
         let v = read-value family rule start size e in
@@ -197,7 +198,7 @@ withdraw-tells family rule t =
 
 -- ---- looking up ----
 
-pub lookup-tells : (family : Family) (t packet : List ℕ) → lookupTold (lookingUp family t packet) ≡ told (lookupChecks family t packet) (lookupValues family t packet)
+pub lookup-tells : (family : Family) (t packet : List ℕ) → lookupTold (lookingUp family t packet) ≡ told (lookupChecks family t packet) (done (lookupValues family t packet))
 unfolding lookingUp opening packetOf verdictFor verdictOf mergedOnto flagsOf
 lookup-tells family t packet =
     by-test (soundTable family t)
@@ -209,13 +210,15 @@ lookup-tells family t packet =
     go [] = refl
     go (e ∷ es) = rw (ne-eqb (length (e ∷ es)) 0 (λ z. omega arith))
 
-pub locate-tells : (family : Family) (t packet : List ℕ) → matchPlaceTold (matchPlace family t packet) ≡ told (lookupChecks family t packet) (firstMatchValues family t packet)
+pub locate-tells : (family : Family) (t packet : List ℕ) → matchPlaceTold (matchPlace family t packet) ≡ told (lookupChecks family t packet) (done (firstMatchValues family t packet))
 unfolding matchPlace lookingUp firstMatch opening packetOf
 locate-tells family t packet =
     by-test (soundTable family t)
     (λ s. by-test (isUnusable family packet) (λ u. rw (s, u)) (λ u. rw (s, u) (go (verdictFor family noHead (fieldsOf family packet) (entries t)))))
     (λ s. rw s)
   where
-    go : (v : Verdict) → _≡_ {A = Told} (record { number = verdictTold v .number; place = 0; values = firstMatchValues family t packet }) (done (firstMatchValues family t packet))
+    go : (v : Verdict)
+        → cond (eqb (verdictTold v .number) 0) (done (firstMatchValues family t packet)) (refused (verdictTold v .number) 0 2)
+        ≡ done (firstMatchValues family t packet)
     go Unmatched = refl
     go (Matched actions count) = refl

@@ -32,7 +32,7 @@ use Rattle.table.specs.Change.{holds, hasRoom}
 use Rattle.request.specs.Input.{Announcement, Policy}
 use Rattle.request.specs.Judging.{isFeasible}
 use Rattle.request.specs.Request.{announcedEntry}
-use Rattle.flowspec.specs.Told.{Told, done, refused, placeValues}
+use Rattle.flowspec.specs.Told.{Told, refused, placeValues}
 use Rattle.flowspec.specs.Look.{noHead}
 
 -- A check: whether it holds, and the number and the place of the refusal where it does not.
@@ -54,11 +54,11 @@ oneToSeven (Refused number place) = record { holds = false; number = number; pla
 abbrev pub AllHold : List Check → Type 0
 AllHold = Each (λ c. c .holds ≡ true)
 
--- What a call says that goes through checks: the refusal of the first that does not hold, with each value 0, or, where all hold, that it
--- is done, with its values.
-abbrev pub told : List Check → List ℕ → Told
-told [] values = done values
-told (c ∷ cs) values = cond (c .holds) (told cs values) (refused (c .number) (c .place) (length values))
+-- What a call says that goes through checks: what it grants where all hold, else the refusal of the first that does not hold, with as
+-- many values, each 0.
+abbrev pub told : List Check → Told → Told
+told [] grant = grant
+told (c ∷ cs) grant = cond (c .holds) (told cs grant) (refused (c .number) (c .place) (length (grant .values)))
 
 -- No "bytes after the one rule".
 abbrev pub endsThere : List ℕ → Bool

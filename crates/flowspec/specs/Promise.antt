@@ -18,7 +18,8 @@ use Rattle.route.specs.declared.Origin.{Origin}
 use Rattle.action.specs.declared.Reading.{Reading as ActionsReading}
 use Rattle.action.specs.Actions.{actionsOf}
 use Rattle.flowspec.specs.declared.Feasibility.{Feasibility}
-use Rattle.flowspec.specs.declared.Change.{Change}
+use Rattle.flowspec.specs.declared.Announced.{Announced}
+use Rattle.flowspec.specs.declared.Withdrawn.{Withdrawn}
 use Rattle.flowspec.specs.declared.Looked.{Looked}
 use Rattle.flowspec.specs.declared.MatchPlace.{MatchPlace}
 use Rattle.request.specs.Input.{Announcement, Policy}
@@ -27,69 +28,69 @@ use Rattle.flowspec.specs.Look.{lookingUp, firstMatch, matchPlace}
 use Rattle.rule.specs.Value.{between}
 use Rattle.order.specs.Compare.{compareRules}
 use Rattle.flowspec.specs.Feasibility.{judgement}
-use Rattle.flowspec.specs.Told.{readingTold, writingTold, comparisonTold, feasibilityTold, actionsTold, changeTold, lookupTold, matchPlaceTold}
+use Rattle.flowspec.specs.Told.{done, readingTold, writingTold, comparisonTold, feasibilityTold, actionsTold, announcedTold, withdrawnTold, lookupTold, matchPlaceTold}
 use Rattle.flowspec.specs.Checks.{told, readChecks, readValues, writeChecks, writeValues, compareChecks, compareValues, judgeChecks, actionsChecks, actionsValues, announceChecks, withdrawChecks, lookupChecks, lookupValues, firstMatchValues}
 
 -- Reading one rule: refusals 1 to 7, then 15.
 pub record ReadsOne (family : Family) (rule : List ℕ) (answer : Reading) (kept : List (List ℕ)) : Type 0 where
   pub is : answer ≡ oneRule family rule
-  pub tells : readingTold answer ≡ told (readChecks family rule) (readValues rule)
+  pub tells : readingTold answer ≡ told (readChecks family rule) (done (readValues rule))
   pub keeps : kept ≡ rule ∷ []
 
 -- Writing one rule from a value: refusals 1 to 7, then 16; on success the front of the buffer is filled and the rest kept, and a
 -- refusal changes no octet.
 pub record WritesOne (family : Family) (value buffer : List ℕ) (answer : Writing) (exit : List ℕ) (kept : List (List ℕ)) : Type 0 where
   pub is : answer ≡ writing family value (length buffer)
-  pub tells : writingTold answer ≡ told (writeChecks family value buffer) (writeValues family value)
+  pub tells : writingTold answer ≡ told (writeChecks family value buffer) (done (writeValues family value))
   pub leaves : exit ≡ afterWriting family value buffer
   pub keeps : kept ≡ value ∷ []
 
 -- Comparing two rules: refusals 1 to 7 and 15 of the first, then of the second.
 pub record ComparesTwo (family : Family) (first second : List ℕ) (answer : Comparison) (kept : List (List ℕ)) : Type 0 where
   pub is : answer ≡ compareRules family first second
-  pub tells : comparisonTold answer ≡ told (compareChecks family first second) (compareValues family first second)
+  pub tells : comparisonTold answer ≡ told (compareChecks family first second) (done (compareValues family first second))
   pub keeps : kept ≡ first ∷ second ∷ []
 
 -- Judging one rule: refusals 9, 1 to 7, 15, 8.
 pub record JudgesOne (family : Family) (policy : Policy) (rule : List ℕ) (origin : Origin)
     (answer : Feasibility) (kept : List (List ℕ)) : Type 0 where
   pub is : answer ≡ judgement family policy rule origin
-  pub tells : feasibilityTold answer ≡ told (judgeChecks family policy rule origin) []
+  pub tells : feasibilityTold answer ≡ told (judgeChecks family policy rule origin) (done [])
   pub keeps : kept ≡ policy .routes ∷ rule ∷ []
 
 -- Reading actions: refusal 13.
 pub record ReadsActions (communities : List ℕ) (answer : ActionsReading) (kept : List (List ℕ)) : Type 0 where
   pub is : answer ≡ actionsOf communities
-  pub tells : actionsTold answer ≡ told (actionsChecks communities) (actionsValues communities)
+  pub tells : actionsTold answer ≡ told (actionsChecks communities) (done (actionsValues communities))
   pub keeps : kept ≡ communities ∷ []
 
 -- Announcing: refusals 10, 9, 1 to 7, 15, 13, 8, 11. The table at exit is the outcome's: changed where done and, at 8, where the rule was
 -- held; every other refusal changes no octet.
 pub record Announces (family : Family) (policy : Policy) (announcement : Announcement) (table : List ℕ)
-    (answer : Change) (exit : List ℕ) (kept : List (List ℕ)) : Type 0 where
+    (answer : Announced) (exit : List ℕ) (kept : List (List ℕ)) : Type 0 where
   pub is : answer ≡ announcing family policy announcement table .answer
-  pub tells : changeTold answer ≡ told (announceChecks family policy announcement table) []
+  pub tells : announcedTold answer ≡ told (announceChecks family policy announcement table) (done [])
   pub leaves : exit ≡ announcing family policy announcement table .table
   pub keeps : kept ≡ policy .routes ∷ announcement .rule ∷ announcement .communities ∷ []
 
 -- Withdrawing: refusals 10, 1 to 7, 15, 14, none of which changes an octet.
-pub record Withdraws (family : Family) (rule table : List ℕ) (answer : Change) (exit : List ℕ) (kept : List (List ℕ)) : Type 0 where
+pub record Withdraws (family : Family) (rule table : List ℕ) (answer : Withdrawn) (exit : List ℕ) (kept : List (List ℕ)) : Type 0 where
   pub is : answer ≡ withdrawing family rule table .answer
-  pub tells : changeTold answer ≡ told (withdrawChecks family rule table) []
+  pub tells : withdrawnTold answer ≡ told (withdrawChecks family rule table) (done [])
   pub leaves : exit ≡ withdrawing family rule table .table
   pub keeps : kept ≡ rule ∷ []
 
 -- Looking up: refusals 10, 12.
 pub record LooksUp (family : Family) (table packet : List ℕ) (answer : Looked) (kept : List (List ℕ)) : Type 0 where
   pub is : answer ≡ lookingUp family table packet
-  pub tells : lookupTold answer ≡ told (lookupChecks family table packet) (lookupValues family table packet)
+  pub tells : lookupTold answer ≡ told (lookupChecks family table packet) (done (lookupValues family table packet))
   pub keeps : kept ≡ table ∷ packet ∷ []
 
 -- The first match's place with the lookup's number, refusals 10, 12: a part of the table, 0 and 0 where nothing matches or the lookup is
 -- refused.
 pub record LocatesFirst (family : Family) (table packet : List ℕ) (answer : MatchPlace) (kept : List (List ℕ)) : Type 0 where
   pub is : answer ≡ matchPlace family table packet
-  pub tells : matchPlaceTold answer ≡ told (lookupChecks family table packet) (firstMatchValues family table packet)
+  pub tells : matchPlaceTold answer ≡ told (lookupChecks family table packet) (done (firstMatchValues family table packet))
   pub ordered : answer .start ≤ answer .end
   pub inside : answer .end ≤ length table
   pub keeps : kept ≡ table ∷ packet ∷ []

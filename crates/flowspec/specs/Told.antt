@@ -1,7 +1,9 @@
--- What each answer says in 01's terms: the refusal's number, 0 where the call is done; its place; and the values of the answer, in the
--- order that the comment above each definition names.
+-- What each answer says in 01's terms: whether the call grants what it was asked; the refusal's number, 0 where the call is done; its
+-- place; and the values of the answer, in the order that the comment above each definition names.
 use Prim.Native.Nat.{ℕ, _-_}
+use mathlib.Core.Bool.{Bool, true, false, cond}
 use mathlib.Core.List.{List, [], _∷_}
+use lib.Dec.{eqb}
 use lib.ListN.{replicate}
 use Rattle.rule.specs.declared.Reading.{Reading}
 use Rattle.rule.specs.declared.Reading.the-variants.{Rule, Refused as NotRead}
@@ -16,25 +18,32 @@ use Rattle.order.specs.declared.Comparison.{Comparison}
 use Rattle.order.specs.declared.Comparison.the-variants.{First, Second, Same, Refused as NotCompared}
 use Rattle.flowspec.specs.declared.Feasibility.{Feasibility}
 use Rattle.flowspec.specs.declared.Feasibility.the-variants.{Feasible, Refused as NotFeasible}
-use Rattle.flowspec.specs.declared.Change.{Change}
-use Rattle.flowspec.specs.declared.Change.the-variants.{Done, Refused as NotDone}
+use Rattle.flowspec.specs.declared.Announced.{Announced}
+use Rattle.flowspec.specs.declared.Announced.the-variants.{Held, Refused as NotAnnounced}
+use Rattle.flowspec.specs.declared.Withdrawn.{Withdrawn}
+use Rattle.flowspec.specs.declared.Withdrawn.the-variants.{Done, Refused as NotWithdrawn}
 use Rattle.flowspec.specs.declared.Looked.{Looked}
 use Rattle.flowspec.specs.declared.Looked.the-variants.{Answered, Refused as NotLookedUp}
 use Rattle.flowspec.specs.declared.MatchPlace.{MatchPlace}
 
 -- What an answer says.
 pub record Told : Type 0 where
+  pub grants : Bool
   pub number : ℕ
   pub place : ℕ
   pub values : List ℕ
 
+-- What an answer that grants something says: its number, place 0, and its values.
+abbrev pub granted : ℕ → List ℕ → Told
+granted number values = record { grants = true; number = number; place = 0; values = values }
+
 -- A call that is done, with its values.
 abbrev pub done : List ℕ → Told
-done values = record { number = 0; place = 0; values = values }
+done values = granted 0 values
 
 -- A call that is refused: its values, so many, are 0.
 abbrev pub refused : ℕ → ℕ → ℕ → Told
-refused number place many = record { number = number; place = place; values = replicate many 0 }
+refused number place many = record { grants = false; number = number; place = place; values = replicate many 0 }
 
 -- 01: "Reading one rule answers the start and length of its value, 0 and 0 if refused."
 abbrev pub readingTold : Reading → Told
@@ -63,10 +72,15 @@ abbrev pub actionsTold : ActionsReading → Told
 actionsTold (Read actions) = done (valuesOf actions)
 actionsTold Unsound = refused 13 0 5
 
--- No value: what announcing and withdrawing leave is the table.
-abbrev pub changeTold : Change → Told
-changeTold Done = done []
-changeTold (NotDone number place) = refused number place 0
+-- No value: what announcing leaves is the table.
+abbrev pub announcedTold : Announced → Told
+announcedTold Held = done []
+announcedTold (NotAnnounced number place) = refused number place 0
+
+-- No value: what withdrawing leaves is the table.
+abbrev pub withdrawnTold : Withdrawn → Told
+withdrawnTold Done = done []
+withdrawnTold (NotWithdrawn number place) = refused number place 0
 
 -- The count, then flags, DSCP, byte rate, packet rate and redirect community of the merged actions, in which T is never set; each is 0
 -- where no rule matches.
@@ -83,6 +97,7 @@ lookupTold (NotLookedUp number place) = refused number place 6
 abbrev pub placeValues : ℕ → ℕ → List ℕ
 placeValues start end = start ∷ (end - start) ∷ []
 
--- The first match's record in the table, 0 and 0 where there is none.
+-- The first match's record in the table, 0 and 0 where there is none or the lookup is refused.
 abbrev pub matchPlaceTold : MatchPlace → Told
-matchPlaceTold found = record { number = found .number; place = 0; values = placeValues (found .start) (found .end) }
+matchPlaceTold found =
+    cond (eqb (found .number) 0) (done (placeValues (found .start) (found .end))) (refused (found .number) 0 2)

@@ -7,7 +7,7 @@ ghost use Rattle.rule.specs.Family.{familyOf};
 ghost use Rattle.flowspec.specs.Feasibility.{feasibilityOf};
 ghost use Rattle.request.specs.Input.{announcementOf, policyOf};
 ghost use Rattle.flowspec.specs.Promise.{ReadsOne, WritesOne, ComparesTwo, JudgesOne, ReadsActions, Announces, Withdraws, LooksUp, LocatesFirst, FirstMatches};
-ghost use Rattle.flowspec.specs.Announce.{changeOf};
+ghost use Rattle.flowspec.specs.Announce.{announcedOf, withdrawnOf};
 use entry::Head;
 use lookup::Opening;
 use lookup::Verdict;
@@ -26,8 +26,14 @@ pub enum Feasibility {
     Refused { number: u8, place: usize },
 }
 
-// That a table was changed as asked, or a refusal.
-pub enum Change {
+// What announcing answers: that the table holds the rule, or a refusal.
+pub enum Announced {
+    Held,
+    Refused { number: u8, place: usize },
+}
+
+// What withdrawing answers: that the rule was taken out of the table, or a refusal.
+pub enum Withdrawn {
     Done,
     Refused { number: u8, place: usize },
 }
@@ -111,14 +117,14 @@ pub fn read_actions(communities: &[u8]) -> action::Reading
     action::actions_of(communities)
 }
 
-// What a refusal's number means for a change: 0 is done.
-fn change_of(number: u8) -> Change
-    ensures { λ r. ⌜ r ≡ changeOf number ⌝ }
+// What the number of a change means for an announcement: at 0 the rule is held.
+fn announced_of(number: u8) -> Announced
+    ensures { λ r. ⌜ r ≡ announcedOf number ⌝ }
 {
     if number == 0 {
-        return Change::Done;
+        return Announced::Held;
     }
-    Change::Refused { number, place: 0 }
+    Announced::Refused { number, place: 0 }
 }
 
 // Announces a rule with its actions to a table.
@@ -130,12 +136,12 @@ pub fn announce(
     rule: &[u8],
     origin: Origin,
     communities: &[u8],
-) -> Change
+) -> Announced
     ensures { λ r. ⌜ Announces (familyOf family) (policyOf (now (routes .entry)) settings) (announcementOf (now (rule .entry)) origin (now (communities .entry))) (now (table .entry)) r (now (table .exit)) (now (routes .exit) ∷ now (rule .exit) ∷ now (communities .exit) ∷ []) ⌝ }
 {
     let chosen = rule::family_of(family);
     match table::sound_table(chosen, table) {
-        Soundness::Unsound => Change::Refused {
+        Soundness::Unsound => Announced::Refused {
             number: 10,
             place: 0,
         },
@@ -147,7 +153,7 @@ pub fn announce(
             origin,
             communities,
         ) {
-            Request::Refused { number, place } => Change::Refused { number, place },
+            Request::Refused { number, place } => Announced::Refused { number, place },
             Request::Announce {
                 start,
                 size,
@@ -164,28 +170,38 @@ pub fn announce(
                     feasible,
                     &rule[start..end],
                 );
-                change_of(answer.number)
+                announced_of(answer.number)
             }
         },
     }
 }
 
+// What the number of a change means for a withdrawal: 0 is done.
+fn withdrawn_of(number: u8) -> Withdrawn
+    ensures { λ r. ⌜ r ≡ withdrawnOf number ⌝ }
+{
+    if number == 0 {
+        return Withdrawn::Done;
+    }
+    Withdrawn::Refused { number, place: 0 }
+}
+
 // Withdraws a rule from a table.
-pub fn withdraw(family: AddressFamily, table: &mut [u8], rule: &[u8]) -> Change
+pub fn withdraw(family: AddressFamily, table: &mut [u8], rule: &[u8]) -> Withdrawn
     ensures { λ r. ⌜ Withdraws (familyOf family) (now (rule .entry)) (now (table .entry)) r (now (table .exit)) (now (rule .exit) ∷ []) ⌝ }
 {
     let family = rule::family_of(family);
     match table::sound_table(family, table) {
-        Soundness::Unsound => Change::Refused {
+        Soundness::Unsound => Withdrawn::Refused {
             number: 10,
             place: 0,
         },
         Soundness::Sound(used) => match rule::one_rule(family, rule) {
-            Reading::Refused { number, place } => Change::Refused { number, place },
+            Reading::Refused { number, place } => Withdrawn::Refused { number, place },
             Reading::Rule { start, size } => {
                 let end = start + size;
                 let answer = table::withdraw_value(family, table, used, &rule[start..end]);
-                change_of(answer.number)
+                withdrawn_of(answer.number)
             }
         },
     }

@@ -1,6 +1,6 @@
 -- **Demand 3, of two histories** (`EndAlike`): from equal empty buffers, with the same routes and setting throughout (`SamePolicy`), if they
--- agree on each rule's last counted call, by its kind, originator and actions as read, they end in equal octets, and every packet has one verdict and one first match in both. Of what the
--- calls were given only what their types say is assumed (`FromEmpty`).
+-- agree on each rule's last counted call, by its kind, originator and actions as read, they end in equal octets, and every packet has one
+-- verdict and one first match in both. Of what the calls were given only what their types say is assumed (`FromEmpty`).
 use mathlib.Core.Path.{_≡_, refl, sym, _∙_}
 use mathlib.Core.Bool.{true, cond}
 use mathlib.Core.List.{List, [], _∷_}
@@ -26,7 +26,8 @@ use Rattle.request.specs.declared.Request.{Request}
 use Rattle.request.specs.declared.Request.the-variants.{Announce, Refused as NoRequest}
 use Rattle.request.specs.Input.{Announcement, Policy}
 use Rattle.request.specs.Request.{requestOf}
-use Rattle.history.specs.History.{Call, announcement, withdrawal, Made, CanBe, EachCanBe, deed, deedOf, announceOperation, withdrawOperation, operationOf, operationMade, numberOf, lastCounted, Agree, LentPolicy, SamePolicy, endOf, emptyTable, FromEmpty, EndAlike}
+use Rattle.flowspec.specs.Announce.{announceOperation, withdrawOperation}
+use Rattle.history.specs.History.{Call, announcement, withdrawal, Made, CanBe, EachCanBe, deed, deedOf, operationOf, operationMade, numberOf, lastCounted, Agree, LentPolicy, SamePolicy, endOf, emptyTable, FromEmpty, EndAlike}
 use Rattle.request.proofs.RequestLaws.{octets-value, asked-from}
 use Rattle.history.proofs.HistoryLaws.{histories-agree}
 use Rattle.theorems.proofs.PlainLaws.{feasible-alone}

@@ -15,11 +15,11 @@ use Rattle.attribute.specs.Rules.{reachRules, unreachRules}
 use Rattle.attribute.proofs.RulesLaws.{each-octets}
 use Rattle.update.specs.declared.Applied.{Applied}
 use Rattle.update.specs.declared.Applied.the-variants.{Done, Refused}
-use Rattle.update.specs.Singles.{Reach, Singles, eachRule, announcementIn, announcingEach, withdrawingEach}
+use Rattle.update.specs.Singles.{Reach, Singles, numbered, eachRule, announcementIn, announcingEach, withdrawingEach}
 use Rattle.update.specs.Checks.{reachChecks, unreachChecks}
 use Rattle.update.specs.Apply.{Left, appliedAll, refusedWhole, reaching, unreaching}
 use Rattle.update.proofs.ApplyLaws.{decided-either}
-use Rattle.history.specs.History.{Call, announcement, withdrawal, Made, CanBe, EachCanBe, numberOf, LentPolicy, SamePolicy, endOf, Happened, outcomeOf, madeOn, historyOf, emptyTable, FromEmpty, Agree, HoldsExactly, EndAlike}
+use Rattle.history.specs.History.{Call, announcement, withdrawal, answerTold, Made, CanBe, EachCanBe, numberOf, LentPolicy, SamePolicy, endOf, Happened, outcomeOf, madeOn, historyOf, emptyTable, FromEmpty, Agree, HoldsExactly, EndAlike}
 use Rattle.history.specs.Attributes.{Attribute, reach, unreach, Whole, Event, single, whole, leftBy, endOfEvents, callsIn, standsFor, AttributeCanBe, EventCanBe, AttributeLent, EventLent, SameThroughout, ActsAs, WholePromised, EventPromised, EventsHappened, leftOn, singlesIn, singlesOf, EventsFromEmpty}
 use Rattle.history.proofs.HistoryLaws.{history-holds}
 use Rattle.history.proofs.AgreeLaws.{histories-alike}
@@ -72,7 +72,7 @@ module _ (family : Family) where
   -- one call for each rule leaves what the history of these calls does
   module _ (call : List ℕ → Call) where
     abbrev eachOf : List (List ℕ) → List ℕ → Singles
-    eachOf rules table = eachRule (λ rule. outcomeOf family (call rule)) rules table
+    eachOf rules table = eachRule (λ rule t. numbered (answerTold (call rule)) (outcomeOf family (call rule) t)) rules table
 
     abbrev historyEach : List (List ℕ) → List ℕ → List Made
     historyEach rules table = historyOf family table (map call rules)

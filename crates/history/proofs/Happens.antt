@@ -7,11 +7,12 @@ use Rattle.octets.specs.Test.{Each}
 use Rattle.octets.proofs.Facts.{Octets}
 use Rattle.rule.specs.declared.Family.{Family}
 use Rattle.table.specs.Sound.{mostOctets}
-use Rattle.flowspec.specs.declared.Change.{Change}
+use Rattle.flowspec.specs.declared.Announced.{Announced}
+use Rattle.flowspec.specs.declared.Withdrawn.{Withdrawn}
 use Rattle.request.specs.Input.{Announcement, Policy}
 use Rattle.flowspec.specs.Announce.{announcing, withdrawing}
 use Rattle.flowspec.specs.Promise.{Announces, Withdraws}
-use Rattle.history.specs.History.{Call, announcement, withdrawal, Made, CanBe, EachCanBe, endOf, Promised, Happened, outcomeOf, madeOn, historyOf, emptyTable, FromEmpty}
+use Rattle.history.specs.History.{Call, announcement, withdrawal, AnswerTo, Made, CanBe, EachCanBe, endOf, Promised, Happened, outcomeOf, madeOn, historyOf, emptyTable, FromEmpty}
 use Rattle.flowspec.proofs.TableLaws.{announce-kept, withdraw-kept}
 
 -- what a call is lent by its types is what it can be given
@@ -37,11 +38,11 @@ module _ (family : Family) where
   happened-append (m ∷ h) g table made also = (made .0, happened-append h g (m .left) (made .1) also)
 
   -- what a call promises is what a history asks of it
-  pub announces-promised : (policy : Policy) (a : Announcement) (table : List ℕ) (answer : Change) (left : List ℕ) (kept : List (List ℕ))
+  pub announces-promised : (policy : Policy) (a : Announcement) (table : List ℕ) (answer : Announced) (left : List ℕ) (kept : List (List ℕ))
       → Announces family policy a table answer left kept → Promised family (announcement policy a) table answer left
   announces-promised policy a table answer left kept p = subst (λ k. Announces family policy a table answer left k) (p .keeps) p
 
-  pub withdraws-promised : (rule table : List ℕ) (answer : Change) (left : List ℕ) (kept : List (List ℕ))
+  pub withdraws-promised : (rule table : List ℕ) (answer : Withdrawn) (left : List ℕ) (kept : List (List ℕ))
       → Withdraws family rule table answer left kept → Promised family (withdrawal rule) table answer left
   withdraws-promised rule table answer left kept p = subst (λ k. Withdraws family rule table answer left k) (p .keeps) p
 
@@ -69,7 +70,7 @@ module _ (family : Family) where
       record { fits = fits; given = each-given calls (emptyTable n) can; happened = happens calls (emptyTable n) }
 
   -- **and no other history has these calls**
-  promised-only : (call : Call) (table : List ℕ) (answer : Change) (left : List ℕ) → Promised family call table answer left
+  promised-only : (call : Call) (table : List ℕ) (answer : AnswerTo call) (left : List ℕ) → Promised family call table answer left
       → (answer ≡ outcomeOf family call table .answer) × (left ≡ outcomeOf family call table .table)
   promised-only (announcement policy a) table answer left p = (p .is, p .leaves)
   promised-only (withdrawal rule) table answer left p = (p .is, p .leaves)
@@ -77,7 +78,7 @@ module _ (family : Family) where
   pub made-only : (m : Made) (table : List ℕ) → Promised family (m .call) table (m .answer) (m .left) → m ≡ madeOn family (m .call) table
   made-only m table p =
       let one = promised-only (m .call) table (m .answer) (m .left) p in
-      ap₂ (λ (a : Change) (l : List ℕ). record { call = m .call; answer = a; left = l }) (one .0) (one .1)
+      ap₂ (λ (a : AnswerTo (m .call)) (l : List ℕ). record { call = m .call; answer = a; left = l }) (one .0) (one .1)
 
   pub happens-only : (h : List Made) (table : List ℕ) → Happened family table h → h ≡ historyOf family table (map (λ (m : Made). m .call) h)
   happens-only [] table made = refl

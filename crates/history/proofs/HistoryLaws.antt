@@ -8,11 +8,8 @@ use mathlib.Core.List.{List, [], _∷_}
 use Prim.Native.Nat.{ℕ, _^_, _<_, _≤_}
 use native.Mathlib.Nat.{sub-zero}
 use native.Mathlib.Omega.{arith}
-use lib.Dec.{eqb}
 use lib.ListN.{length, length-replicate}
-use borrow.Author.Tests.{eqb-true}
 use Rattle.octets.specs.Test.{every}
-use Rattle.octets.proofs.Cases.{by-test}
 use Rattle.octets.proofs.Facts.{Octets}
 use Rattle.sorted.specs.History.{Op, announce, withdraw, apply, run, Ran}
 use Rattle.sorted.specs.History as S
@@ -34,33 +31,29 @@ use Rattle.table.specs.Change.{changed}
 use Rattle.table.proofs.LeaveLaws.{changed-number, changed-encodes, changed-long}
 use Rattle.table.proofs.SoundLaws.{encodes-sound, encodes-entries}
 use Rattle.table.proofs.CallLaws.{plain-held}
-use Rattle.flowspec.specs.declared.Change.{Change}
 use Rattle.request.specs.declared.Request.{Request}
 use Rattle.request.specs.declared.Request.the-variants.{Announce, Refused as NoRequest}
 use Rattle.request.specs.Input.{Announcement, Policy}
 use Rattle.request.specs.Request.{announcedEntry, requestOf}
-use Rattle.flowspec.specs.Announce.{Outcome, changeOf, outcome, announcedBy, announcing, withdrawnBy, withdrawing}
-use Rattle.history.specs.History.{Call, announcement, withdrawal, Made, CanBe, EachCanBe, announceOperation, withdrawOperation, operationOf, Promised, Happened, operationMade, numberOf, inForceAfter, endOf, emptyTable, FromEmpty, HoldsExactly}
-use Rattle.flowspec.specs.Told.{changeTold}
+use Rattle.flowspec.specs.Announce.{announceOperation, withdrawOperation, announcedBy, announcing, withdrawnBy, withdrawing}
+use Rattle.flowspec.proofs.TableLaws.{announced-told, withdrawn-told}
+use Rattle.history.specs.History.{Call, announcement, withdrawal, AnswerTo, answerTold, Made, CanBe, EachCanBe, operationOf, Promised, Happened, operationMade, numberOf, inForceAfter, endOf, emptyTable, FromEmpty, HoldsExactly}
+use Rattle.flowspec.specs.Told.{announcedTold, withdrawnTold}
 use Rattle.request.proofs.RequestLaws.{octets-value, asked-from}
 
--- an outcome on octets is one on entries: the same answer, and the entries' encoding in a buffer of the same length
-record Same (family : Family) (n : ℕ) (o : Outcome) (a : S.Outcome Entry) : Type 0 where
-  pub answers : changeTold (o .answer) .number ≡ a .answer
-  pub encodes : Encodes family (o .table) (a .table)
-  pub long : length (o .table) ≡ n
-
--- the number of a change's answer is the change's
-number-back : (number : ℕ) → changeTold (changeOf number) .number ≡ number
-unfolding changeOf
-number-back number = by-test (eqb number 0) (λ h. rw h (sym (eqb-true number 0 h))) (λ h. rw h)
+-- a number and octets are what a call leaves of entries: the same answer, and the entries' encoding in a buffer of the same length
+record Same (family : Family) (n number : ℕ) (t : List ℕ) (a : S.Outcome Entry) : Type 0 where
+  pub answers : number ≡ a .answer
+  pub encodes : Encodes family t (a .table)
+  pub long : length t ≡ n
 
 -- what is asked of a table is done to its entries
 same-changed : (family : Family) (t : List ℕ) (es : List Entry) → Encodes family t es → (op : Op RuleKey Entry) → Brings (possible family) op
-    → Same family (length t) (outcome (changed family t op)) (apply keyOrder (entryKey family) cost (length t) op es)
-same-changed family t es c op could =
+    → (number : ℕ) → number ≡ changed family t op .number
+    → Same family (length t) number (changed family t op .table) (apply keyOrder (entryKey family) cost (length t) op es)
+same-changed family t es c op could number is =
     record {
-      answers = number-back (changed family t op .number) ∙ changed-number family t es c op;
+      answers = is ∙ changed-number family t es c op;
       encodes = changed-encodes family t es c op could;
       long = changed-long family t es c op;
     }
@@ -86,28 +79,33 @@ asked-could family policy a o small =
 -- one call
 module _ (family : Family) (t : List ℕ) (es : List Entry) (c : Encodes family t es) where
   same-announcing : (policy : Policy) (a : Announcement) → Octets (a .rule) → a .origin .originator < 2 ^ 32
-      → Same family (length t) (announcing family policy a t) (apply keyOrder (entryKey family) cost (length t) (operationOf family (announcement policy a)) es)
+      → Same family (length t) (announcedTold (announcing family policy a t .answer) .number) (announcing family policy a t .table)
+      (apply keyOrder (entryKey family) cost (length t) (operationOf family (announcement policy a)) es)
   unfolding announcing
   same-announcing policy a o small =
       rw (encodes-sound family t es c) (go (requestOf family policy a) (asked-could family policy a o small))
     where
       go : (r : Request) → Could family a r
-          → Same family (length t) (announcedBy family a t r) (apply keyOrder (entryKey family) cost (length t) (announceOperation family a r) es)
+          → Same family (length t) (announcedTold (announcedBy family a t r .answer) .number) (announcedBy family a t r .table)
+          (apply keyOrder (entryKey family) cost (length t) (announceOperation family a r) es)
       go (NoRequest number place) ok = record { answers = refl; encodes = c; long = refl }
       go (Announce start size actions feasible) ok =
-          same-changed family t es c (announce (announcedEntry family a start size actions) feasible) ok
+          same-changed family t es c (announce (announcedEntry family a start size actions) feasible) ok _ (announced-told _)
 
   same-withdrawing : (rule : List ℕ)
-      → Same family (length t) (withdrawing family rule t) (apply keyOrder (entryKey family) cost (length t) (operationOf family (withdrawal rule)) es)
+      → Same family (length t) (withdrawnTold (withdrawing family rule t .answer) .number) (withdrawing family rule t .table)
+      (apply keyOrder (entryKey family) cost (length t) (operationOf family (withdrawal rule)) es)
   unfolding withdrawing
   same-withdrawing rule = rw (encodes-sound family t es c) (go (oneRule family rule))
     where
-      go : (r : Reading) → Same family (length t) (withdrawnBy family t rule r) (apply keyOrder (entryKey family) cost (length t) (withdrawOperation family rule r) es)
+      go : (r : Reading)
+          → Same family (length t) (withdrawnTold (withdrawnBy family t rule r .answer) .number) (withdrawnBy family t rule r .table)
+          (apply keyOrder (entryKey family) cost (length t) (withdrawOperation family rule r) es)
       go (NotRead number place) = record { answers = refl; encodes = c; long = refl }
-      go (Rule start size) = same-changed family t es c (withdraw (keysOf family (plain family (valueOf rule start size)))) tt
+      go (Rule start size) = same-changed family t es c (withdraw (keysOf family (plain family (valueOf rule start size)))) tt _ (withdrawn-told _)
 
-  same-made : (call : Call) (answer : Change) (left : List ℕ) → CanBe call → Promised family call t answer left
-      → Same family (length t) (record { answer = answer; table = left }) (apply keyOrder (entryKey family) cost (length t) (operationOf family call) es)
+  same-made : (call : Call) (answer : AnswerTo call) (left : List ℕ) → CanBe call → Promised family call t answer left
+      → Same family (length t) (answerTold call answer .number) left (apply keyOrder (entryKey family) cost (length t) (operationOf family call) es)
   same-made (announcement policy a) answer left can p = rw (p .is, p .leaves) (same-announcing policy a (can .0) (can .1))
   same-made (withdrawal rule) answer left can p = rw (p .is, p .leaves) (same-withdrawing rule)
 
@@ -115,10 +113,10 @@ module _ (family : Family) (t : List ℕ) (es : List Entry) (c : Encodes family 
 module _ (family : Family) where
   step : (n : ℕ) (m : Made) (t : List ℕ) (es : List Entry) → Encodes family t es → length t ≡ n → CanBe (m .call)
       → Promised family (m .call) t (m .answer) (m .left)
-      → Same family n (record { answer = m .answer; table = m .left }) (apply keyOrder (entryKey family) cost n (operationMade family m) es)
+      → Same family n (numberOf m) (m .left) (apply keyOrder (entryKey family) cost n (operationMade family m) es)
   step n m t es c long can made =
       subst
-      (λ (size : ℕ). Same family size (record { answer = m .answer; table = m .left }) (apply keyOrder (entryKey family) cost size (operationMade family m) es))
+      (λ (size : ℕ). Same family size (numberOf m) (m .left) (apply keyOrder (entryKey family) cost size (operationMade family m) es))
       long
       (same-made family t es c (m .call) (m .answer) (m .left) can made)
 

@@ -1,6 +1,7 @@
--- What an operator relies on, of the calls by their own promises: an announcement that was done, made again, is done and changes nothing;
--- withdrawing after it is done, and leaves what withdrawing alone would have left; and two announcements of different rules, done in
--- either order, leave equal octets. Of what a call is given only what its types say is assumed (`CanBe`).
+-- What an operator relies on, of the calls by their own promises: an announcement that was answered 0, made again with the same routes and
+-- setting, is answered 0 and changes nothing; withdrawing after it is done, and leaves what withdrawing alone would have left; and two
+-- announcements of different rules, each by its own routes, answered 0 in either order, leave equal octets. Of what a call is given only what
+-- its types say is assumed (`CanBe`).
 use mathlib.Core.Path.{_≡_, refl, sym, ap, ap₂, _∙_}
 use mathlib.Core.Bool.{true, false}
 use mathlib.Core.List.{List}
@@ -23,14 +24,16 @@ use Rattle.table.specs.Change.{holds, hasRoom}
 use Rattle.table.proofs.CaseLaws.{inserted, removed, changed-room, changed-no-room, changed-infeasible, changed-held, changed-without}
 use Rattle.table.proofs.SoundLaws.{sound-encodes}
 use Rattle.table.proofs.AgainLaws.{sound-with, room-again, inserted-again, holds-with, removed-again, inserted-either}
-use Rattle.flowspec.specs.declared.Change.{Change}
-use Rattle.flowspec.specs.declared.Change.the-variants.{Done, Refused}
+use Rattle.flowspec.specs.declared.Announced.{Announced}
+use Rattle.flowspec.specs.declared.Announced.the-variants.{Held, Refused as NotAnnounced}
+use Rattle.flowspec.specs.declared.Withdrawn.{Withdrawn}
+use Rattle.flowspec.specs.declared.Withdrawn.the-variants.{Done}
 use Rattle.order.specs.declared.Comparison.the-variants.{Same}
 use Rattle.request.specs.declared.Request.{Request}
 use Rattle.request.specs.declared.Request.the-variants.{Announce, Refused as NoRequest}
 use Rattle.request.specs.Input.{Announcement, Policy}
 use Rattle.request.specs.Request.{announcedEntry, requestOf}
-use Rattle.flowspec.specs.Announce.{Outcome, changeOf, announcedBy, announcing, withdrawing}
+use Rattle.flowspec.specs.Announce.{Outcome, announcedOf, announcedBy, announcing, withdrawnOf, withdrawing}
 use Rattle.order.specs.Compare.{compareRules}
 use Rattle.flowspec.specs.Promise.{Announces, Withdraws}
 use Rattle.request.proofs.RequestLaws.{octets-value, asked-from}
@@ -47,17 +50,17 @@ module _ (family : Family) (policy : Policy) (a : Announcement) where
     pub room : hasRoom family t (announcedEntry family a start size actions) ≡ true
     pub is : left ≡ inserted family t (announcedEntry family a start size actions)
 
-  done-stored : (t left : List ℕ) (kept : List (List ℕ)) → Announces family policy a t Done left kept → Stored t left
-  unfolding announcing changeOf
+  done-stored : (t left : List ℕ) (kept : List (List ℕ)) → Announces family policy a t Held left kept → Stored t left
+  unfolding announcing announcedOf
   done-stored t left kept p =
       by-test (soundTable family t) (λ s. go s (requestOf family policy a) refl (rw s at (p .is)) (rw s at (p .leaves)))
-      (λ s. let z : Done ≡ Refused 10 0 = rw s at (p .is) in apart (cc))
+      (λ s. let z : Held ≡ NotAnnounced 10 0 = rw s at (p .is) in apart (cc))
     where
-      go : soundTable family t ≡ true → (r : Request) → requestOf family policy a ≡ r → Done ≡ announcedBy family a t r .answer
+      go : soundTable family t ≡ true → (r : Request) → requestOf family policy a ≡ r → Held ≡ announcedBy family a t r .answer
           → left ≡ announcedBy family a t r .table → Stored t left
       go s (NoRequest number place) e says l = apart (cc)
       go s (Announce start size actions false) e says l =
-          let z : Done ≡ Refused 8 0 = rw (changed-infeasible family t (announcedEntry family a start size actions)) at says in
+          let z : Held ≡ NotAnnounced 8 0 = rw (changed-infeasible family t (announcedEntry family a start size actions)) at says in
           apart (cc)
       go s (Announce start size actions true) e says l =
           by-test (hasRoom family t (announcedEntry family a start size actions))
@@ -71,12 +74,12 @@ module _ (family : Family) (policy : Policy) (a : Announcement) where
             room = h;
             is = rw (changed-room family t (announcedEntry family a start size actions) h) at l;
           })
-          (λ h. let z : Done ≡ Refused 11 0 = rw (changed-no-room family t (announcedEntry family a start size actions) h) at says in apart (cc))
+          (λ h. let z : Held ≡ NotAnnounced 11 0 = rw (changed-no-room family t (announcedEntry family a start size actions) h) at says in apart (cc))
 
   stores : (t : List ℕ) (start size : ℕ) (actions : Actions) → requestOf family policy a ≡ Announce start size actions true
       → soundTable family t ≡ true → hasRoom family t (announcedEntry family a start size actions) ≡ true
-      → announcing family policy a t ≡ record { answer = Done; table = inserted family t (announcedEntry family a start size actions) }
-  unfolding announcing changeOf
+      → announcing family policy a t ≡ record { answer = Held; table = inserted family t (announcedEntry family a start size actions) }
+  unfolding announcing announcedOf
   stores t start size actions e s h = rw (s, e, changed-room family t (announcedEntry family a start size actions) h)
 
   -- an announcement asks for the same entry wherever it is made
@@ -89,8 +92,8 @@ module _ (family : Family) (policy : Policy) (a : Announcement) where
       let acts : s .actions ≡ r .actions = cc in
       rw (starts, sizes, acts)
 
-  module _ (o : Octets (a .rule)) (small : a .origin .originator < 2 ^ 32) (t : List ℕ) (octets : Octets t) (left : List ℕ) (kept : List (List ℕ))
-      (done : Announces family policy a t Done left kept) where
+  module _ (o : Octets (a .rule)) (small : a .origin .originator < 2 ^ 32) (t : List ℕ) (left : List ℕ) (kept : List (List ℕ))
+      (done : Announces family policy a t Held left kept) where
     stored : Stored t left
     stored = done-stored t left kept done
 
@@ -98,19 +101,19 @@ module _ (family : Family) (policy : Policy) (a : Announcement) where
     entered = announcedEntry family a (stored .start) (stored .size) (stored .actions)
 
     before : Encodes family t (entries t)
-    before = sound-encodes family t octets (stored .sound)
+    before = sound-encodes family t (stored .sound)
 
     could : possible family entered ≡ true
     could = rw (stored .requests) at (asked-could family policy a o small)
 
     -- **the same announcement twice**: the second is done too, and changes nothing
-    pub announced-twice : (answer : Change) (exit : List ℕ) (held : List (List ℕ)) → Announces family policy a left answer exit held
-        → (answer ≡ Done) × (exit ≡ left)
+    pub announced-twice : (answer : Announced) (exit : List ℕ) (held : List (List ℕ)) → Announces family policy a left answer exit held
+        → (answer ≡ Held) × (exit ≡ left)
     announced-twice answer exit held q =
         let again = stores (inserted family t entered) (stored .start) (stored .size) (stored .actions) (stored .requests) (sound-with family t before entered could (stored .room)) (room-again family t before entered could (stored .room)) in
         let requests = ap (announcing family policy a) (stored .is) ∙ again in (
-          q .is ∙ ap (λ (x : Outcome). x .answer) requests,
-          q .leaves ∙ ap (λ (x : Outcome). x .table) requests ∙ inserted-again family t before entered could (stored .room) ∙ sym (stored .is),
+          q .is ∙ ap (λ (x : Outcome Announced). x .answer) requests,
+          q .leaves ∙ ap (λ (x : Outcome Announced). x .table) requests ∙ inserted-again family t before entered could (stored .room) ∙ sym (stored .is),
         )
 
     read : oneRule family (a .rule) ≡ Rule (stored .start) (stored .size)
@@ -119,7 +122,7 @@ module _ (family : Family) (policy : Policy) (a : Announcement) where
     -- withdrawing from a table that holds the rule, and from any sound one
     withdraws : soundTable family (inserted family t entered) ≡ true → holds family (inserted family t entered) (entryKey family entered) ≡ true
         → withdrawing family (a .rule) (inserted family t entered) ≡ record { answer = Done; table = removed family (inserted family t entered) (entryKey family entered) }
-    unfolding withdrawing changeOf
+    unfolding withdrawing withdrawnOf
     withdraws s h = rw (s, read, changed-held family (inserted family t entered) (entryKey family entered) h)
 
     alone : withdrawing family (a .rule) t .table ≡ removed family t (entryKey family entered)
@@ -127,12 +130,12 @@ module _ (family : Family) (policy : Policy) (a : Announcement) where
     alone = rw (stored .sound, read) (changed-without family t (entryKey family entered) .1)
 
     -- **announcing, then withdrawing**: the withdrawal is done, and leaves what it would have left without the announcement
-    pub announced-withdrawn : (answer : Change) (exit : List ℕ) (held : List (List ℕ)) → Withdraws family (a .rule) left answer exit held
-        → (other : Change) (without : List ℕ) (lent : List (List ℕ)) → Withdraws family (a .rule) t other without lent → (answer ≡ Done) × (exit ≡ without)
+    pub announced-withdrawn : (answer : Withdrawn) (exit : List ℕ) (held : List (List ℕ)) → Withdraws family (a .rule) left answer exit held
+        → (other : Withdrawn) (without : List ℕ) (lent : List (List ℕ)) → Withdraws family (a .rule) t other without lent → (answer ≡ Done) × (exit ≡ without)
     announced-withdrawn answer exit held q other without lent r =
         let out = ap (withdrawing family (a .rule)) (stored .is) ∙ withdraws (sound-with family t before entered could (stored .room)) (holds-with family t before entered could (stored .room)) in (
-          q .is ∙ ap (λ (x : Outcome). x .answer) out,
-          q .leaves ∙ ap (λ (x : Outcome). x .table) out ∙ removed-again family t before entered could (stored .room) ∙ sym (r .leaves ∙ alone),
+          q .is ∙ ap (λ (x : Outcome Withdrawn). x .answer) out,
+          q .leaves ∙ ap (λ (x : Outcome Withdrawn). x .table) out ∙ removed-again family t before entered could (stored .room) ∙ sym (r .leaves ∙ alone),
         )
 
 -- rules with one key are the same rule
@@ -149,27 +152,27 @@ same-rule family fits rule other start size begin extent o p found also same =
     let tie : precedence family v w ≡ Ordering·eq = one-order family fits v w first second ∙ rw keys (key-order .same (keysOf family w)) in
     rw (found, also, tie)
 
-module _ (family : Family) (fits : Fits family) (policy : Policy) (a b : Announcement) (o : Octets (a .rule)) (small : a .origin .originator < 2 ^ 32) (p : Octets (b .rule))
-    (little : b .origin .originator < 2 ^ 32) (t : List ℕ) (octets : Octets t) where
+module _ (family : Family) (fits : Fits family) (policy other : Policy) (a b : Announcement) (o : Octets (a .rule)) (small : a .origin .originator < 2 ^ 32) (p : Octets (b .rule))
+    (little : b .origin .originator < 2 ^ 32) (t : List ℕ) where
   -- **two announcements of different rules**, done in either order, leave equal octets
   pub announced-either-way : (compareRules family (a .rule) (b .rule) ≡ Same → ⊥) → (first both second all : List ℕ) (k l m n : List (List ℕ))
-      → Announces family policy a t Done first k → Announces family policy b first Done both l
-      → Announces family policy b t Done second m → Announces family policy a second Done all n
+      → Announces family policy a t Held first k → Announces family other b first Held both l
+      → Announces family other b t Held second m → Announces family policy a second Held all n
       → both ≡ all
   announced-either-way differ first both second all k l m n one two three four =
-      let x = stored family policy a o small t octets first k one in
-      let y = stored family policy b p little t octets second m three in
-      let z = done-stored family policy b first both l two in
+      let x = stored family policy a o small t first k one in
+      let y = stored family other b p little t second m three in
+      let z = done-stored family other b first both l two in
       let w = done-stored family policy a second all n four in
-      let e = entered family policy a o small t octets first k one in
-      let f = entered family policy b p little t octets second m three in
-      let can = could family policy a o small t octets first k one in
-      let also = could family policy b p little t octets second m three in
-      let whole = before family policy a o small t octets first k one in
+      let e = entered family policy a o small t first k one in
+      let f = entered family other b p little t second m three in
+      let can = could family policy a o small t first k one in
+      let also = could family other b p little t second m three in
+      let whole = before family policy a o small t first k one in
       let apart-keys : entryKey family e ≡ entryKey family f → ⊥ = λ same.
-      differ (same-rule family fits (a .rule) (b .rule) (x .start) (x .size) (y .start) (y .size) o p (read family policy a o small t octets first k one)
-      (read family policy b p little t octets second m three) same) in
+      differ (same-rule family fits (a .rule) (b .rule) (x .start) (x .size) (y .start) (y .size) o p (read family policy a o small t first k one)
+      (read family other b p little t second m three) same) in
       let either = inserted-either family t whole e can (x .room) f also (y .room) apart-keys in
-      z .is ∙ ap₂ (inserted family) (x .is) (one-entry family policy b first both t second z y)
+      z .is ∙ ap₂ (inserted family) (x .is) (one-entry family other b first both t second z y)
       ∙ either
       ∙ sym (w .is ∙ ap₂ (inserted family) (y .is) (one-entry family policy a second all t first w x))

@@ -32,7 +32,7 @@ use Rattle.lookup.specs.Lookup.{collected, mergedOnto, verdictOf, verdictFor, f
 use Rattle.table.specs.Sound.{recordsOf, tableOf, soundTable, soundness}
 use Rattle.table.specs.Walk.{recordAt, recordsFrom, records, entries}
 use Rattle.request.specs.Request.{requestOf}
-use Rattle.flowspec.specs.Announce.{changeOf, announcing, withdrawing}
+use Rattle.flowspec.specs.Announce.{announcedOf, announcing, withdrawnOf, withdrawing}
 use Rattle.request.specs.Judging.{readWithRoutes, isFeasible}
 use Rattle.flowspec.specs.Feasibility.{judgement}
 use Rattle.lookup.specs.Opening.{opening}
@@ -57,7 +57,7 @@ unfolding
     fieldMatches fieldsFor bodyCovers componentMatches matches numericHolds bitmaskHolds fieldsOf packetOf groupsFrom groups listHolds
     transportOctets transportFields plainValue possible writtenFields readFields headNumbers recordOf actionsIn entryOf goodRecord holds
     hasRoom changed collected mergedOnto verdictOf verdictFor firstPlace recordsOf tableOf soundTable soundness recordAt
-    recordsFrom records entries changeOf requestOf announcing withdrawing readWithRoutes isFeasible judgement opening lookingUp firstMatch
+    recordsFrom records entries announcedOf withdrawnOf requestOf announcing withdrawing readWithRoutes isFeasible judgement opening lookingUp firstMatch
     matchPlace shapeOf scaled numberFor numberOfParts rateOfParts rateOf fitsSignificand rateGiven bodyOrder componentOrder componentsOrder
     plainOrder precedence afiOf isOfFamily isReach isUnreach ruleAt rulesFrom reaching unreaching
 computed =

@@ -37,7 +37,7 @@ use Rattle.lookup.specs.Lookup.{collected, mergedOnto, verdictOf, verdictFor, f
 use Rattle.table.specs.Sound.{recordsOf, tableOf, soundTable, soundness}
 use Rattle.table.specs.Walk.{recordAt, recordsFrom, records, entries}
 use Rattle.request.specs.Request.{requestOf}
-use Rattle.flowspec.specs.Announce.{changeOf, announcing, withdrawing}
+use Rattle.flowspec.specs.Announce.{announcedOf, announcing, withdrawnOf, withdrawing}
 use Rattle.request.specs.Judging.{readWithRoutes, isFeasible}
 use Rattle.flowspec.specs.Feasibility.{judgement}
 use Rattle.lookup.specs.Opening.{opening}
@@ -49,7 +49,7 @@ use Rattle.attribute.specs.Head.{afiOf, isOfFamily, isReach, isUnreach}
 use Rattle.attribute.specs.Rules.{ruleAt, rulesFrom}
 use Rattle.update.specs.Apply.{reaching, unreaching}
 use Rattle.update.specs.Singles.{reachOf}
-use Rattle.flowspec.specs.declared.Change.the-variants.{Refused}
+use Rattle.flowspec.specs.declared.Announced.the-variants.{Refused as NotAnnounced}
 use Rattle.update.specs.declared.Applied.the-variants.{Refused as NotApplied}
 use Rattle.history.specs.History.{emptyTable}
 use Rattle.history.specs.Worked.{seven, dropping}
@@ -67,7 +67,7 @@ unfolding
     fieldMatches fieldsFor bodyCovers componentMatches matches numericHolds bitmaskHolds fieldsOf packetOf groupsFrom groups listHolds
     transportFields plainValue possible writtenFields readFields headNumbers recordOf actionsIn entryOf goodRecord holds
     hasRoom changed collected mergedOnto verdictOf verdictFor firstPlace recordsOf tableOf soundTable soundness recordAt
-    recordsFrom records entries changeOf requestOf announcing withdrawing readWithRoutes isFeasible judgement opening lookingUp firstMatch
+    recordsFrom records entries announcedOf withdrawnOf requestOf announcing withdrawing readWithRoutes isFeasible judgement opening lookingUp firstMatch
     matchPlace shapeOf scaled numberFor numberOfParts rateOfParts rateOf fitsSignificand rateGiven bodyOrder componentOrder componentsOrder
     plainOrder precedence afiOf isOfFamily isReach isUnreach ruleAt rulesFrom reaching unreaching
 computed =
@@ -114,9 +114,9 @@ shown-six = shown sceneSix computed ipv6-fits
 
 -- beside it: a destination with an offset, where rules with no destination are allowed, and a reach of the other family
 pub record Beside : Type 0 where
-  pub refuses : announcing ipv6 allowing shifted (emptyTable 64) ≡ record { answer = Refused 8 0; table = emptyTable 64 }
+  pub refuses : announcing ipv6 allowing shifted (emptyTable 64) ≡ record { answer = NotAnnounced 8 0; table = emptyTable 64 }
   pub sound : soundTable ipv6 shiftedTable ≡ true
-  pub removes : announcing ipv6 allowing shifted shiftedTable ≡ record { answer = Refused 8 0; table = emptyTable 64 }
+  pub removes : announcing ipv6 allowing shifted shiftedTable ≡ record { answer = NotAnnounced 8 0; table = emptyTable 64 }
   pub reachesNone : reaching ipv6 allowing (reachOf (0 ∷ 1 ∷ 133 ∷ 0 ∷ 0 ∷ sceneSix .rule) seven dropping) (emptyTable 64) (99 ∷ [])
       ≡ record { answer = NotApplied 19 0; table = emptyTable 64; words = 99 ∷ [] }
 
@@ -131,7 +131,7 @@ unfolding
     fieldMatches fieldsFor bodyCovers componentMatches matches numericHolds bitmaskHolds fieldsOf packetOf groupsFrom groups listHolds
     transportFields plainValue possible writtenFields readFields headNumbers recordOf actionsIn entryOf goodRecord holds
     hasRoom changed collected mergedOnto verdictOf verdictFor firstPlace recordsOf tableOf soundTable soundness recordAt
-    recordsFrom records entries changeOf requestOf announcing withdrawing readWithRoutes isFeasible judgement opening lookingUp firstMatch
+    recordsFrom records entries announcedOf withdrawnOf requestOf announcing withdrawing readWithRoutes isFeasible judgement opening lookingUp firstMatch
     matchPlace shapeOf scaled numberFor numberOfParts rateOfParts rateOf fitsSignificand rateGiven bodyOrder componentOrder componentsOrder
     plainOrder precedence afiOf isOfFamily isReach isUnreach ruleAt rulesFrom reaching unreaching
 beside = record { refuses = refl; sound = refl; removes = refl; reachesNone = refl }

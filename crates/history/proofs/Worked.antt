@@ -27,7 +27,8 @@ use Rattle.action.specs.Actions.{actionsOf}
 use Rattle.entry.specs.Entry.{Entry, entryKey}
 use Rattle.table.specs.Sound.{mostOctets}
 use Rattle.table.specs.Walk.{entries}
-use Rattle.flowspec.specs.declared.Change.the-variants.{Done, Refused}
+use Rattle.flowspec.specs.declared.Announced.the-variants.{Held, Refused as NotAnnounced}
+use Rattle.flowspec.specs.declared.Withdrawn.the-variants.{Done, Refused as NotWithdrawn}
 use Rattle.flowspec.specs.declared.Looked.{Looked}
 use Rattle.request.specs.declared.Request.the-variants.{Announce}
 use Rattle.request.specs.Request.{requestOf}
@@ -40,7 +41,7 @@ use Rattle.update.specs.declared.Applied.the-variants.{Done as DoneAll}
 use Rattle.update.specs.Apply.{reaching, unreaching}
 use Rattle.history.specs.History.{Made, announced, withdrew, deedOf, emptyTable, endOf, lastCounted, inForceAfter, SamePolicy, Agree, FromEmpty, HoldsExactly, EndAlike}
 use Rattle.history.specs.Attributes.{reach, unreach, single, endOfEvents, singlesOf, EventsFromEmpty}
-use Rattle.history.specs.Worked.{Scene, seven, dropping, droppingSpelled, drops, marks, entry, otherEntry, owned, foreign, respelled, marked, markedDropped, unrouted, worked, other, bothReached, attributes, standing, rerouted}
+use Rattle.history.specs.Worked.{Scene, seven, dropping, droppingSpelled, drops, marks, entry, otherEntry, owned, foreign, respelled, marked, otherDropped, unrouted, worked, other, bothReached, attributes, standing, rerouted}
 use Rattle.history.proofs.HistoryLaws.{history-holds}
 use Rattle.history.proofs.AgreeLaws.{tie, histories-alike}
 use Rattle.history.proofs.AttributeLaws.{singles-from-empty, lent-events, events-alike}
@@ -64,14 +65,14 @@ octets-each (x ∷ s) e =
 -- lookups
 pub record Computed (s : Scene) : Type 0 where
   pub fits : leb (s .size) mostOctets ≡ true
-  pub announces : announcing (s .family) (s .policy) (owned s) (emptyTable (s .size)) ≡ record { answer = Done; table = s .one }
-  pub adds : announcing (s .family) (s .policy) (marked s) (s .one) ≡ record { answer = Done; table = s .both }
-  pub removes : announcing (s .family) (s .policy) (foreign s) (s .both) ≡ record { answer = Refused 8 0; table = s .another }
-  pub again : announcing (s .family) (s .policy) (owned s) (s .another) ≡ record { answer = Done; table = s .both }
+  pub announces : announcing (s .family) (s .policy) (owned s) (emptyTable (s .size)) ≡ record { answer = Held; table = s .one }
+  pub adds : announcing (s .family) (s .policy) (marked s) (s .one) ≡ record { answer = Held; table = s .both }
+  pub removes : announcing (s .family) (s .policy) (foreign s) (s .both) ≡ record { answer = NotAnnounced 8 0; table = s .another }
+  pub again : announcing (s .family) (s .policy) (owned s) (s .another) ≡ record { answer = Held; table = s .both }
   pub withdraws : withdrawing (s .family) (s .otherRule) (s .both) ≡ record { answer = Done; table = s .one }
-  pub withdrawsNone : withdrawing (s .family) (s .otherRule) (emptyTable (s .size)) ≡ record { answer = Refused 14 0; table = emptyTable (s .size) }
-  pub announcesSpelled : announcing (s .family) (s .policy) (respelled s) (emptyTable (s .size)) ≡ record { answer = Done; table = s .one }
-  pub removesUnrouted : announcing (s .family) (unrouted s) (owned s) (s .both) ≡ record { answer = Refused 8 0; table = s .another }
+  pub withdrawsNone : withdrawing (s .family) (s .otherRule) (emptyTable (s .size)) ≡ record { answer = NotWithdrawn 14 0; table = emptyTable (s .size) }
+  pub announcesSpelled : announcing (s .family) (s .policy) (respelled s) (emptyTable (s .size)) ≡ record { answer = Held; table = s .one }
+  pub removesUnrouted : announcing (s .family) unrouted (owned s) (s .both) ≡ record { answer = NotAnnounced 8 0; table = s .another }
   pub reaches : reaching (s .family) (s .policy) (bothReached s) (emptyTable (s .size)) (99 ∷ 99 ∷ 99 ∷ [])
       ≡ record { answer = DoneAll 2; table = s .dropped; words = 0 ∷ 0 ∷ 99 ∷ [] }
   pub unreaches : unreaching (s .family) (s .unreachedOther) (s .dropped) (99 ∷ []) ≡ record { answer = DoneAll 1; table = s .one; words = 0 ∷ [] }
@@ -80,7 +81,7 @@ pub record Computed (s : Scene) : Type 0 where
   pub askedForeign : requestOf (s .family) (s .policy) (foreign s) ≡ Announce 1 (length (s .value)) drops false
   pub askedSpelled : requestOf (s .family) (s .policy) (respelled s) ≡ Announce 2 (length (s .value)) drops true
   pub askedMarked : requestOf (s .family) (s .policy) (marked s) ≡ Announce 1 (length (s .otherValue)) marks true
-  pub askedDropped : requestOf (s .family) (s .policy) (markedDropped s) ≡ Announce 1 (length (s .otherValue)) drops true
+  pub askedDropped : requestOf (s .family) (s .policy) (otherDropped s) ≡ Announce 1 (length (s .otherValue)) drops true
   pub readOther : oneRule (s .family) (s .otherRule) ≡ Rule 1 (length (s .otherValue))
   pub plainOne : plain (s .family) (valueOf (s .rule) 1 (length (s .value))) ≡ s .value
   pub plainSpelled : plain (s .family) (valueOf (s .spelled) 2 (length (s .value))) ≡ s .value
@@ -107,11 +108,11 @@ module _ (s : Scene) (h : List Made) where
   abbrev Holds : Type 0
   Holds = HoldsExactly (s .family) (s .size) h left
 
-  abbrev Held : Entry → Type 0
-  Held e = List·Memᴰ e (entries left)
+  abbrev Stands : Entry → Type 0
+  Stands e = List·Memᴰ e (entries left)
 
   abbrev Gone : List ℕ → Type 0
-  Gone value = (e : Entry) → entryKey (s .family) e ≡ keysOf (s .family) value → Held e → ⊥
+  Gone value = (e : Entry) → entryKey (s .family) e ≡ keysOf (s .family) value → Stands e → ⊥
 
   abbrev Judges : List ℕ → List ℕ → Type 0
   Judges packet values = (answer : Looked) (kept : List (List ℕ)) → LooksUp (s .family) left packet answer kept → lookupTold answer ≡ done values
@@ -119,18 +120,18 @@ module _ (s : Scene) (h : List Made) where
 -- **what is shown of a scene.** The first history ends in a table that holds exactly what is in force (`holds`): the one rule, with its
 -- originator and actions (`oneHeld`), and not the other (`otherGone`); a packet that the one rule meets is matched there by one rule, which
 -- drops it (`met`), and one that it does not meet is not (`missed`). The second history and the third, of attributes, end alike. The fourth,
--- whose routes change, holds exactly what is in force (`reroutedHolds`): the other rule, and not the one.
+-- whose routes change, holds exactly what is in force (`reroutedHolds`): the other rule (`reroutedHeld`), and not the one (`reroutedGone`).
 pub record Shown (s : Scene) : Type 0 where
   pub holds : Holds s (worked s)
-  pub oneHeld : Held s (worked s) (entry s)
+  pub oneHeld : Stands s (worked s) (entry s)
   pub otherGone : Gone s (worked s) (s .otherValue)
   pub met : Judges s (worked s) (s .met) (1 ∷ 1 ∷ 0 ∷ 0 ∷ 0 ∷ 0 ∷ [])
   pub missed : Judges s (worked s) (s .missed) (replicate 6 0)
   pub alike : EndAlike (s .family) (left s (worked s)) (left s (other s))
   pub attributesAlike : EndAlike (s .family) (endOfEvents (emptyTable (s .size)) (attributes s)) (left s (worked s))
   pub reroutedHolds : Holds s (rerouted s)
-  pub otherHeld : Held s (rerouted s) (otherEntry s)
-  pub oneGone : Gone s (rerouted s) (s .value)
+  pub reroutedHeld : Stands s (rerouted s) (otherEntry s)
+  pub reroutedGone : Gone s (rerouted s) (s .value)
 
 module _ (s : Scene) (c : Computed s) where
   within : s .size ≤ mostOctets
@@ -144,13 +145,13 @@ module _ (s : Scene) (c : Computed s) where
         fits = within;
         given = ((rule, omega arith), ((octets-each (s .otherRule) (c .octetsOther), omega arith), ((rule, omega arith), ((rule, omega arith), (tt, tt)))));
         happened = (
-          announce-kept (s .family) (s .policy) (owned s) (emptyTable (s .size)) _ Done (s .one) (c .announces) refl refl,
+          announce-kept (s .family) (s .policy) (owned s) (emptyTable (s .size)) _ Held (s .one) (c .announces) refl refl,
           (
-            announce-kept (s .family) (s .policy) (marked s) (s .one) _ Done (s .both) (c .adds) refl refl,
+            announce-kept (s .family) (s .policy) (marked s) (s .one) _ Held (s .both) (c .adds) refl refl,
             (
-              announce-kept (s .family) (s .policy) (foreign s) (s .both) _ (Refused 8 0) (s .another) (c .removes) refl refl,
+              announce-kept (s .family) (s .policy) (foreign s) (s .both) _ (NotAnnounced 8 0) (s .another) (c .removes) refl refl,
               (
-                announce-kept (s .family) (s .policy) (owned s) (s .another) _ Done (s .both) (c .again) refl refl,
+                announce-kept (s .family) (s .policy) (owned s) (s .another) _ Held (s .both) (c .again) refl refl,
                 (withdraw-kept (s .family) (s .otherRule) (s .both) _ Done (s .one) (c .withdraws) refl refl, tt),
               ),
             ),
@@ -164,8 +165,8 @@ module _ (s : Scene) (c : Computed s) where
         fits = within;
         given = (tt, ((octets-each (s .spelled) (c .octetsSpelled), omega arith), tt));
         happened = (
-          withdraw-kept (s .family) (s .otherRule) (emptyTable (s .size)) _ (Refused 14 0) (emptyTable (s .size)) (c .withdrawsNone) refl refl,
-          (announce-kept (s .family) (s .policy) (respelled s) (emptyTable (s .size)) _ Done (s .one) (c .announcesSpelled) refl refl, tt),
+          withdraw-kept (s .family) (s .otherRule) (emptyTable (s .size)) _ (NotWithdrawn 14 0) (emptyTable (s .size)) (c .withdrawsNone) refl refl,
+          (announce-kept (s .family) (s .policy) (respelled s) (emptyTable (s .size)) _ Held (s .one) (c .announcesSpelled) refl refl, tt),
         );
       }
 
@@ -187,10 +188,10 @@ module _ (s : Scene) (c : Computed s) where
         fits = within;
         given = ((rule, omega arith), ((octets-each (s .otherRule) (c .octetsOther), omega arith), ((rule, omega arith), tt)));
         happened = (
-          announce-kept (s .family) (s .policy) (owned s) (emptyTable (s .size)) _ Done (s .one) (c .announces) refl refl,
+          announce-kept (s .family) (s .policy) (owned s) (emptyTable (s .size)) _ Held (s .one) (c .announces) refl refl,
           (
-            announce-kept (s .family) (s .policy) (marked s) (s .one) _ Done (s .both) (c .adds) refl refl,
-            (announce-kept (s .family) (unrouted s) (owned s) (s .both) _ (Refused 8 0) (s .another) (c .removesUnrouted) refl refl, tt),
+            announce-kept (s .family) (s .policy) (marked s) (s .one) _ Held (s .both) (c .adds) refl refl,
+            (announce-kept (s .family) unrouted (owned s) (s .both) _ (NotAnnounced 8 0) (s .another) (c .removesUnrouted) refl refl, tt),
           ),
         );
       }
@@ -263,6 +264,6 @@ module _ (s : Scene) (c : Computed s) where
             (singles-from-empty (s .family) (s .size) (worked s) worked-happened) (refl, (tt, tt))
             (lent-events (s .family) (s .policy) (worked s) worked-lent) attributes-agree;
         reroutedHolds = changed;
-        otherHeld = changed .exactly (otherEntry s) .1 (c .inForceUnrouted);
-        oneGone = none-held (rerouted s) (s .value) changed (c .goneUnrouted);
+        reroutedHeld = changed .exactly (otherEntry s) .1 (c .inForceUnrouted);
+        reroutedGone = none-held (rerouted s) (s .value) changed (c .goneUnrouted);
       }

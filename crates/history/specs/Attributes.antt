@@ -80,7 +80,7 @@ AskedCanBe (askWhole attribute lent) = AttributeCanBe attribute
 abbrev pub EventCanBe : Event → Type 0
 EventCanBe e = AskedCanBe (askedBy e)
 
--- Demand 3: "with the same routes and setting". An attribute was lent these, where it was lent any.
+-- Demand 3: "with the same routes and setting". An attribute was lent this policy; an unreach is lent none.
 abbrev pub AttributeLent : Policy → Attribute → Type 0
 AttributeLent policy (reach lent r) = lent ≡ policy
 AttributeLent policy (unreach attribute) = Unit {0}

@@ -9,28 +9,24 @@ use mathlib.Core.Option.{Option, none, some}
 use lib.ListN.{length, replicate}
 use Rattle.octets.specs.Number.{Octets}
 use Rattle.octets.specs.Test.{Each}
-use Rattle.sorted.specs.History.{Op, refuse, announce, withdraw}
+use Rattle.sorted.specs.History.{Op}
 use Rattle.sorted.specs.History as S
 use Rattle.rule.specs.declared.Family.{Family}
-use Rattle.rule.specs.declared.Reading.{Reading}
-use Rattle.rule.specs.declared.Reading.the-variants.{Rule, Refused as NotRead}
-use Rattle.spelling.specs.Plain.{plain}
-use Rattle.rule.specs.Reading.{valueOf, oneRule}
+use Rattle.rule.specs.Reading.{oneRule}
 use Rattle.route.specs.declared.Origin.{Origin}
-use Rattle.order.specs.Key.{RuleKey, keysOf, keyOrder}
+use Rattle.order.specs.Key.{RuleKey, keyOrder}
 use Rattle.action.specs.declared.Reading.{Reading as ActionsReading}
 use Rattle.action.specs.Actions.{actionsOf}
 use Rattle.entry.specs.Entry.{Entry, entryKey}
 use Rattle.table.specs.Walk.{entries}
 use Rattle.table.specs.Sound.{Encodes, mostOctets}
-use Rattle.flowspec.specs.declared.Change.{Change}
+use Rattle.flowspec.specs.declared.Announced.{Announced}
+use Rattle.flowspec.specs.declared.Withdrawn.{Withdrawn}
 use Rattle.flowspec.specs.declared.Looked.{Looked}
-use Rattle.request.specs.declared.Request.{Request}
-use Rattle.request.specs.declared.Request.the-variants.{Announce, Refused as NoRequest}
 use Rattle.request.specs.Input.{Announcement, Policy}
-use Rattle.request.specs.Request.{announcedEntry, requestOf}
-use Rattle.flowspec.specs.Announce.{Outcome, announcing, withdrawing}
-use Rattle.flowspec.specs.Told.{changeTold}
+use Rattle.request.specs.Request.{requestOf}
+use Rattle.flowspec.specs.Announce.{Outcome, announceOperation, announcing, withdrawOperation, withdrawing}
+use Rattle.flowspec.specs.Told.{Told, announcedTold, withdrawnTold}
 use Rattle.flowspec.specs.Promise.{Announces, Withdraws, LooksUp, FirstMatches}
 
 -- An empty table: a buffer of n octets, all zero.
@@ -43,26 +39,25 @@ pub data Call : Type 0 where
   announcement : Policy → Announcement → Call
   withdrawal : List ℕ → Call
 
--- What an announcement asks of a table once its input is read and judged: nothing, where that is refused; else to announce an entry,
--- which is feasible or not.
-abbrev pub announceOperation : Family → Announcement → Request → Op RuleKey Entry
-announceOperation family a (NoRequest number place) = refuse number
-announceOperation family a (Announce start size actions feasible) = announce (announcedEntry family a start size actions) feasible
+-- What a call is answered with, by its kind.
+abbrev pub AnswerTo : Call → Type 0
+AnswerTo (announcement policy a) = Announced
+AnswerTo (withdrawal rule) = Withdrawn
 
--- What a withdrawal asks of a table once its rule is read: nothing, where that is refused; else to withdraw the rule.
-abbrev pub withdrawOperation : Family → List ℕ → Reading → Op RuleKey Entry
-withdrawOperation family rule (NotRead number place) = refuse number
-withdrawOperation family rule (Rule start size) = withdraw (keysOf family (plain family (valueOf rule start size)))
+-- What that answer says.
+abbrev pub answerTold : (call : Call) → AnswerTo call → Told
+answerTold (announcement policy a) answer = announcedTold answer
+answerTold (withdrawal rule) answer = withdrawnTold answer
 
 -- A call as it was made: what it was given, its answer, and the table's octets after it.
 pub record Made : Type 0 where
   pub call : Call
-  pub answer : Change
+  pub answer : AnswerTo call
   pub left : List ℕ
 
 -- The number that a call was answered with, 0 where it was done.
 abbrev pub numberOf : Made → ℕ
-numberOf m = changeTold (m .answer) .number
+numberOf m = answerTold (m .call) (m .answer) .number
 
 -- What is asked of what a call is given, and holds by the types of what it is lent: an announced rule is octets, and an originator has 32
 -- bits.
@@ -90,7 +85,7 @@ abbrev pub deedOf : Option Made → Option Deed
 deedOf none = none
 deedOf (some m) = some (deed (m .call))
 
--- Demand 3: "with the same routes and setting". A call was lent these, where it was lent any.
+-- Demand 3: "with the same routes and setting". A call was lent this policy; a withdrawal is lent none.
 abbrev pub LentPolicy : Policy → Call → Type 0
 LentPolicy policy (announcement lent a) = lent ≡ policy
 LentPolicy policy (withdrawal rule) = Unit {0}
@@ -111,7 +106,7 @@ module _ (family : Family) where
   operationOf (withdrawal rule) = withdrawOperation family rule (oneRule family rule)
 
   -- A call's promise, with a table at entry.
-  abbrev pub Promised : Call → List ℕ → Change → List ℕ → Type 0
+  abbrev pub Promised : (call : Call) → List ℕ → AnswerTo call → List ℕ → Type 0
   Promised (announcement policy a) table answer left = Announces family policy a table answer left (policy .routes ∷ a .rule ∷ a .communities ∷ [])
   Promised (withdrawal rule) table answer left = Withdraws family rule table answer left (rule ∷ [])
 
@@ -122,7 +117,7 @@ module _ (family : Family) where
   Happened table (m ∷ h) = Promised (m .call) table (m .answer) (m .left) × Happened (m .left) h
 
   -- What a call answers and leaves on a table.
-  abbrev pub outcomeOf : Call → List ℕ → Outcome
+  abbrev pub outcomeOf : (call : Call) → List ℕ → Outcome (AnswerTo call)
   outcomeOf (announcement policy a) table = announcing family policy a table
   outcomeOf (withdrawal rule) table = withdrawing family rule table
 
@@ -158,9 +153,9 @@ module _ (family : Family) where
     pub given : EachCanBe h
     pub happened : Happened (emptyTable n) h
 
-  -- **Demand 3**, of a table after any history, whatever routes its calls were lent: it "holds exactly the rules whose last counted call was
-  -- a feasible announcement, each with that call's actions" (`exactly`; feasible by what that call was lent), "once, in precedence order" (`sound`: its octets are the records of its entries, whose keys rise
-  -- strictly, and zeros), in the n octets of its buffer (`sized`).
+  -- **Demand 3**, of a table after any history, whatever routes its calls were lent: it "holds exactly the rules whose last counted call was a
+  -- feasible announcement, each with that call's actions" (`exactly`; feasible by what that call was lent), "once, in precedence order"
+  -- (`sound`: its octets are the records of its entries, whose keys rise strictly, and zeros), in the n octets of its buffer (`sized`).
   pub record HoldsExactly (n : ℕ) (h : List Made) (table : List ℕ) : Type 0 where
     pub exactly : (e : Entry) → List·Memᴰ e (entries table) ↔ (inForceAfter h (entryKey family e) ≡ some e)
     pub sound : Encodes family table (entries table)

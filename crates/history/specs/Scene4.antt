@@ -1,10 +1,11 @@
 -- A scene of IPv4 (Worked.antt), in a buffer of 96 octets: mail and ping to one network.
 use Prim.Native.Nat.{ℕ}
+use mathlib.Core.Bool.{false}
 use mathlib.Core.List.{List, [], _∷_, _++_}
 use lib.ListN.{replicate}
 use Rattle.rule.specs.Family.{ipv4}
-use Rattle.request.specs.Input.{policyOf}
-use Rattle.history.specs.Worked.{Scene, strict}
+use Rattle.request.specs.Input.{settingsOf, policyOf}
+use Rattle.history.specs.Worked.{Scene}
 
 -- Mail: destination 192.0.2.0/25, protocol 6, port 25.
 abbrev pub mailValue : List ℕ
@@ -38,7 +39,7 @@ sceneFour =
     record {
       family = ipv4;
       size = 96;
-      policy = policyOf (0xc0000200 ∷ 24 ∷ 7 ∷ 64500 ∷ []) strict;
+      policy = policyOf (0xc0000200 ∷ 24 ∷ 7 ∷ 64500 ∷ []) (settingsOf false);
       value = mailValue;
       rule = 12 ∷ mailValue;
       spelled = mailSpelled;

@@ -1,12 +1,13 @@
--- A scene of IPv6 (Worked.antt), in a buffer of 112 octets: two rules to one network that differ in the offset of their source; and, beside
--- it, a rule whose destination has an offset, which is infeasible whatever the setting.
+-- A scene of IPv6 (Worked.antt), in a buffer of 112 octets: two rules to one network whose sources differ in the
+-- offset, which decides their order, and of which the first also asks for an upper layer; and, beside it, a rule whose destination has an
+-- offset, which is infeasible whatever the setting.
 use Prim.Native.Nat.{ℕ}
-use mathlib.Core.Bool.{true}
+use mathlib.Core.Bool.{true, false}
 use mathlib.Core.List.{List, [], _∷_, _++_}
 use lib.ListN.{replicate}
 use Rattle.rule.specs.Family.{ipv6}
-use Rattle.request.specs.Input.{Announcement, Policy, announcementOf, policyOf}
-use Rattle.history.specs.Worked.{Scene, strict, seven, dropping}
+use Rattle.request.specs.Input.{Announcement, Policy, settingsOf, announcementOf, policyOf}
+use Rattle.history.specs.Worked.{Scene, seven, dropping}
 
 -- The words of the route 2001:db8::/32 to originator 7, over neighbour AS 64500.
 abbrev pub routeSix : List ℕ
@@ -47,7 +48,7 @@ sceneSix =
     record {
       family = ipv6;
       size = 112;
-      policy = policyOf routeSix strict;
+      policy = policyOf routeSix (settingsOf false);
       value = hostValue;
       rule = 22 ∷ hostValue;
       spelled = hostSpelled;
@@ -67,12 +68,13 @@ sceneSix =
 abbrev pub shiftedValue : List ℕ
 shiftedValue = 0x01 ∷ 0x80 ∷ 0x40 ∷ replicate 7 0 ++ (0x01 ∷ [])
 
--- The same announced, where rules with no destination are allowed.
+-- The same announced by 7, to be dropped.
 abbrev pub shifted : Announcement
 shifted = announcementOf (11 ∷ shiftedValue) seven dropping
 
+-- The route above, where rules with no destination are allowed.
 abbrev pub allowing : Policy
-allowing = policyOf routeSix (record { «allows_no_destination» = true })
+allowing = policyOf routeSix (settingsOf true)
 
 -- A table of 64 octets with that rule, which no call leaves: it is made.
 abbrev pub shiftedTable : List ℕ

@@ -7,54 +7,56 @@ use mathlib.Core.Bool.{false}
 use mathlib.Core.List.{List, [], _∷_}
 use Rattle.rule.specs.declared.Family.{Family}
 use Rattle.route.specs.declared.Origin.{Origin}
-use Rattle.route.specs.declared.Settings.{Settings}
 use Rattle.action.specs.declared.Actions.{Actions}
 use Rattle.action.specs.Given.{given}
 use Rattle.action.specs.Limit.{limit}
 use Rattle.action.specs.Actions.{noActions}
 use Rattle.action.specs.Reading.{withByteRate, withMarking}
 use Rattle.entry.specs.Entry.{Entry}
-use Rattle.flowspec.specs.declared.Change.{Change}
-use Rattle.flowspec.specs.declared.Change.the-variants.{Done, Refused}
-use Rattle.request.specs.Input.{Announcement, Policy, announcementOf, policyOf}
+use Rattle.flowspec.specs.declared.Announced.the-variants.{Held, Refused as NotAnnounced}
+use Rattle.flowspec.specs.declared.Withdrawn.the-variants.{Done, Refused as NotWithdrawn}
+use Rattle.request.specs.Input.{Announcement, Policy, settingsOf, originOf, announcementOf, policyOf}
 use Rattle.update.specs.declared.Applied.the-variants.{Done as DoneAll}
 use Rattle.update.specs.Singles.{Reach, reachOf}
-use Rattle.history.specs.History.{Call, announcement, withdrawal, Made, emptyTable}
+use Rattle.history.specs.History.{Call, announcement, withdrawal, AnswerTo, Made, emptyTable}
 use Rattle.history.specs.Attributes.{reach, unreach, Event, whole}
 
--- A scene: its family, the octets of its buffer, and its policy, by which originator 7 may announce both rules; the rule that is left at the
--- end, by its value, as NLRI and as NLRI in another spelling; the rule that is withdrawn, by its value and as NLRI; both in a reach, and the
--- second in an unreach; the table with the one rule, which drops, with the other, which marks, with both, and with both where both drop; and
--- a packet that the first rule meets, and one that it does not.
+-- A scene: what its calls are lent, two rules, the tables that they leave, and two packets.
 pub record Scene : Type 0 where
+  -- its family, the octets of its buffer, and the policy by which originator 7 may announce both rules
   pub family : Family
   pub size : ℕ
   pub policy : Policy
+  -- the one rule, which is left at the end: its value, its NLRI, and its NLRI in another spelling
   pub value : List ℕ
   pub rule : List ℕ
   pub spelled : List ℕ
+  -- the other rule, which is withdrawn
   pub otherValue : List ℕ
   pub otherRule : List ℕ
+  -- both in a reach, and the other in an unreach
   pub reachedBoth : List ℕ
   pub unreachedOther : List ℕ
+  -- the table with the one rule, which drops, with the other, which marks, with both, and with both where both drop
   pub one : List ℕ
   pub another : List ℕ
   pub both : List ℕ
   pub dropped : List ℕ
+  -- a packet that the one rule meets, and one that it does not
   pub met : List ℕ
   pub missed : List ℕ
 
--- Rules with no destination are not allowed.
-abbrev pub strict : Settings
-strict = record { «allows_no_destination» = false }
+-- No route is left, and rules with no destination are not allowed.
+abbrev pub unrouted : Policy
+unrouted = policyOf [] (settingsOf false)
 
 -- Who announces both rules.
 abbrev pub seven : Origin
-seven = record { originator = 7 }
+seven = originOf 7
 
 -- Somebody else.
 abbrev pub eight : Origin
-eight = record { originator = 8 }
+eight = originOf 8
 
 -- A byte rate of 0.
 abbrev pub dropping : List ℕ
@@ -77,7 +79,7 @@ abbrev pub marks : Actions
 marks = withMarking noActions (given 10)
 
 -- A call with its answer and what it left.
-abbrev pub made : Call → Change → List ℕ → Made
+abbrev pub made : (call : Call) → AnswerTo call → List ℕ → Made
 made call answer left = record { call = call; answer = answer; left = left }
 
 module _ (s : Scene) where
@@ -106,28 +108,24 @@ module _ (s : Scene) where
   marked = announcementOf (s .otherRule) seven marking
 
   -- The other rule announced to be dropped too.
-  abbrev pub markedDropped : Announcement
-  markedDropped = announcementOf (s .otherRule) seven dropping
-
-  -- No route is left, and rules with no destination are not allowed.
-  abbrev pub unrouted : Policy
-  unrouted = policyOf [] strict
+  abbrev pub otherDropped : Announcement
+  otherDropped = announcementOf (s .otherRule) seven dropping
 
   -- The first history.
   abbrev pub worked : List Made
   worked =
-      made (announcement (s .policy) owned) Done (s .one)
-      ∷ made (announcement (s .policy) marked) Done (s .both)
-      ∷ made (announcement (s .policy) foreign) (Refused 8 0) (s .another)
-      ∷ made (announcement (s .policy) owned) Done (s .both)
+      made (announcement (s .policy) owned) Held (s .one)
+      ∷ made (announcement (s .policy) marked) Held (s .both)
+      ∷ made (announcement (s .policy) foreign) (NotAnnounced 8 0) (s .another)
+      ∷ made (announcement (s .policy) owned) Held (s .both)
       ∷ made (withdrawal (s .otherRule)) Done (s .one)
       ∷ []
 
   -- The second: the other rule is withdrawn first, where it is not held, and the one is announced in the other spelling.
   abbrev pub other : List Made
   other =
-      made (withdrawal (s .otherRule)) (Refused 14 0) (emptyTable (s .size))
-      ∷ made (announcement (s .policy) respelled) Done (s .one)
+      made (withdrawal (s .otherRule)) (NotWithdrawn 14 0) (emptyTable (s .size))
+      ∷ made (announcement (s .policy) respelled) Held (s .one)
       ∷ []
 
   -- Both rules in one reach, both to be dropped.
@@ -144,8 +142,8 @@ module _ (s : Scene) where
   -- The single calls that the attributes stand for.
   abbrev pub standing : List Made
   standing =
-      made (announcement (s .policy) owned) Done (s .one)
-      ∷ made (announcement (s .policy) markedDropped) Done (s .dropped)
+      made (announcement (s .policy) owned) Held (s .one)
+      ∷ made (announcement (s .policy) otherDropped) Held (s .dropped)
       ∷ made (withdrawal (s .otherRule)) Done (s .one)
       ∷ []
 
@@ -153,7 +151,7 @@ module _ (s : Scene) where
   -- by the routes of its own, stays.
   abbrev pub rerouted : List Made
   rerouted =
-      made (announcement (s .policy) owned) Done (s .one)
-      ∷ made (announcement (s .policy) marked) Done (s .both)
-      ∷ made (announcement unrouted owned) (Refused 8 0) (s .another)
+      made (announcement (s .policy) owned) Held (s .one)
+      ∷ made (announcement (s .policy) marked) Held (s .both)
+      ∷ made (announcement unrouted owned) (NotAnnounced 8 0) (s .another)
       ∷ []

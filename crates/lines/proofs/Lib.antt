@@ -4,4 +4,3 @@ pub mod CutLaws
 pub mod ServeLaws
 pub mod InputLaws
 pub mod Unique
-pub mod DoorLaws

@@ -13,10 +13,13 @@ use Rattle.octets.proofs.Cases.{by-test, apart, both}
 use Rattle.rule.specs.Value.{between}
 use Rattle.octets.specs.Store.{stored}
 use Rattle.rule.specs.Family.{ipv4}
-use Rattle.flowspec.specs.declared.Change.{Change}
-use Rattle.request.specs.Input.{announcementOf, policyOf}
-use Rattle.flowspec.specs.Announce.{announcing, withdrawing, Outcome}
-use Rattle.flowspec.specs.Told.{changeTold}
+use Rattle.flowspec.specs.declared.Announced.{Announced}
+use Rattle.flowspec.specs.declared.Withdrawn.{Withdrawn}
+use Rattle.route.specs.declared.Origin.{Origin}
+use Rattle.request.specs.Input.{originOf, Policy, announcementOf, policyOf}
+use Rattle.flowspec.specs.Announce.{announcing, withdrawing}
+use Rattle.flowspec.specs.Told.{announcedTold, withdrawnTold}
+use Rattle.flowspec.specs.Promise.{Announces, Withdraws}
 use Rattle.text.specs.Hex.{octetsIn}
 use Rattle.text.specs.Print.{laid}
 use Rattle.text.proofs.HexLaws.{length-octetsIn}
@@ -28,7 +31,7 @@ use Rattle.line.specs.declared.Form.{Form}
 use Rattle.line.specs.declared.Form.the-variants.{Route, Announce, Withdraw, Listing, Unknown}
 use Rattle.line.specs.Line.{Line, other, lineOf, mostSigns}
 use Rattle.line.specs.Form.{formSays, FormIn, Says}
-use Rattle.lines.specs.Serve.{Serving, mostWords, routeFits, printing, changing, adding, settingOff, originOf, servedAs, served, Changes, Adds, servedTold}
+use Rattle.lines.specs.Serve.{Serving, mostWords, routeFits, printing, changing, adding, settingOff, servedAs, served, Changes, Adds, servedTold}
 use Rattle.lines.specs.Promise.{Serves}
 use Rattle.line.proofs.CutLaws.{too-long}
 
@@ -96,10 +99,19 @@ module _ (room exit text : List ℕ) (count : ℕ) (reads : (exit ≡ laid room 
   pub read-is : take count exit ≡ octetsIn text
   read-is = front-is room exit (octetsIn text) count (reads .0) (reads .1) (omega (arith, fits))
 
--- a change of the table whose answer was printed
-pub changes : (o : Outcome) (out : List ℕ) (change : Change) (t x : List ℕ) (printed : ℕ) → change ≡ o .answer → t ≡ o .table
-    → Answered mostAnswer out (changeText (changeTold change)) x printed → Changes o out printed t x
-changes o out change t x printed a e p = record { leaves = e; prints = rw (← a) p }
+-- octets that a line spells were read and announced as a rule with its communities, and the answer was printed
+pub announce-printed : {policy : Policy} {octets rule actions communities table out t x : List ℕ} {origin : Origin} {printed : ℕ} {answer : Announced}
+    {kept : List (List ℕ)} (found : Announced) → octets ≡ rule → actions ≡ communities
+    → Announces ipv4 policy (announcementOf octets origin actions) table answer t kept → answer ≡ found
+    → Answered mostAnswer out (changeText (announcedTold found)) x printed
+    → Changes announcedTold (announcing ipv4 policy (announcementOf rule origin communities) table) out printed t x
+announce-printed found a b p f w = let q = rw (a, b) at p in record { leaves = q .leaves; prints = rw (← q .is, f) w }
+
+-- the same of a rule that was withdrawn
+pub withdraw-printed : {octets rule table out t x : List ℕ} {printed : ℕ} {answer : Withdrawn} {kept : List (List ℕ)} (found : Withdrawn)
+    → octets ≡ rule → Withdraws ipv4 octets table answer t kept → answer ≡ found → Answered mostAnswer out (changeText (withdrawnTold found)) x printed
+    → Changes withdrawnTold (withdrawing ipv4 rule table) out printed t x
+withdraw-printed found a p f w = let q = rw a at p in record { leaves = q .leaves; prints = rw (← q .is, f) w }
 
 -- the routes in use, where `used` may pass the buffer's end
 pub in-use : (used count : ℕ) (routes : List ℕ) → count ≡ min used (length routes) → take count routes ≡ take used routes
@@ -147,18 +159,18 @@ module _ (line : List ℕ) (used : ℕ) (routes table out : List ℕ) (form : Fo
 
   module _ (rule ruleEnd originator communities : ℕ) (is : form ≡ Announce rule ruleEnd originator communities) where
     pub serve-announced : (count printed : ℕ) (t x : List ℕ) → count ≡ min used (length routes)
-        → Changes (announcing ipv4 (policyOf (take count routes) settingOff) (announcementOf (octetsIn (between line rule ruleEnd)) (originOf originator) (octetsIn (between line communities (length line)))) table) out printed t x
+        → Changes announcedTold (announcing ipv4 (policyOf (take count routes) settingOff) (announcementOf (octetsIn (between line rule ruleEnd)) (originOf originator) (octetsIn (between line communities (length line)))) table) out printed t x
         → Serves line used routes table out (record { printed = printed; used = used }) routes t x (line ∷ [])
     serve-announced count printed t x e c =
-        serves (changing (announcing ipv4 (policyOf (take count routes) settingOff) (announcementOf (octetsIn (between line rule ruleEnd)) (originOf originator) (octetsIn (between line communities (length line)))) table) used routes)
+        serves (changing announcedTold (announcing ipv4 (policyOf (take count routes) settingOff) (announcementOf (octetsIn (between line rule ruleEnd)) (originOf originator) (octetsIn (between line communities (length line)))) table) used routes)
         (served-as (Announce rule ruleEnd originator communities) is ∙ rw (in-use used count routes e)) _ _ _ _
         (λ i. record { printed = c .prints .1 i; used = used }) refl (c .leaves) (c .prints .0) (answer-fits _ _ (c .prints .2))
 
   module _ (rule : ℕ) (is : form ≡ Withdraw rule) where
-    pub serve-withdrawn : (printed : ℕ) (t x : List ℕ) → Changes (withdrawing ipv4 (octetsIn (between line rule (length line))) table) out printed t x
+    pub serve-withdrawn : (printed : ℕ) (t x : List ℕ) → Changes withdrawnTold (withdrawing ipv4 (octetsIn (between line rule (length line))) table) out printed t x
         → Serves line used routes table out (record { printed = printed; used = used }) routes t x (line ∷ [])
     serve-withdrawn printed t x c =
-        serves (changing (withdrawing ipv4 (octetsIn (between line rule (length line))) table) used routes) (served-as (Withdraw rule) is) _ _ _ _
+        serves (changing withdrawnTold (withdrawing ipv4 (octetsIn (between line rule (length line))) table) used routes) (served-as (Withdraw rule) is) _ _ _ _
         (λ i. record { printed = c .prints .1 i; used = used }) refl (c .leaves) (c .prints .0) (answer-fits _ _ (c .prints .2))
 
   -- a line that prints and changes nothing

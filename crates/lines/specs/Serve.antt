@@ -7,12 +7,11 @@ use lib.Dec.{leb}
 use lib.ListN.{length, take}
 use Rattle.octets.specs.Store.{stored}
 use Rattle.rule.specs.Family.{ipv4}
-use Rattle.route.specs.declared.Origin.{Origin}
 use Rattle.route.specs.declared.Settings.{Settings}
 use Rattle.route.specs.Route.{mostRoutes}
-use Rattle.request.specs.Input.{announcementOf, policyOf}
+use Rattle.request.specs.Input.{settingsOf, originOf, announcementOf, policyOf}
 use Rattle.flowspec.specs.Announce.{announcing, withdrawing, Outcome}
-use Rattle.flowspec.specs.Told.{changeTold}
+use Rattle.flowspec.specs.Told.{Told, announcedTold, withdrawnTold}
 use Rattle.text.specs.Print.{laid}
 use Rattle.lines.specs.declared.Served.{Served}
 use Rattle.line.specs.Line.{Line, route, announce, withdraw, list, other, lineOf}
@@ -37,10 +36,10 @@ routeFits used routes = leb (used + ipv4 .words) mostWords && leb (used + ipv4 .
 abbrev pub printing : List ℕ → ℕ → List ℕ → List ℕ → Serving
 printing text used routes table = record { text = text; used = used; routes = routes; table = table }
 
--- A line that changes the table alone, and prints the call's answer.
-abbrev pub changing : Outcome → ℕ → List ℕ → Serving
-changing changed used routes =
-    record { text = changeText (changeTold (changed .answer)); used = used; routes = routes; table = changed .table }
+-- A line that changes the table alone, and prints the call's answer, by what that tells.
+abbrev pub changing : {A : Type 0} → (A → Told) → Outcome A → ℕ → List ℕ → Serving
+changing tells changed used routes =
+    record { text = changeText (tells (changed .answer)); used = used; routes = routes; table = changed .table }
 
 -- 01: "A route line adds to the list and prints nothing"; "a route past 4,096 prints `answer\t?`". Whether the routes are sound is judged
 -- by the announcements that follow.
@@ -52,18 +51,14 @@ adding words used routes table =
 
 -- 01: "the setting is off": a rule with no destination is infeasible.
 abbrev pub settingOff : Settings
-settingOff = record { «allows_no_destination» = false }
-
--- The origin of a line's announcement, by the number that the line says.
-abbrev pub originOf : ℕ → Origin
-originOf originator = record { originator = originator }
+settingOff = settingsOf false
 
 -- What a line says is done. The routes in use are all words where `used` passes the buffer's end.
 abbrev pub servedAs : Line → ℕ → List ℕ → List ℕ → Serving
 servedAs (route address size originator neighbour) used routes table = adding (address ∷ size ∷ originator ∷ neighbour ∷ []) used routes table
 servedAs (announce rule originator communities) used routes table =
-    changing (announcing ipv4 (policyOf (take used routes) settingOff) (announcementOf rule (originOf originator) communities) table) used routes
-servedAs (withdraw rule) used routes table = changing (withdrawing ipv4 rule table) used routes
+    changing announcedTold (announcing ipv4 (policyOf (take used routes) settingOff) (announcementOf rule (originOf originator) communities) table) used routes
+servedAs (withdraw rule) used routes table = changing withdrawnTold (withdrawing ipv4 rule table) used routes
 servedAs list used routes table = printing (listText table) used routes table
 servedAs other used routes table = printing unknownText used routes table
 
@@ -77,9 +72,9 @@ abbrev pub servedTold : Serving → Served
 servedTold serving = record { printed = length (serving .text); used = serving .used }
 
 -- How the code holds what a line that changes the table leaves, which no promise names: the table, and the printed text.
-pub record Changes (changed : Outcome) (out : List ℕ) (printed : ℕ) (tableExit outExit : List ℕ) : Type 0 where
+pub record Changes {A : Type 0} (tells : A → Told) (changed : Outcome A) (out : List ℕ) (printed : ℕ) (tableExit outExit : List ℕ) : Type 0 where
   pub leaves : tableExit ≡ changed .table
-  pub prints : Answered mostAnswer out (changeText (changeTold (changed .answer))) outExit printed
+  pub prints : Answered mostAnswer out (changeText (tells (changed .answer))) outExit printed
 
 -- How the code holds what a route line leaves, which no promise names: the routes, the printed text, and the answer. The table, which it
 -- leaves alone, is not lent to it.

@@ -5,12 +5,15 @@ ghost use mathlib.Core.List.{[], _∷_};
 ghost use Prim.Native.Nat.{_+_, _≤_};
 ghost use lib.ListN.{length};
 ghost use Rattle.rule.specs.Family.{ipv4};
-ghost use Rattle.request.specs.Input.{announcementOf, policyOf};
+ghost use Rattle.request.specs.Input.{originOf, announcementOf, policyOf};
 ghost use Rattle.flowspec.specs.Announce.{announcing, withdrawing};
+ghost use Rattle.flowspec.specs.Told.{announcedTold, withdrawnTold};
 ghost use Rattle.text.specs.Hex.{octetsIn};
 ghost use Rattle.line.specs.Line.{mostSigns};
-ghost use Rattle.lines.specs.Serve.{routeFits, adding, settingOff, originOf, Changes, Adds};
+ghost use Rattle.lines.specs.Serve.{routeFits, adding, settingOff, Changes, Adds};
 ghost use Rattle.lines.specs.Promise.{Gathers, Serves};
+use flowspec::Announced;
+use flowspec::Withdrawn;
 use line::Form;
 use route::Origin;
 use route::Settings;
@@ -107,7 +110,7 @@ fn serve_announce(
     out: &mut [u8],
 ) -> usize
     requires { ⌜ (length (now rule) ≤ mostSigns) × (length (now communities) ≤ mostSigns) ⌝ }
-    ensures { λ r. ⌜ Changes (announcing ipv4 (policyOf (now (routes .entry)) settingOff) (announcementOf (octetsIn (now (rule .entry))) (originOf originator) (octetsIn (now (communities .entry)))) (now (table .entry))) (now (out .entry)) r (now (table .exit)) (now (out .exit)) ⌝ }
+    ensures { λ r. ⌜ Changes announcedTold (announcing ipv4 (policyOf (now (routes .entry)) settingOff) (announcementOf (octetsIn (now (rule .entry))) (originOf originator) (octetsIn (now (communities .entry)))) (now (table .entry))) (now (out .entry)) r (now (table .exit)) (now (out .exit)) ⌝ }
 {
     let mut octets = [0u8; FIELD_OCTETS];
     let size = text::read_octets(rule, &mut octets);
@@ -117,7 +120,7 @@ fn serve_announce(
         allows_no_destination: false,
     };
     let origin = Origin { originator };
-    let change = flowspec::announce(
+    match flowspec::announce(
         AddressFamily::Ipv4,
         table,
         settings,
@@ -125,19 +128,23 @@ fn serve_announce(
         &octets[..size],
         origin,
         &actions[..count],
-    );
-    answers::put_change(out, change)
+    ) {
+        Announced::Held => answers::put_answer(out, 0, 0),
+        Announced::Refused { number, place } => answers::put_answer(out, number, place),
+    }
 }
 
 // Withdraws the rule that a part of a line spells, and prints the answer: how long the text is.
 fn serve_withdraw(rule: &[u8], table: &mut [u8], out: &mut [u8]) -> usize
     requires { ⌜ length (now rule) ≤ mostSigns ⌝ }
-    ensures { λ r. ⌜ Changes (withdrawing ipv4 (octetsIn (now (rule .entry))) (now (table .entry))) (now (out .entry)) r (now (table .exit)) (now (out .exit)) ⌝ }
+    ensures { λ r. ⌜ Changes withdrawnTold (withdrawing ipv4 (octetsIn (now (rule .entry))) (now (table .entry))) (now (out .entry)) r (now (table .exit)) (now (out .exit)) ⌝ }
 {
     let mut octets = [0u8; FIELD_OCTETS];
     let size = text::read_octets(rule, &mut octets);
-    let change = flowspec::withdraw(AddressFamily::Ipv4, table, &octets[..size]);
-    answers::put_change(out, change)
+    match flowspec::withdraw(AddressFamily::Ipv4, table, &octets[..size]) {
+        Withdrawn::Done => answers::put_answer(out, 0, 0),
+        Withdrawn::Refused { number, place } => answers::put_answer(out, number, place),
+    }
 }
 
 // Serves a line: does what it says, and prints to the front of a buffer, as far as that reaches.

@@ -1,5 +1,6 @@
 -- What a call is given to judge and to announce, by name.
 use Prim.Native.Nat.{ℕ}
+use mathlib.Core.Bool.{Bool}
 use mathlib.Core.List.{List}
 use Rattle.route.specs.declared.Origin.{Origin}
 use Rattle.route.specs.declared.Settings.{Settings}
@@ -14,6 +15,14 @@ pub record Announcement : Type 0 where
 pub record Policy : Type 0 where
   pub routes : List ℕ
   pub settings : Settings
+
+-- Settings from the value that a call is lent.
+abbrev pub settingsOf : Bool → Settings
+settingsOf allows = record { «allows_no_destination» = allows }
+
+-- An origin from the number that a call is lent.
+abbrev pub originOf : ℕ → Origin
+originOf originator = record { originator = originator }
 
 -- An announcement from the values that a call is lent one by one.
 abbrev pub announcementOf : List ℕ → Origin → List ℕ → Announcement

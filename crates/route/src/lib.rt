@@ -21,7 +21,7 @@ pub struct Route {
     pub neighbour: u32,
 }
 
-// Who announces a rule: what an announcement is judged by beside its destination (RFC 8955 section 6).
+// Who announces a rule: what an announcement is judged by beside its destination (RFC 8955 section 6), not BGP's attribute ORIGIN.
 pub struct Origin {
     pub originator: u32,
 }

@@ -30,8 +30,8 @@ pub record Changed : Type 0 where
   pub used : ℕ
   pub table : List ℕ
 
--- What is asked of a table is done to its entries, and what that leaves is encoded in as many octets: 0 done, 8 infeasible, 11 no room, 14
--- not held.
+-- What is asked of a table is done to its entries, and what that leaves is encoded in as many octets. Its numbers: 0 done, 8 infeasible, 11 no
+-- room, 14 not held.
 unfoldable pub changed : Family → List ℕ → Op RuleKey Entry → Changed
 changed family t op =
     let left = apply keyOrder (entryKey family) cost (length t) op (entries t) in

@@ -14,7 +14,7 @@ use Rattle.rule.specs.declared.Checked.{Checked}
 use Rattle.rule.specs.declared.Checked.the-variants.{Accepted, Refused}
 use Rattle.rule.proofs.RefusalsLaws.{Numbered}
 use Rattle.request.specs.Input.{Policy}
-use Rattle.flowspec.specs.Told.{Told}
+use Rattle.flowspec.specs.Told.{Told, done}
 use Rattle.flowspec.specs.Checks.{Check, oneToSeven, told}
 use Rattle.theorems.specs.Numbers.{Accepts}
 use Rattle.theorems.proofs.Numbers.{other, given, far}
@@ -40,9 +40,9 @@ too-few : (asked words : ℕ) → (leb asked words ≡ false) ↔ (words < asked
 too-few asked words = (leb-false asked words, lt-leb asked words)
 
 -- what is told is 0, or the number of a check that does not hold
-told-only : (P : ℕ → Type 0) (cs : List Check) (values : List ℕ) → P 0 → Each (λ c. c .holds ≡ false → P (c .number)) cs → P (told cs values .number)
+told-only : (P : ℕ → Type 0) (cs : List Check) (values : List ℕ) → P 0 → Each (λ c. c .holds ≡ false → P (c .number)) cs → P (told cs (done values) .number)
 told-only P cs values none each =
-    subst (λ (t : Told). P (t .number)) (told-of cs values) (decided-ind (λ (t : Told). P (t .number)) cs _ _ (λ h. none) each)
+    subst (λ (t : Told). P (t .number)) (told-of cs (done values)) (decided-ind (λ (t : Told). P (t .number)) cs _ _ (λ h. none) each)
 
 -- a refusal of 1 to 7 has no number above them
 up-to-seven : (c : Checked) → Numbered c → oneToSeven c .number ≤ 7
@@ -73,12 +73,12 @@ reach-numbers {family} {policy} {reach} {table} {answers} p =
     let not-of-rules = apart-from family a reachHead in
     let all-accepted = accepted family a reachHead in
     rw (p .tells) (record {
-      ten = number-at _ 10 (λ e. omega arith) cs 0 (refl, (refl, (refl, (not-of-rules 10 (omega arith), (refl, (refl, tt))))));
-      nine = number-at _ 9 (λ e. omega arith) cs 1 (refl, (refl, (refl, (not-of-rules 9 (omega arith), (refl, (refl, tt))))));
-      nineteen = number-at _ 19 (λ e. omega arith) cs 2 (refl, (refl, (refl, (not-of-rules 19 (omega arith), (refl, (refl, tt))))));
+      ten = number-at (done _) 10 (λ e. omega arith) cs 0 (refl, (refl, (refl, (not-of-rules 10 (omega arith), (refl, (refl, tt))))));
+      nine = number-at (done _) 9 (λ e. omega arith) cs 1 (refl, (refl, (refl, (not-of-rules 9 (omega arith), (refl, (refl, tt))))));
+      nineteen = number-at (done _) 19 (λ e. omega arith) cs 2 (refl, (refl, (refl, (not-of-rules 19 (omega arith), (refl, (refl, tt))))));
       one-to-seven = λ number place h k.
           Iff·trans
-          (value-at _ number (λ e. omega arith) (rulesFrom family a reachHead .ending) place cs 3 (
+          (value-at (done _) number (λ e. omega arith) (rulesFrom family a reachHead .ending) place cs 3 (
             far 10 number k (omega arith),
             (
               far 9 number k (omega arith),
@@ -86,9 +86,9 @@ reach-numbers {family} {policy} {reach} {table} {answers} p =
             ),
           ))
           (behind (behind (behind (refused-rules family a reachHead number place))));
-      thirteen = Iff·trans (number-at _ 13 (λ e. omega arith) cs 4 (refl, (refl, (refl, (not-of-rules 13 (omega arith), (refl, (refl, tt)))))))
+      thirteen = Iff·trans (number-at (done _) 13 (λ e. omega arith) cs 4 (refl, (refl, (refl, (not-of-rules 13 (omega arith), (refl, (refl, tt)))))))
           (behind (behind (behind (Iff·and all-accepted Iff·rfl))));
-      sixteen = Iff·trans (number-at _ 16 (λ e. omega arith) cs 5 (refl, (refl, (refl, (not-of-rules 16 (omega arith), (refl, (refl, tt)))))))
+      sixteen = Iff·trans (number-at (done _) 16 (λ e. omega arith) cs 5 (refl, (refl, (refl, (not-of-rules 16 (omega arith), (refl, (refl, tt)))))))
           (behind (behind (behind (Iff·and all-accepted (behind (too-few _ _))))));
       zero = all-hold _ cs ((λ h. omega arith), ((λ h. omega arith), ((λ h. omega arith), (named family a reachHead, ((λ h. omega arith), ((λ h. omega arith), tt))))));
       only = told-only ReachNumber cs _ (inl (omega arith)) (
@@ -111,14 +111,14 @@ unreach-numbers {family} {attribute} {table} {answers} p =
     let cs = unreachChecks family attribute table answers in
     let not-of-rules = apart-from family attribute unreachHead in
     rw (p .tells) (record {
-      ten = number-at _ 10 (λ e. omega arith) cs 0 (refl, (refl, (not-of-rules 10 (omega arith), (refl, tt))));
-      nineteen = number-at _ 19 (λ e. omega arith) cs 1 (refl, (refl, (not-of-rules 19 (omega arith), (refl, tt))));
+      ten = number-at (done _) 10 (λ e. omega arith) cs 0 (refl, (refl, (not-of-rules 10 (omega arith), (refl, tt))));
+      nineteen = number-at (done _) 19 (λ e. omega arith) cs 1 (refl, (refl, (not-of-rules 19 (omega arith), (refl, tt))));
       one-to-seven = λ number place h k.
           Iff·trans
-          (value-at _ number (λ e. omega arith) (rulesFrom family attribute unreachHead .ending) place cs 2
+          (value-at (done _) number (λ e. omega arith) (rulesFrom family attribute unreachHead .ending) place cs 2
           (far 10 number k (omega arith), (far 19 number k (omega arith), (refl, (far 16 number k (omega arith), tt)))))
           (behind (behind (refused-rules family attribute unreachHead number place)));
-      sixteen = Iff·trans (number-at _ 16 (λ e. omega arith) cs 3 (refl, (refl, (not-of-rules 16 (omega arith), (refl, tt)))))
+      sixteen = Iff·trans (number-at (done _) 16 (λ e. omega arith) cs 3 (refl, (refl, (not-of-rules 16 (omega arith), (refl, tt)))))
           (behind (behind (Iff·and (accepted family attribute unreachHead) (too-few _ _))));
       zero = all-hold _ cs ((λ h. omega arith), ((λ h. omega arith), (named family attribute unreachHead, ((λ h. omega arith), tt))));
       only = told-only UnreachNumber cs _ (inl (omega arith))

@@ -1,6 +1,6 @@
 -- Which check of a list refuses, read off what is told: a number that one check alone of the list has is told exactly where that check is the
 -- first that does not hold, and 0 exactly where all hold. Assumes nothing.
-use mathlib.Core.Path.{_≡_, refl, sym}
+use mathlib.Core.Path.{_≡_, refl}
 use mathlib.Core.Bool.{true, false}
 use mathlib.Core.Logic.{_↔_}
 use mathlib.Core.List.{List, [], _∷_}
@@ -12,6 +12,7 @@ use Rattle.octets.specs.Test.{Each}
 use Rattle.octets.proofs.Cases.{by-test, apart}
 use Rattle.rule.specs.declared.Checked.{Checked}
 use Rattle.rule.specs.declared.Checked.the-variants.{Accepted, Refused}
+use Rattle.flowspec.specs.Told.{Told, done}
 use Rattle.flowspec.specs.Checks.{Check, oneToSeven, AllHold, told}
 
 -- so many checks of a list hold, and then a claim
@@ -38,15 +39,15 @@ OnlyValue v n [] i = ⊥
 OnlyValue v n (c ∷ cs) zero = (c ≡ oneToSeven v) × Without n cs
 OnlyValue v n (c ∷ cs) (suc i) = (eqb (c .number) n ≡ false) × OnlyValue v n cs i
 
-module _ (values : List ℕ) (n : ℕ) (given : n ≡ 0 → ⊥) where
-  -- a number that no check has is not told
-  not-told : (cs : List Check) → Without n cs → told cs values .number ≡ n → ⊥
-  not-told [] w e = given (sym e)
+module _ (grant : Told) (n : ℕ) (other : grant .number ≡ n → ⊥) where
+  -- a number that no check has, and that is not granted, is not told
+  not-told : (cs : List Check) → Without n cs → told cs grant .number ≡ n → ⊥
+  not-told [] w e = other e
   not-told (c ∷ cs) w e =
       by-test (c .holds) (λ h. not-told cs (w .1) (rw h at e)) (λ h. eqb-false (c .number) n (w .0) (rw h at e))
 
   -- **a number is told exactly where its check refuses**
-  pub number-at : (cs : List Check) (i : ℕ) → Only n cs i → (told cs values .number ≡ n) ↔ RefusedAt cs i
+  pub number-at : (cs : List Check) (i : ℕ) → Only n cs i → (told cs grant .number ≡ n) ↔ RefusedAt cs i
   number-at [] i a = absurd a
   number-at (c ∷ cs) zero a =
       by-test (c .holds)
@@ -59,11 +60,11 @@ module _ (values : List ℕ) (n : ℕ) (given : n ≡ 0 → ⊥) where
 
   -- **a refusal of a value is told, with its place, exactly where the value's check refuses so**
   pub value-at : (v : Checked) (place : ℕ) (cs : List Check) (i : ℕ) → OnlyValue v n cs i
-      → ((told cs values .number ≡ n) × (told cs values .place ≡ place)) ↔ Until cs i (λ c. v ≡ Refused n place)
+      → ((told cs grant .number ≡ n) × (told cs grant .place ≡ place)) ↔ Until cs i (λ c. v ≡ Refused n place)
   value-at v place [] i a = absurd a
   value-at v place (c ∷ cs) zero a = rw (a .0) (go v)
     where
-      go : (w : Checked) → ((told (oneToSeven w ∷ cs) values .number ≡ n) × (told (oneToSeven w ∷ cs) values .place ≡ place)) ↔ (w ≡ Refused n place)
+      go : (w : Checked) → ((told (oneToSeven w ∷ cs) grant .number ≡ n) × (told (oneToSeven w ∷ cs) grant .place ≡ place)) ↔ (w ≡ Refused n place)
       go Accepted = ((λ e. absurd (not-told cs (a .1) (e .0))), (λ b. apart (cc)))
       go (Refused m p) = ((λ e. rw (e .0, e .1)), (λ b. (cc, cc)))
   value-at v place (c ∷ cs) (suc i) a =
@@ -72,7 +73,7 @@ module _ (values : List ℕ) (n : ℕ) (given : n ≡ 0 → ⊥) where
       (λ h. rw h ((λ e. absurd (eqb-false (c .number) n (a .0) (e .0))), (λ b. let z : false ≡ true = b .0 in apart (cc))))
 
 -- **0 is told exactly where all checks hold**
-pub all-hold : (values : List ℕ) (cs : List Check) → Each (λ c. c .holds ≡ false → 1 ≤ c .number) cs → (told cs values .number ≡ 0) ↔ AllHold cs
+pub all-hold : (values : List ℕ) (cs : List Check) → Each (λ c. c .holds ≡ false → 1 ≤ c .number) cs → (told cs (done values) .number ≡ 0) ↔ AllHold cs
 all-hold values [] a = ((λ e. tt), (λ b. refl))
 all-hold values (c ∷ cs) a =
     by-test (c .holds)

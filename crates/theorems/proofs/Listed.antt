@@ -23,8 +23,6 @@ use Rattle.table.specs.Change.{holds, hasRoom, changed}
 use Rattle.table.proofs.CaseLaws.{changed-room, changed-no-room, changed-infeasible, changed-held, changed-not-held}
 use Rattle.request.specs.Input.{Policy, policyOf}
 use Rattle.request.specs.Judging.{isFeasible}
-use Rattle.flowspec.specs.Announce.{changeOf}
-use Rattle.flowspec.specs.Told.{changeTold}
 use Rattle.flowspec.specs.Checks.{Check, AllHold, actionsRead}
 use Rattle.attribute.specs.Head.{reachHead, unreachHead}
 use Rattle.attribute.specs.Rules.{rulesFrom}
@@ -41,17 +39,17 @@ use Rattle.update.proofs.SinglesLaws.{each-listed, reachTask, announces-are, wi
 use Rattle.update.proofs.ApplyLaws.{was-granted, were-read}
 
 announced-number : (family : Family) (routes : List ℕ) (head : Head) (settings : Settings) (rule t : List ℕ)
-    → AnnouncedNumber (changeTold (ruleCall family routes (Announce head settings) rule t .answer) .number)
-unfolding ruleAsks changeOf
+    → AnnouncedNumber (ruleCall family routes (Announce head settings) rule t .answer)
+unfolding ruleAsks
 announced-number family routes head settings rule t =
     go (entryFor head (plain family (valueIn rule))) (isFeasible family (policyOf routes settings) (valueIn rule) (head .origin))
   where
-    go : (e : Entry) (feasible : Bool) → AnnouncedNumber (changeTold (changeOf (changed family t (announce e feasible) .number)) .number)
+    go : (e : Entry) (feasible : Bool) → AnnouncedNumber (changed family t (announce e feasible) .number)
     go e true = by-test (hasRoom family t e) (λ h. rw (changed-room family t e h) (inl refl)) (λ h. rw (changed-no-room family t e h) (inr (inr refl)))
     go e false = rw (changed-infeasible family t e) (inr (inl refl))
 
-withdrawn-number : (family : Family) (routes rule t : List ℕ) → WithdrawnNumber (changeTold (ruleCall family routes Withdraw rule t .answer) .number)
-unfolding ruleAsks changeOf
+withdrawn-number : (family : Family) (routes rule t : List ℕ) → WithdrawnNumber (ruleCall family routes Withdraw rule t .answer)
+unfolding ruleAsks
 withdrawn-number family routes rule t =
     let k = keysOf family (plain family (valueIn rule)) in
     by-test (holds family t k) (λ h. rw (changed-held family t k h) (inl refl)) (λ h. rw (changed-not-held family t k h) (inr refl))

@@ -40,13 +40,15 @@ use Rattle.table.proofs.CaseLaws.{removed, changed-room, changed-no-room, chang
 use Rattle.table.proofs.ChangeLaws.{removed-none, value-octets}
 use Rattle.request.specs.declared.Request.{Request}
 use Rattle.request.specs.declared.Request.the-variants.{Announce, Refused as NoRequest}
-use Rattle.flowspec.specs.declared.Change.{Change}
-use Rattle.flowspec.specs.declared.Change.the-variants.{Done, Refused}
+use Rattle.flowspec.specs.declared.Announced.{Announced}
+use Rattle.flowspec.specs.declared.Announced.the-variants.{Held, Refused as NotAnnounced}
+use Rattle.flowspec.specs.declared.Withdrawn.{Withdrawn}
+use Rattle.flowspec.specs.declared.Withdrawn.the-variants.{Done, Refused as NotWithdrawn}
 use Rattle.request.specs.Input.{Announcement, Policy}
 use Rattle.request.specs.Judging.{readWithRoutes, isFeasible}
 use Rattle.request.specs.Request.{announcedEntry, requestFor, requestOf}
-use Rattle.flowspec.specs.Announce.{Outcome, changeOf, outcome, announcedBy, announcing, withdrawnBy, withdrawing}
-use Rattle.flowspec.specs.Told.{Told, done, refused, changeTold}
+use Rattle.flowspec.specs.Announce.{Outcome, outcome, announcedOf, announcedBy, announcing, withdrawnOf, withdrawnBy, withdrawing}
+use Rattle.flowspec.specs.Told.{Told, done, refused, announcedTold}
 use Rattle.flowspec.specs.Checks.{endsThere, isSound}
 use Rattle.theorems.specs.Numbers.{Yes, No, Accepts, SoundBoth, OneRule}
 use Rattle.flowspec.specs.Promise.{Announces, Withdraws}
@@ -54,28 +56,28 @@ use Rattle.flowspec.proofs.ToldLaws.{read-first}
 use Rattle.theorems.proofs.Numbers.{announce-numbers}
 use Rattle.request.proofs.RequestLaws.{octets-value}
 
--- an outcome leaves the table as it was where it is refused; where it is refused with another number than 8
-abbrev Keeps : List ℕ → Outcome → Type 0
-Keeps t o = (number place : ℕ) → o .answer ≡ Refused number place → o .table ≡ t
+-- a withdrawal's outcome leaves the table as it was where it is refused; an announcement's where it is refused with another number than 8
+abbrev Keeps : List ℕ → Outcome Withdrawn → Type 0
+Keeps t o = (number place : ℕ) → o .answer ≡ NotWithdrawn number place → o .table ≡ t
 
-abbrev KeepsButAt8 : List ℕ → Outcome → Type 0
-KeepsButAt8 t o = (number place : ℕ) → o .answer ≡ Refused number place → (number ≡ 8 → ⊥) → o .table ≡ t
+abbrev KeepsButAt8 : List ℕ → Outcome Announced → Type 0
+KeepsButAt8 t o = (number place : ℕ) → o .answer ≡ NotAnnounced number place → (number ≡ 8 → ⊥) → o .table ≡ t
 
 module _ (family : Family) (t : List ℕ) (sound : soundTable family t ≡ true) where
-  announced : (e : Entry) (feasible : Bool) → KeepsButAt8 t (outcome (changed family t (announce e feasible)))
-  unfolding changeOf
+  announced : (e : Entry) (feasible : Bool) → KeepsButAt8 t (outcome announcedOf (changed family t (announce e feasible)))
+  unfolding announcedOf
   announced e true number place h n =
-      by-test (hasRoom family t e) (λ r. let z : Done ≡ Refused number place = rw (changed-room family t e r) at h in apart (cc))
+      by-test (hasRoom family t e) (λ r. let z : Held ≡ NotAnnounced number place = rw (changed-room family t e r) at h in apart (cc))
       (λ r. rw (changed-no-room family t e r) (sym (sound-encodes family t sound .is)))
   announced e false number place h n =
-      let z : Refused 8 0 ≡ Refused number place = rw (changed-infeasible family t e) at h in
+      let z : NotAnnounced 8 0 ≡ NotAnnounced number place = rw (changed-infeasible family t e) at h in
       let eight : number ≡ 8 = cc in
       absurd (n eight)
 
-  withdrew : (k : RuleKey) → Keeps t (outcome (changed family t (withdraw k)))
-  unfolding changeOf
+  withdrew : (k : RuleKey) → Keeps t (outcome withdrawnOf (changed family t (withdraw k)))
+  unfolding withdrawnOf
   withdrew k number place h =
-      by-test (holds family t k) (λ r. let z : Done ≡ Refused number place = rw (changed-held family t k r) at h in apart (cc))
+      by-test (holds family t k) (λ r. let z : Done ≡ NotWithdrawn number place = rw (changed-held family t k r) at h in apart (cc))
       (λ r. rw (changed-not-held family t k r) (sym (sound-encodes family t sound .is)))
 
 announce-keeps : (family : Family) (policy : Policy) (a : Announcement) (t : List ℕ) → KeepsButAt8 t (announcing family policy a t)
@@ -96,13 +98,13 @@ withdraw-keeps family rule t = by-test (soundTable family t) (λ s. rw s (go s (
     go s (NotRead number place) = λ m p h. refl
 
 -- **No refusal but 8 changes an octet**, of the calls by their promises.
-pub refused-announcement : (family : Family) (policy : Policy) (a : Announcement) (t : List ℕ) (answer : Change) (exit : List ℕ) (kept : List (List ℕ))
-    → Announces family policy a t answer exit kept → (number place : ℕ) → answer ≡ Refused number place → (number ≡ 8 → ⊥) → exit ≡ t
+pub refused-announcement : (family : Family) (policy : Policy) (a : Announcement) (t : List ℕ) (answer : Announced) (exit : List ℕ) (kept : List (List ℕ))
+    → Announces family policy a t answer exit kept → (number place : ℕ) → answer ≡ NotAnnounced number place → (number ≡ 8 → ⊥) → exit ≡ t
 refused-announcement family policy a t answer exit kept p number place e n =
     p .leaves ∙ announce-keeps family policy a t number place (sym (p .is) ∙ e) n
 
-pub refused-withdrawal : (family : Family) (rule t : List ℕ) (answer : Change) (exit : List ℕ) (kept : List (List ℕ)) → Withdraws family rule t answer exit kept
-    → (number place : ℕ) → answer ≡ Refused number place → exit ≡ t
+pub refused-withdrawal : (family : Family) (rule t : List ℕ) (answer : Withdrawn) (exit : List ℕ) (kept : List (List ℕ)) → Withdraws family rule t answer exit kept
+    → (number place : ℕ) → answer ≡ NotWithdrawn number place → exit ≡ t
 refused-withdrawal family rule t answer exit kept p number place e = p .leaves ∙ withdraw-keeps family rule t number place (sym (p .is) ∙ e)
 
 -- ---- 8 ----
@@ -166,7 +168,7 @@ one-rule-is family rule accepts ends = go (oneRule family rule) refl
     go : (r : Reading) → oneRule family rule ≡ r → oneRule family rule ≡ Rule (fieldSize rule) (fieldLength rule)
     go (Rule start size) e = let r = one-read family rule start size e in e ∙ rw (r .field, r .tells)
     go (NotRead number place) e =
-        let first = rw e at (read-first family rule [] []) in
+        let first = rw e at (read-first family rule [] (done [])) in
         let told : done [] ≡ refused number place 0 = rw (accepts, ends) at first in
         let z : 0 ≡ number = ap (λ (x : Told). x .number) told in
         let listed = one-refused family rule number place e in
@@ -187,8 +189,8 @@ module _ (family : Family) (policy : Policy) (a : Announcement) (t : List ℕ) w
 
   -- **8 changes nothing else.** 01: "Refusals change nothing, except that 8 removes a held equal rule": a rule that is not held leaves the table as
   -- it was, and a held one leaves it exactly without that record.
-  pub eight-removes : Fits family → Octets t → Octets (a .rule) → (answer : Change) (exit : List ℕ) (kept : List (List ℕ)) → Announces family policy a t answer exit kept
-      → changeTold answer .number ≡ 8
+  pub eight-removes : Fits family → Octets t → Octets (a .rule) → (answer : Announced) (exit : List ℕ) (kept : List (List ℕ)) → Announces family policy a t answer exit kept
+      → announcedTold answer .number ≡ 8
       → (NotHeld t (plain family (valueIn (a .rule))) × (exit ≡ t)) ⊎ Without t (plain family (valueIn (a .rule))) exit
   eight-removes fits octets o answer exit kept p e =
       let passed = announce-numbers p .eight .0 e in

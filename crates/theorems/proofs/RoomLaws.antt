@@ -24,23 +24,23 @@ use Rattle.table.specs.Change.{holds}
 use Rattle.table.proofs.CaseLaws.{changed-infeasible}
 use Rattle.table.proofs.ChangeLaws.{held-is-done}
 use Rattle.table.proofs.CallLaws.{plain-held}
-use Rattle.flowspec.specs.declared.Change.{Change}
-use Rattle.flowspec.specs.declared.Change.the-variants.{Refused}
+use Rattle.flowspec.specs.declared.Announced.{Announced}
+use Rattle.flowspec.specs.declared.Announced.the-variants.{Refused}
 use Rattle.request.specs.Input.{Announcement, Policy}
 use Rattle.request.specs.Request.{announcedEntry, requestFor, requestOf}
-use Rattle.flowspec.specs.Announce.{changeOf, announcedBy, announcing}
+use Rattle.flowspec.specs.Announce.{announcedOf, announcedBy, announcing}
 use Rattle.request.specs.Judging.{readWithRoutes, isFeasible}
 use Rattle.flowspec.specs.Promise.{Announces}
 use Rattle.request.proofs.RequestLaws.{octets-value}
 
 -- an answer is not 11
-abbrev Not11 : Change → Type 0
+abbrev Not11 : Announced → Type 0
 Not11 answer = (place : ℕ) → answer ≡ Refused 11 place → ⊥
 
 module _ (family : Family) (fits : Fits family) (policy : Policy) (a : Announcement) (t : List ℕ) (o : Octets t) (octets : Octets (a .rule))
     (start size : ℕ) (read : oneRule family (a .rule) ≡ Rule start size) (held : holds family t (keysOf family (plain family (valueOf (a .rule) start size))) ≡ true) where
   pub held-not-11 : Not11 (announcing family policy a t .answer)
-  unfolding announcing requestOf readWithRoutes changeOf
+  unfolding announcing requestOf readWithRoutes announcedOf
   held-not-11 =
       by-test (soundTable family t)
       (λ sound. rw sound (by-test (soundRoutes family (policy .routes)) (λ r. rw (readWithRoutes, r, read) (go sound (actionsOf (a .communities)))) (λ r. rw (readWithRoutes, r) (λ place e. apart (cc)))))
@@ -57,6 +57,6 @@ module _ (family : Family) (fits : Fits family) (policy : Policy) (a : Announcem
           (λ f. rw (f, changed-infeasible family t (announcedEntry family a start size actions)) (λ place e. apart (cc)))
 
   -- the same of the call, by its promise
-  pub held-announcement : (answer : Change) (exit : List ℕ) (kept : List (List ℕ)) → Announces family policy a t answer exit kept
+  pub held-announcement : (answer : Announced) (exit : List ℕ) (kept : List (List ℕ)) → Announces family policy a t answer exit kept
       → Not11 answer
   held-announcement answer exit kept promise place e = held-not-11 place (sym (promise .is) ∙ e)

@@ -9,7 +9,8 @@ use Rattle.action.specs.declared.Reading.{Reading as ActionsReading}
 use Rattle.order.specs.declared.Comparison.{Comparison}
 use Rattle.route.specs.declared.Origin.{Origin}
 use Rattle.flowspec.specs.declared.Feasibility.{Feasibility}
-use Rattle.flowspec.specs.declared.Change.{Change}
+use Rattle.flowspec.specs.declared.Announced.{Announced}
+use Rattle.flowspec.specs.declared.Withdrawn.{Withdrawn}
 use Rattle.flowspec.specs.declared.Looked.{Looked}
 use Rattle.flowspec.specs.declared.MatchPlace.{MatchPlace}
 use Rattle.request.specs.Input.{Announcement, Policy}
@@ -34,13 +35,13 @@ module _ (family : Family) (k l : List (List ℕ)) where
       → JudgesOne family policy rule origin b l → (a ≡ b) × (k ≡ l)
   one-judgement policy rule origin a b p q = (p .is ∙ sym (q .is), p .keeps ∙ sym (q .keeps))
 
-  pub one-announcement : (policy : Policy) (announcement : Announcement) (table : List ℕ) (a b : Change) (x y : List ℕ)
+  pub one-announcement : (policy : Policy) (announcement : Announcement) (table : List ℕ) (a b : Announced) (x y : List ℕ)
       → Announces family policy announcement table a x k → Announces family policy announcement table b y l
       → (a ≡ b) × ((x ≡ y) × (k ≡ l))
   one-announcement policy announcement table a b x y p q =
       (p .is ∙ sym (q .is), (p .leaves ∙ sym (q .leaves), p .keeps ∙ sym (q .keeps)))
 
-  pub one-withdrawal : (rule table : List ℕ) (a b : Change) (x y : List ℕ) → Withdraws family rule table a x k → Withdraws family rule table b y l
+  pub one-withdrawal : (rule table : List ℕ) (a b : Withdrawn) (x y : List ℕ) → Withdraws family rule table a x k → Withdraws family rule table b y l
       → (a ≡ b) × ((x ≡ y) × (k ≡ l))
   one-withdrawal rule table a b x y p q = (p .is ∙ sym (q .is), (p .leaves ∙ sym (q .leaves), p .keeps ∙ sym (q .keeps)))
 

@@ -1,9 +1,9 @@
--- **The two calls do something**, by computation, with the attributes of specs/WorkedAttributes.antt. The reach with five rules is done, and lists 0, 8, 0,
--- 11 and 0 before the words that it keeps: the table holds web and echo, so that neither the 8 nor the 11 undid a rule before it or stopped one
--- behind it. The unreach with echo twice is done, lists 0 and 14, and leaves web alone; one with no rule is done, changes nothing and asks for
--- no word. A reserved octet that is not 0 is no matter. A next hop, another AFI, another SAFI and a reach with no rule are 19; the five rules
--- less their last octet are 1, and not one of the four before the cut is announced; four words for five rules are 16; and an unsound rate is
--- 13 even there. Assumes nothing.
+-- **The two calls do something**, by computation, with the attributes of specs/WorkedAttributes.antt. The reach with five rules is done, and
+-- lists 0, 8, 0, 11 and 0 before the words that it keeps: the table holds web and echo, so that neither the 8 nor the 11 undid a rule before
+-- it or stopped one behind it. The unreach with echo twice is done, lists 0 and 14, and leaves web alone; one with no rule is done, changes
+-- nothing and asks for no word. A reserved octet that is not 0 is no matter. A next hop, another AFI, another SAFI and a reach with no rule
+-- are 19; the five rules less their last octet are 1, and not one of the four before the cut is announced; four words for five rules are 16;
+-- and an unsound rate is 13 even there. Assumes nothing.
 use mathlib.Core.Path.{_≡_, refl}
 use mathlib.Core.List.{[], _∷_}
 use Prim.Native.Nat.{ℕ}
@@ -33,7 +33,7 @@ use Rattle.table.specs.Change.{changed}
 use Rattle.table.specs.Sound.{recordsOf, tableOf, soundTable}
 use Rattle.table.specs.Walk.{recordAt, recordsFrom, records, entries}
 use Rattle.request.specs.Request.{requestOf}
-use Rattle.flowspec.specs.Announce.{changeOf, announcing, withdrawing}
+use Rattle.flowspec.specs.Announce.{announcedOf, announcing, withdrawnOf, withdrawing}
 use Rattle.request.specs.Judging.{readWithRoutes, isFeasible}
 use Rattle.attribute.specs.Head.{afiOf, isOfFamily, isReach, isUnreach}
 use Rattle.attribute.specs.Rules.{ruleAt, rulesFrom}
@@ -74,7 +74,7 @@ unfolding
     feasible numberInWords routeAt routesFrom routesOf plainPrefix rises rising soundRoutes ofType smallest first ruleActions
     communitiesAt actionsOf flagsOf firstOf smallerOf allowed couldBe plainValue possible writtenFields readFields headNumbers recordOf
     actionsIn entryOf goodRecord changed recordsOf tableOf soundTable recordAt recordsFrom records
-    entries changeOf requestOf announcing withdrawing readWithRoutes isFeasible shapeOf scaled numberFor numberOfParts rateOfParts
+    entries announcedOf withdrawnOf requestOf announcing withdrawing readWithRoutes isFeasible shapeOf scaled numberFor numberOfParts rateOfParts
     rateOf fitsSignificand rateGiven afiOf isOfFamily isReach isUnreach ruleAt rulesFrom reaching unreaching
 computed =
     record {

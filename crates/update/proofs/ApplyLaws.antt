@@ -24,8 +24,7 @@ use Rattle.table.specs.declared.Soundness.the-variants.{Sound, Unsound}
 use Rattle.table.specs.Sound.{soundness}
 use Rattle.table.proofs.LeaveLaws.{was-sound, was-ready, was-unsound}
 use Rattle.request.specs.Input.{Policy}
-use Rattle.flowspec.specs.Announce.{announcing, withdrawing}
-use Rattle.flowspec.specs.Told.{done, refused}
+use Rattle.flowspec.specs.Told.{Told, done, refused}
 use Rattle.flowspec.specs.Checks.{Check, oneToSeven, AllHold, told, isSound, actionsRead}
 use Rattle.attribute.specs.declared.Counted.{Counted}
 use Rattle.attribute.specs.declared.Counted.the-variants.{Rules as CountedRules, Refused as NotCounted}
@@ -36,7 +35,7 @@ use Rattle.update.specs.declared.Applied.the-variants.{Done, Refused}
 use Rattle.update.specs.declared.Reached.{Reached}
 use Rattle.update.specs.declared.Reached.the-variants.{Rules as ReachedRules, Refused as NotReached}
 use Rattle.update.specs.declared.Task.the-variants.{Withdraw}
-use Rattle.update.specs.Singles.{Reach, Singles, announcementIn, announcingEach, withdrawingEach}
+use Rattle.update.specs.Singles.{Reach, Singles, announcingOne, announcingEach, withdrawingOne, withdrawingEach}
 use Rattle.update.specs.Checks.{reachCount, unreachCount, reachInput, unreachInput, reachChecks, unreachChecks}
 use Rattle.update.specs.Apply.{decided, Left, appliedAll, refusedWhole, reaching, unreaching, appliedTold}
 use Rattle.update.specs.Promise.{Reaches, Unreaches}
@@ -57,9 +56,9 @@ found-of : {A B : Type 0} (of : A → B) (cs : List Check) (granted : A) (refuse
 found-of of cs granted refuse answer found is e = sym (decided-of of cs granted refuse) ∙ ap of (sym is ∙ e)
 
 -- what is told of checks comes of them
-pub told-of : (cs : List Check) (values : List ℕ) → decided cs (done values) (λ number place. refused number place (length values)) ≡ told cs values
-told-of [] values = refl
-told-of (c ∷ cs) values = by-test (c .holds) (λ h. rw h (told-of cs values)) (λ h. rw h)
+pub told-of : (cs : List Check) (grant : Told) → decided cs grant (λ number place. refused number place (length (grant .values))) ≡ told cs grant
+told-of [] grant = refl
+told-of (c ∷ cs) grant = by-test (c .holds) (λ h. rw h (told-of cs grant)) (λ h. rw h)
 
 -- what holds of what is granted, where all checks hold, and of each check's own refusal, where it does not, holds of what comes of checks
 pub decided-ind : {A : Type 0} (P : A → Type 0) (cs : List Check) (granted : A) (refuse : ℕ → ℕ → A) → (AllHold cs → P granted)
@@ -86,10 +85,10 @@ was-granted cs granted refuse answer is never =
 
 -- **what an answer says** is what its checks come to
 applied-tells : (cs : List Check) (singles : Singles) (table answers : List ℕ) (count : ℕ) → length (singles .numbers) ≡ count
-    → appliedTold (decided cs (appliedAll singles answers) (refusedWhole table answers) .answer) ≡ told cs (count ∷ [])
+    → appliedTold (decided cs (appliedAll singles answers) (refusedWhole table answers) .answer) ≡ told cs (done (count ∷ []))
 applied-tells cs singles table answers count long =
     decided-of (λ (left : Left). appliedTold (left .answer)) cs (appliedAll singles answers) (refusedWhole table answers)
-    ∙ told-of cs (length (singles .numbers) ∷ []) ∙ ap (λ n. told cs (n ∷ [])) long
+    ∙ told-of cs (done (length (singles .numbers) ∷ [])) ∙ ap (λ n. told cs (done (n ∷ []))) long
 
 -- the check of a value holds where it is accepted
 pub accepted-holds : (c : Checked) → (oneToSeven c .holds ≡ true) ↔ (c ≡ Accepted)
@@ -107,11 +106,11 @@ were-read UnsoundActions h = apart (cc)
 pub reach-count : (family : Family) (policy : Policy) (reach : Reach) (t : List ℕ)
     → length (announcingEach family policy reach t .numbers) ≡ reachCount family (reach .attribute)
 reach-count family policy reach t =
-    each-length (λ rule. announcing family policy (announcementIn reach rule)) (reachRules family (reach .attribute) .items) t
+    each-length (announcingOne family policy reach) (reachRules family (reach .attribute) .items) t
 
 module _ (family : Family) (policy : Policy) (reach : Reach) (t answers : List ℕ) where
   pub reach-tells : appliedTold (reaching family policy reach t answers .answer)
-      ≡ told (reachChecks family policy reach t answers) (reachCount family (reach .attribute) ∷ [])
+      ≡ told (reachChecks family policy reach t answers) (done (reachCount family (reach .attribute) ∷ []))
   unfolding reaching
   reach-tells =
       applied-tells (reachChecks family policy reach t answers) (announcingEach family policy reach t) t answers
@@ -200,11 +199,11 @@ module _ (family chosen : Family) (chose : chosen ≡ family) (policy : Policy) 
 
 -- a number is listed for each rule
 pub unreach-count : (family : Family) (attribute t : List ℕ) → length (withdrawingEach family attribute t .numbers) ≡ unreachCount family attribute
-unreach-count family attribute t = each-length (withdrawing family) (unreachRules family attribute .items) t
+unreach-count family attribute t = each-length (withdrawingOne family) (unreachRules family attribute .items) t
 
 module _ (family : Family) (attribute t answers : List ℕ) where
   pub unreach-tells : appliedTold (unreaching family attribute t answers .answer)
-      ≡ told (unreachChecks family attribute t answers) (unreachCount family attribute ∷ [])
+      ≡ told (unreachChecks family attribute t answers) (done (unreachCount family attribute ∷ []))
   unfolding unreaching
   unreach-tells =
       applied-tells (unreachChecks family attribute t answers) (withdrawingEach family attribute t) t answers

@@ -4,12 +4,10 @@ use mathlib.Core.List.{List, [], _∷_, _++_, append-nil}
 use Prim.Native.Nat.{ℕ, _+_, _<_, _≤_}
 use native.Mathlib.Omega.{arith}
 use native.Mathlib.Numerals.{add-one}
-use lib.Dec.{eqb}
 use lib.ListN.{length, take, drop, set, length-set, take-append-drop}
 use lib.Seq.{length-take-le, append-snoc, take-suc-set, drop-set-lt, drop-drop}
-use borrow.Author.Tests.{eqb-true}
 use Rattle.octets.specs.Walk.{Walk, before}
-use Rattle.octets.proofs.Cases.{by-test, apart}
+use Rattle.octets.proofs.Cases.{apart}
 use Rattle.octets.proofs.Facts.{Octets}
 use Rattle.rule.specs.declared.Family.{Family}
 use Rattle.rule.specs.declared.Checked.{Checked}
@@ -19,8 +17,6 @@ use Rattle.rule.proofs.ComponentsLaws.{octets-between}
 use Rattle.table.specs.declared.Answer.{Answer}
 use Rattle.table.specs.Change.{Changed, Ready, Leaves}
 use Rattle.table.proofs.LeaveLaws.{changed-ready, leaves-ready}
-use Rattle.flowspec.specs.Announce.{changeOf, outcome}
-use Rattle.flowspec.specs.Told.{changeTold}
 use Rattle.attribute.specs.declared.NextRule.{NextRule}
 use Rattle.attribute.specs.declared.NextRule.the-variants.{Nothing, Another, Refused}
 use Rattle.attribute.specs.Rules.{ruleAt, rulesFrom}
@@ -29,11 +25,6 @@ use Rattle.update.specs.declared.Task.{Task}
 use Rattle.update.specs.Singles.{Singles, eachRule}
 use Rattle.update.specs.Steps.{ruleAsks, ruleChange, ruleCall, tasksFrom, Prepared, LeavesAll}
 use Rattle.update.proofs.StepLaws.{task-brings}
-
--- the answer for a change's number tells that number
-pub number-told : (number : ℕ) → changeTold (changeOf number) .number ≡ number
-unfolding changeOf
-number-told number = by-test (eqb number 0) (λ h. rw h (sym (eqb-true number 0 h))) (λ h. rw h)
 
 -- what the code finds at a place, with the family as it is chosen
 module _ (family chosen : Family) (chose : chosen ≡ family) (a : List ℕ) (at : ℕ) (next : NextRule) (is : next ≡ ruleAt chosen a at) where
@@ -57,7 +48,7 @@ module _ (family : Family) (routes : List ℕ) (task : Task) (a : List ℕ) (at 
     onward number u = let rest = tasksFrom family routes task a end u in record { numbers = number ∷ rest .numbers; table = rest .table }
 
     abbrev changing : Changed → Singles
-    changing c = onward (changeTold (outcome c .answer) .number) (c .table)
+    changing c = onward (c .number) (c .table)
 
     pub tasks-next : (answer : Answer) (exit : List ℕ) → Leaves (ruleChange family routes task (between a start end) t) answer exit
         → tasksFrom family routes task a at t ≡ onward (answer .number) exit
@@ -65,7 +56,7 @@ module _ (family : Family) (routes : List ℕ) (task : Task) (a : List ℕ) (at 
         let c = ruleChange family routes task (between a start end) t in
         ap leftBy (rules-next family a at start end another)
         ∙ ap (λ (v : List ℕ). changing (ruleChange family routes task v t)) (rule-there family a at start end another .value)
-        ∙ ap₂ onward (number-told (c .number) ∙ sym (left .number)) (sym (left .table))
+        ∙ ap₂ onward (sym (left .number)) (sym (left .table))
 
 -- a task done for the rules before a place: the table is ready for the next, all that remain are accepted and have an answer word each, and
 -- what they leave completes what all leave; `first` and `buffer` are the table and the answer words as they were lent

@@ -25,39 +25,39 @@ use Rattle.request.specs.Input.{Policy}
 use Rattle.request.specs.Judging.{readWithRoutes}
 use Rattle.request.specs.Request.{requestOf}
 use Rattle.flowspec.specs.Announce.{Outcome, announcing, withdrawing}
-use Rattle.flowspec.specs.Told.{changeTold}
+use Rattle.flowspec.proofs.TableLaws.{announced-told, withdrawn-told}
 use Rattle.request.proofs.RequestLaws.{octets-value}
 use Rattle.attribute.specs.Head.{reachHead, unreachHead}
 use Rattle.attribute.specs.Rules.{rulesFrom}
 use Rattle.attribute.proofs.RulesLaws.{ReadAlone, each-alone, each-octets}
 use Rattle.update.specs.declared.Task.{Task}
 use Rattle.update.specs.declared.Task.the-variants.{Announce, Withdraw}
-use Rattle.update.specs.Singles.{Reach, Singles, eachRule, announcementIn, announcingEach, withdrawingEach}
+use Rattle.update.specs.Singles.{Reach, Singles, eachRule, announcingOne, announcingEach, withdrawingOne, withdrawingEach}
 use Rattle.update.specs.Steps.{ruleAsks, ruleChange, ruleCall, tasksFrom, TaskCouldBe}
 use Rattle.update.proofs.StepLaws.{task-brings}
 
 -- ---- one call for each rule ----
 
 -- a number is listed for each rule
-pub each-length : (call : List ℕ → List ℕ → Outcome) (rules : List (List ℕ)) (t : List ℕ) → length (eachRule call rules t .numbers) ≡ length rules
+pub each-length : (call : List ℕ → List ℕ → Outcome ℕ) (rules : List (List ℕ)) (t : List ℕ) → length (eachRule call rules t .numbers) ≡ length rules
 each-length call [] t = refl
 each-length call (rule ∷ rules) t = ap suc (each-length call rules (call rule t .table))
 
 -- what holds of the number of every call holds of each that is listed
-pub each-listed : (Listed : ℕ → Type 0) (call : List ℕ → List ℕ → Outcome) → ((rule t : List ℕ) → Listed (changeTold (call rule t .answer) .number))
+pub each-listed : (Listed : ℕ → Type 0) (call : List ℕ → List ℕ → Outcome ℕ) → ((rule t : List ℕ) → Listed (call rule t .answer))
     → (rules : List (List ℕ)) (t : List ℕ) → Each Listed (eachRule call rules t .numbers)
 each-listed Listed call one [] t = tt
 each-listed Listed call one (rule ∷ rules) t = (one rule t, each-listed Listed call one rules (call rule t .table))
 
 -- two calls that agree, for such rules, on every such table, where the second leaves such a table again, leave the same
-pub each-agrees : (Given Kept : List ℕ → Type 0) (call other : List ℕ → List ℕ → Outcome)
+pub each-agrees : (Given Kept : List ℕ → Type 0) (call other : List ℕ → List ℕ → Outcome ℕ)
     → ((rule t : List ℕ) → Given rule → Kept t → call rule t ≡ other rule t)
     → ((rule t : List ℕ) → Given rule → Kept t → Kept (other rule t .table))
     → (rules : List (List ℕ)) (t : List ℕ) → Each Given rules → Kept t → eachRule call rules t ≡ eachRule other rules t
 each-agrees Given Kept call other agree keep [] t given kept = refl
 each-agrees Given Kept call other agree keep (rule ∷ rules) t given kept =
     rw (agree rule t (given .0) kept)
-    (ap (λ (rest : Singles). record { numbers = changeTold (other rule t .answer) .number ∷ rest .numbers; table = rest .table })
+    (ap (λ (rest : Singles). record { numbers = other rule t .answer ∷ rest .numbers; table = rest .table })
     (each-agrees Given Kept call other agree keep rules (other rule t .table) (given .1) (keep rule t (given .0) kept)))
 
 -- ---- a task for one rule ----
@@ -80,15 +80,15 @@ reachTask policy reach actions = Announce (record { origin = reach .origin; acti
 -- what is done for a rule that is read alone, on a sound table, is what its announcement does
 one-announced : (family : Family) (policy : Policy) (reach : Reach) (actions : Actions) → soundRoutes family (policy .routes) ≡ true
     → actionsOf (reach .communities) ≡ Read actions → (rule t : List ℕ) → ReadAlone family rule → soundTable family t ≡ true
-    → announcing family policy (announcementIn reach rule) t ≡ ruleCall family (policy .routes) (reachTask policy reach actions) rule t
+    → announcingOne family policy reach rule t ≡ ruleCall family (policy .routes) (reachTask policy reach actions) rule t
 unfolding announcing requestOf readWithRoutes ruleAsks
-one-announced family policy reach actions routes acts rule t alone sound = rw (sound, routes, alone, acts)
+one-announced family policy reach actions routes acts rule t alone sound = rw (sound, routes, alone, acts, announced-told)
 
 -- and what its withdrawal does
 one-withdrawn : (family : Family) (routes rule t : List ℕ) → ReadAlone family rule → soundTable family t ≡ true
-    → withdrawing family rule t ≡ ruleCall family routes Withdraw rule t
+    → withdrawingOne family rule t ≡ ruleCall family routes Withdraw rule t
 unfolding withdrawing ruleAsks
-one-withdrawn family routes rule t alone sound = rw (sound, alone)
+one-withdrawn family routes rule t alone sound = rw (sound, alone, withdrawn-told)
 
 -- ---- the rules of an attribute ----
 
@@ -102,7 +102,7 @@ each-readable family (rule ∷ rules) alone octets = ((alone .0, octets .0), eac
 
 module _ (family : Family) (t : List ℕ) (sound : soundTable family t ≡ true) where
   -- calls that do what a task does, for each rule
-  tasks-are : (call : List ℕ → List ℕ → Outcome) (routes : List ℕ) (task : Task) → TaskCouldBe task
+  tasks-are : (call : List ℕ → List ℕ → Outcome ℕ) (routes : List ℕ) (task : Task) → TaskCouldBe task
       → ((rule u : List ℕ) → ReadAlone family rule → soundTable family u ≡ true → call rule u ≡ ruleCall family routes task rule u)
       → (attribute : List ℕ) (at : ℕ) → Octets attribute
       → eachRule call (rulesFrom family attribute at .items) t ≡ tasksFrom family routes task attribute at t
@@ -122,10 +122,10 @@ module _ (family : Family) (t : List ℕ) (sound : soundTable family t ≡ true)
       → actionsOf (reach .communities) ≡ Read actions → reach .origin .originator < 2 ^ 32 → Octets (reach .attribute)
       → announcingEach family policy reach t ≡ tasksFrom family (policy .routes) (reachTask policy reach actions) (reach .attribute) reachHead t
   announces-are policy reach actions routes acts small o =
-      tasks-are (λ rule. announcing family policy (announcementIn reach rule)) (policy .routes) (reachTask policy reach actions)
+      tasks-are (announcingOne family policy reach) (policy .routes) (reachTask policy reach actions)
       (small, read-possible (reach .communities) actions acts) (one-announced family policy reach actions routes acts) (reach .attribute) reachHead o
 
   -- **the withdrawals of an unreach**
   pub withdraws-are : (routes attribute : List ℕ) → Octets attribute
       → withdrawingEach family attribute t ≡ tasksFrom family routes Withdraw attribute unreachHead t
-  withdraws-are routes attribute o = tasks-are (withdrawing family) routes Withdraw tt (one-withdrawn family routes) attribute unreachHead o
+  withdraws-are routes attribute o = tasks-are (withdrawingOne family) routes Withdraw tt (one-withdrawn family routes) attribute unreachHead o

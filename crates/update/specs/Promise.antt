@@ -7,6 +7,7 @@ use mathlib.Core.Path.{_≡_}
 use mathlib.Core.List.{List, [], _∷_}
 use Rattle.rule.specs.declared.Family.{Family}
 use Rattle.request.specs.Input.{Policy}
+use Rattle.flowspec.specs.Told.{done}
 use Rattle.flowspec.specs.Checks.{told}
 use Rattle.update.specs.declared.Applied.{Applied}
 use Rattle.update.specs.Singles.{Reach}
@@ -17,7 +18,7 @@ use Rattle.update.specs.Apply.{reaching, unreaching, appliedTold}
 pub record Reaches (family : Family) (policy : Policy) (reach : Reach) (table answers : List ℕ)
     (answer : Applied) (exit words : List ℕ) (kept : List (List ℕ)) : Type 0 where
   pub is : answer ≡ reaching family policy reach table answers .answer
-  pub tells : appliedTold answer ≡ told (reachChecks family policy reach table answers) (reachCount family (reach .attribute) ∷ [])
+  pub tells : appliedTold answer ≡ told (reachChecks family policy reach table answers) (done (reachCount family (reach .attribute) ∷ []))
   pub leaves : exit ≡ reaching family policy reach table answers .table
   pub lists : words ≡ reaching family policy reach table answers .words
   pub keeps : kept ≡ policy .routes ∷ reach .attribute ∷ reach .communities ∷ []
@@ -26,7 +27,7 @@ pub record Reaches (family : Family) (policy : Policy) (reach : Reach) (table an
 pub record Unreaches (family : Family) (attribute table answers : List ℕ)
     (answer : Applied) (exit words : List ℕ) (kept : List (List ℕ)) : Type 0 where
   pub is : answer ≡ unreaching family attribute table answers .answer
-  pub tells : appliedTold answer ≡ told (unreachChecks family attribute table answers) (unreachCount family attribute ∷ [])
+  pub tells : appliedTold answer ≡ told (unreachChecks family attribute table answers) (done (unreachCount family attribute ∷ []))
   pub leaves : exit ≡ unreaching family attribute table answers .table
   pub lists : words ≡ unreaching family attribute table answers .words
   pub keeps : kept ≡ attribute ∷ []

@@ -35,8 +35,8 @@ abbrev pub ruleChange : Family → List ℕ → Task → List ℕ → List ℕ �
 ruleChange family routes task value t = changed family t (ruleAsks family routes task value)
 
 -- The same for a rule by its octets, as a call on the table.
-abbrev pub ruleCall : Family → List ℕ → Task → List ℕ → List ℕ → Outcome
-ruleCall family routes task rule t = outcome (ruleChange family routes task (valueIn rule) t)
+abbrev pub ruleCall : Family → List ℕ → Task → List ℕ → List ℕ → Outcome ℕ
+ruleCall family routes task rule t = outcome (λ number. number) (ruleChange family routes task (valueIn rule) t)
 
 -- What is left where that is done for the rules of an attribute from a place on.
 abbrev pub tasksFrom : Family → List ℕ → Task → List ℕ → ℕ → List ℕ → Singles

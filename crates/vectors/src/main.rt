@@ -16,9 +16,10 @@ use fields::print_octets;
 use fields::print_refusal;
 use fields::print_valued;
 use fields::put_octets;
-use flowspec::Change;
+use flowspec::Announced;
 use flowspec::Feasibility;
 use flowspec::Looked;
+use flowspec::Withdrawn;
 use libc::STDIN_FILENO;
 use libc::STDOUT_FILENO;
 use lookup::Verdict;
@@ -204,12 +205,9 @@ fn print_table(table: &[u8]) {
     print_octets(&table[..openingOf]);
 }
 
-// Prints the answer of a change, and the table at exit.
-fn print_change(change: Change, table: &[u8]) {
-    match change {
-        Change::Done => print_refusal(0, 0),
-        Change::Refused { number, place } => print_refusal(number, place),
-    }
+// Prints the number and the place of a change's answer, and the table at exit.
+fn print_change(number: u8, place: usize, table: &[u8]) {
+    print_refusal(number, place);
     print_table(table);
     print_end();
 }
@@ -249,7 +247,7 @@ fn announce(
 {
     let settings = settings_in(line);
     let origin = origin_in(line);
-    let change = flowspec::announce(
+    match flowspec::announce(
         family,
         table,
         settings,
@@ -257,15 +255,19 @@ fn announce(
         &octets[0..middle],
         origin,
         &octets[middle..end],
-    );
-    print_change(change, table);
+    ) {
+        Announced::Held => print_change(0, 0, table),
+        Announced::Refused { number, place } => print_change(number, place, table),
+    }
 }
 
 // withdraw RULE.
 fn answer_withdraw(family: AddressFamily, line: &[u8], octets: &mut [u8], table: &mut [u8]) {
     let end = put_octets(line, 1, octets);
-    let change = flowspec::withdraw(family, table, &octets[..end]);
-    print_change(change, table);
+    match flowspec::withdraw(family, table, &octets[..end]) {
+        Withdrawn::Done => print_change(0, 0, table),
+        Withdrawn::Refused { number, place } => print_change(number, place, table),
+    }
 }
 
 // ---- Looking up ----

@@ -15,7 +15,7 @@ word-of-requires : tie.Need-word-of-requires
 word-of-requires c κs = refusal c .near
 
 returns : tie.Need-returns
-returns c = with-out (compares _ _) (answered comparisonTold _ _ (c .before .before .before .before .compare-rules .ensures .is) _ (c .before .before .number .given .1) _ _ _ (refused _ _ _ _ (refusal (c .before)) _ (c .word-of .ensures)))
+returns c = with-out (compares _ _) (answered comparisonTold _ _ (c .before .before .before .before .compare-rules .ensures .is) _ (c .before .before .number .given .1) _ _ _ (refused _ _ _ _ _ (c .word-of .ensures)))
 
 returns-2 : tie.Need-returns-2
 returns-2 c = with-out (compares _ _) (answered comparisonTold _ _ (c .before .before .before .compare-rules .ensures .is) _ (c .before .enum-told .given .1) _ _ _ (done _ _))

@@ -16,12 +16,12 @@ word-of-requires c κs = refusal c .near
 
 returns : tie.Need-returns
 returns c =
-    let kept = rw (c .before .before .before .before .before .is-on .ensures) at (c .before .before .before .before .judge-rule .ensures) in
+    let kept = rw (c .before .before .before .before .before .settings-in .ensures) at (c .before .before .before .before .judge-rule .ensures) in
     record { is = word-is feasibilityTold _ _ (kept .is) _ (c .before .before .number .given .1) _ (c .word-of .ensures); leaves = refl }
 
 returns-2 : tie.Need-returns-2
 returns-2 c =
-    let kept = rw (c .before .before .before .is-on .ensures) at (c .before .before .judge-rule .ensures) in
+    let kept = rw (c .before .before .before .settings-in .ensures) at (c .before .before .judge-rule .ensures) in
     record { is = word-is feasibilityTold _ _ (kept .is) _ (c .enum-told .given .1) _ refl; leaves = refl }
 
 pub feasible-spec : {M : Type 1} → statement M

@@ -15,7 +15,7 @@ word-of-requires : tie.Need-word-of-requires
 word-of-requires c κs = refusal c .near
 
 returns : tie.Need-returns
-returns c = with-out (looks _ _) (answered lookupTold _ _ (c .before .before .before .before .lookup .ensures .is) _ (c .before .before .number .given .1) _ _ _ (refused _ _ _ _ (refusal (c .before)) _ (c .word-of .ensures)))
+returns c = with-out (looks _ _) (answered lookupTold _ _ (c .before .before .before .before .lookup .ensures .is) _ (c .before .before .number .given .1) _ _ _ (refused _ _ _ _ _ (c .word-of .ensures)))
 
 returns-2 : tie.Need-returns-2
 returns-2 c = with-out (looks _ _) (answered lookupTold _ _ (c .before .before .before .before .lookup .ensures .is) _ (c .before .before .verdict .given .1) _ _ _ (lookup-done (c .before .before .verdict .given .0 .0) _ _ (c .words-of .ensures)))

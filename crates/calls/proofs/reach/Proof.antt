@@ -16,12 +16,12 @@ word-of-requires c κs = refusal c .near
 
 returns : tie.Need-returns
 returns c =
-    let kept = rw (c .before .before .before .before .before .before .before .before .before .before .before .is-on .ensures) at (c .before .before .before .before .before .before .before .before .reach .ensures) in
-    rw (kept .leaves, kept .lists) (with-out (reaches _ _ _ _ _) (answered appliedTold _ _ (kept .is) _ (c .before .before .number .given .1) _ _ _ (refused _ _ _ _ (refusal (c .before)) _ (c .word-of .ensures))))
+    let kept = rw (c .before .before .before .before .before .before .before .before .before .before .before .settings-in .ensures) at (c .before .before .before .before .before .before .before .before .reach .ensures) in
+    rw (kept .leaves, kept .lists) (with-out (reaches _ _ _ _ _) (answered appliedTold _ _ (kept .is) _ (c .before .before .number .given .1) _ _ _ (refused _ _ _ _ _ (c .word-of .ensures))))
 
 returns-2 : tie.Need-returns-2
 returns-2 c =
-    let kept = rw (c .before .before .before .before .before .before .before .before .before .before .before .is-on .ensures) at (c .before .before .before .before .before .before .before .before .reach .ensures) in
+    let kept = rw (c .before .before .before .before .before .before .before .before .before .before .before .settings-in .ensures) at (c .before .before .before .before .before .before .before .before .reach .ensures) in
     rw (kept .leaves, kept .lists) (with-out (reaches _ _ _ _ _) (answered appliedTold _ _ (kept .is) _ (c .before .before .count .given .1) _ _ _ (done _ _)))
 
 pub reach-spec : {M : Type 1} → statement M

@@ -17,7 +17,7 @@ word-of-requires c κs = refusal c .near
 returns : tie.Need-returns
 returns c =
     let kept = c .before .before .before .before .before .before .before .before .unreach .ensures in
-    rw (kept .leaves, kept .lists) (with-out (unreaches _ _ _) (answered appliedTold _ _ (kept .is) _ (c .before .before .number .given .1) _ _ _ (refused _ _ _ _ (refusal (c .before)) _ (c .word-of .ensures))))
+    rw (kept .leaves, kept .lists) (with-out (unreaches _ _ _) (answered appliedTold _ _ (kept .is) _ (c .before .before .number .given .1) _ _ _ (refused _ _ _ _ _ (c .word-of .ensures))))
 
 returns-2 : tie.Need-returns-2
 returns-2 c =

@@ -15,7 +15,7 @@ word-of-requires : tie.Need-word-of-requires
 word-of-requires c κs = refusal c .near
 
 returns : tie.Need-returns
-returns c = rw (c .before .before .before .before .before .before .write-rule .ensures .leaves) (with-out (writes _ _) (answered writingTold _ _ (c .before .before .before .before .before .before .write-rule .ensures .is) _ (c .before .before .number .given .1) _ _ _ (refused _ _ _ _ (refusal (c .before)) _ (c .word-of .ensures))))
+returns c = rw (c .before .before .before .before .before .before .write-rule .ensures .leaves) (with-out (writes _ _) (answered writingTold _ _ (c .before .before .before .before .before .before .write-rule .ensures .is) _ (c .before .before .number .given .1) _ _ _ (refused _ _ _ _ _ (c .word-of .ensures))))
 
 returns-2 : tie.Need-returns-2
 returns-2 c = rw (c .before .before .before .before .before .before .write-rule .ensures .leaves) (with-out (writes _ _) (answered writingTold _ _ (c .before .before .before .before .before .before .write-rule .ensures .is) _ (c .before .before .octets .given .1) _ _ _ (done _ _)))

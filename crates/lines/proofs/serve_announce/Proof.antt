@@ -1,5 +1,6 @@
 -- The two rooms are long enough, so that what was read into them are the octets that the two parts spell.
-use Rattle.lines.proofs.ServeLaws.{read-within, read-size, read-is, changes}
+use Rattle.flowspec.specs.declared.Announced.the-variants.{Held, Refused}
+use Rattle.lines.proofs.ServeLaws.{read-within, read-size, read-is, announce-printed}
 use native.Mathlib.Omega.{arith}
 use borrow.Author.Needs.{needs}
 use Rattle.lines.proofs.serve_announce.Statement.{statement}
@@ -17,12 +18,23 @@ array-share-prefix-actions c = read-within _ _ _ _ (c .before .before .before .r
 slice-aggregate-announce-2 : tie.Need-slice-aggregate-announce-2
 slice-aggregate-announce-2 c = read-size _ _ _ _ (c .before .before .before .before .read-octets2 .ensures) (omega arith)
 
+-- where the rule was announced: the function's start
+abbrev start : tie.After-announce → tie.Start
+start c = c .before .before .before .before .before .before .before .before .before .before .before .before .before .before .before
+
 returns : tie.Need-returns
 returns c =
-    let octets = read-is _ _ _ _ (c .before .before .before .before .before .before .before .before .before .before .before .before .before .before .read-octets .ensures) (omega arith) in
-    let actions = read-is _ _ _ _ (c .before .before .before .before .before .before .before .before .before .before .before .read-octets2 .ensures) (omega arith) in
-    let done = c .before .before .before .before .before .before .announce .ensures in
-    changes _ _ _ _ _ _ (rw (octets, actions) at (done .is)) (rw (octets, actions) at (done .leaves)) (c .before .before .put-change .ensures)
+    let told = c .before .before .before .before .before .before .before .before in
+    announce-printed Held (read-is _ _ _ _ (told .before .before .before .before .before .before .before .before .read-octets .ensures) (omega (arith, start told .pre)))
+    (read-is _ _ _ _ (told .before .before .before .before .before .read-octets2 .ensures) (omega (arith, start told .pre)))
+    (told .announce .ensures) (c .before .before .before .before .enum-told .given .1) (c .before .before .put-answer .ensures)
+
+returns-2 : tie.Need-returns-2
+returns-2 c =
+    let told = c .before .before .before .before .before .before .before .before .before in
+    announce-printed (Refused _ _) (read-is _ _ _ _ (told .before .before .before .before .before .before .before .before .read-octets .ensures) (omega (arith, start told .pre)))
+    (read-is _ _ _ _ (told .before .before .before .before .before .read-octets2 .ensures) (omega (arith, start told .pre)))
+    (told .announce .ensures) (c .before .before .before .before .before .number .given .1) (c .before .before .put-answer2 .ensures)
 
 pub serve-announce-spec : {M : Type 1} → statement M
 serve-announce-spec =
@@ -37,7 +49,13 @@ serve-announce-spec =
     array-share-prefix-actions
     slice-aggregate-announce-2
     (λ c κs. search needs)
+    (λ c. search needs)
+    (λ c κs. search needs)
+    (λ c. search needs)
     (λ c κs. search needs)
     (λ c. search needs)
     (λ c. search needs)
-    returns)
+    returns
+    (λ c. search needs)
+    (λ c. search needs)
+    returns-2)

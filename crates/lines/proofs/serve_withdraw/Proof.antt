@@ -1,5 +1,6 @@
 -- The room is long enough, so that what was read into it are the octets that the part spells.
-use Rattle.lines.proofs.ServeLaws.{read-within, read-size, read-is, changes}
+use Rattle.flowspec.specs.declared.Withdrawn.the-variants.{Done, Refused}
+use Rattle.lines.proofs.ServeLaws.{read-within, read-size, read-is, withdraw-printed}
 use native.Mathlib.Omega.{arith}
 use borrow.Author.Needs.{needs}
 use Rattle.lines.proofs.serve_withdraw.Statement.{statement}
@@ -13,9 +14,13 @@ slice-aggregate-withdraw c = read-size _ _ _ _ (c .before .before .before .read-
 
 returns : tie.Need-returns
 returns c =
-    let octets = read-is _ _ _ _ (c .before .before .before .before .before .before .before .before .before .before .read-octets .ensures) (omega arith) in
-    let done = c .before .before .before .before .before .before .withdraw .ensures in
-    changes _ _ _ _ _ _ (rw octets at (done .is)) (rw octets at (done .leaves)) (c .before .before .put-change .ensures)
+    let told = c .before .before .before .before .before .before .before .before in
+    withdraw-printed Done (read-is _ _ _ _ (told .before .before .before .before .read-octets .ensures) (omega arith)) (told .withdraw .ensures) (c .before .before .before .before .enum-told .given .1) (c .before .before .put-answer .ensures)
+
+returns-2 : tie.Need-returns-2
+returns-2 c =
+    let told = c .before .before .before .before .before .before .before .before .before in
+    withdraw-printed (Refused _ _) (read-is _ _ _ _ (told .before .before .before .before .read-octets .ensures) (omega arith)) (told .withdraw .ensures) (c .before .before .before .before .before .number .given .1) (c .before .before .put-answer2 .ensures)
 
 pub serve-withdraw-spec : {M : Type 1} → statement M
 serve-withdraw-spec =
@@ -26,7 +31,13 @@ serve-withdraw-spec =
     array-share-prefix-octets
     slice-aggregate-withdraw
     (λ c κs. search needs)
+    (λ c. search needs)
+    (λ c κs. search needs)
+    (λ c. search needs)
     (λ c κs. search needs)
     (λ c. search needs)
     (λ c. search needs)
-    returns)
+    returns
+    (λ c. search needs)
+    (λ c. search needs)
+    returns-2)

@@ -1,0 +1,14 @@
+-- At 0 the rule is held.
+use borrow.Author.Needs.{needs}
+use Rattle.flowspec.proofs.TableLaws.{announced-held, announced-refused}
+use Rattle.flowspec.proofs.announced_of.Statement.{statement}
+use Rattle.flowspec.proofs.announced_of.Tie as tie
+
+returns : tie.Need-returns
+returns c = search (announced-held, needs)
+
+returns-2 : tie.Need-returns-2
+returns-2 c = search (announced-refused, needs)
+
+pub announced-of-spec : {M : Type 1} → statement M
+announced-of-spec = tie.close (tie.spec returns returns-2)
