@@ -99,6 +99,36 @@ fn every_file_named_is_there() {
     assert!(gone.is_empty(), "the guide names {gone:?}");
 }
 
+/// The names that the files of laws and of definitions declare.
+fn laws() -> BTreeSet<String> {
+    let mut found = BTreeSet::new();
+    for path in ["specs", "proofs"]
+        .iter()
+        .flat_map(|folder| files(folder, ".antt"))
+    {
+        let text = read(&path);
+        let heads = text.lines().filter_map(|line| line.split_once(" :"));
+        found.extend(
+            heads.map(|(head, _)| head.trim_start().trim_start_matches("pub ").to_string()),
+        );
+    }
+    found
+}
+
+/// Whether a piece is written as the name of a law: words joined by hyphens.
+fn names_a_law(piece: &str) -> bool {
+    let is_word = |word: &str| !word.is_empty() && word.chars().all(char::is_alphanumeric);
+    piece.contains('-') && piece.starts_with(char::is_lowercase) && piece.split('-').all(is_word)
+}
+
+#[test]
+fn every_law_named_is_there() {
+    let laws = laws();
+    let mut gone = quoted();
+    gone.retain(|piece| names_a_law(piece) && !laws.contains(piece));
+    assert!(gone.is_empty(), "the guide names {gone:?}");
+}
+
 #[test]
 fn every_function_named_is_there() {
     let mut gone = Vec::new();

@@ -12,8 +12,8 @@ const WITHOUT_FAMILY: &str = "actions";
 
 /// The parameters that are numbers, and the definition by which a promise takes each.
 const NUMBERS: [(&str, &str); 2] = [
-    ("allow_no_destination", "settingIn"),
-    ("originator", "originatorIn"),
+    ("allow_no_destination", "settingsIn"),
+    ("originator", "originOf"),
 ];
 
 /// A parameter's name and type.
