@@ -1,36 +1,28 @@
--- Is a number one that some rate gives? The invariant: the halvings that are left are enough, and decide as the definition does.
-use mathlib.Core.Path.{_∙_, sym}
+-- Is a number with a note one that some rate gives? Each arm is the law of its note.
+use mathlib.Core.Path.{_∙_}
 use native.Mathlib.Omega.{arith}
 use borrow.Author.Needs.{needs}
-use Rattle.rate.proofs.RatesGiven.{Halving, halved, past-limit, within-limit, fits-small, fits-odd}
+use Rattle.rate.proofs.RatesGiven.{given-exact, given-rounded, given-raised, given-capped, given-zero, given-not}
 use Rattle.rate.proofs.is_rate.Statement.{statement}
 use Rattle.rate.proofs.is_rate.Tie as tie
 
-abbrev Inv-loop : tie.InvT-loop
-Inv-loop number rest₀ rest = Halving number rest
+returns : tie.Need-returns
+returns c = search needs ∙ given-exact _ _ (search needs)
 
-abbrev μ-loop : tie.MeasureT-loop
-μ-loop number rest₀ rest = rest
+returns-2 : tie.Need-returns-2
+returns-2 c = search (given-rounded, needs)
 
-returns : tie.Need-returns Inv-loop μ-loop
-returns c = search (past-limit, needs)
+returns-3 : tie.Need-returns-3
+returns-3 c = search (given-raised, needs)
 
-loop-holds : tie.Need-loop-holds Inv-loop μ-loop
-loop-holds c = record { left = 40; enough = omega arith; decides = search (within-limit, needs) }
+returns-4 : tie.Need-returns-4
+returns-4 c = search (given-capped, needs)
 
-returns-2 : tie.Need-returns-2 Inv-loop μ-loop
-returns-2 c = let h = c .before .before .loop .inv in sym (fits-odd (h .left) _ (search needs) (search needs)) ∙ h .decides
+returns-5 : tie.Need-returns-5
+returns-5 c = search (given-zero, needs)
 
-loop-less : tie.Need-loop-less Inv-loop μ-loop
-loop-less c = omega arith
-
-loop-again : tie.Need-loop-again Inv-loop μ-loop
-loop-again c = halved (c .before .before .loop .inv) (search needs) (omega arith)
-
-returns-3 : tie.Need-returns-3 Inv-loop μ-loop
-returns-3 c = let h = c .before .loop .inv in sym (fits-small (h .left) _ (search needs)) ∙ h .decides
+returns-6 : tie.Need-returns-6
+returns-6 c = given-not _ _ (omega arith)
 
 pub is-rate-spec : {M : Type 1} → statement M
-is-rate-spec =
-    tie.close
-    (tie.spec Inv-loop μ-loop returns loop-holds returns-2 loop-less loop-again returns-3)
+is-rate-spec = tie.close (tie.spec (λ c κs. search needs) returns returns-2 returns-3 returns-4 returns-5 returns-6)
