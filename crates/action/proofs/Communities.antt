@@ -50,15 +50,15 @@ module _ (a : Actions) (c x : ℕ) (k : Kind) (here : x ≡ c) (kind : k ≡ kin
     refuses-packet-rate h = known PacketRate _ h (rw (← read, is))
 
   module _ (b : Actions) where
-    pub takes-byte-rate : (r : Rate) (n : ℕ) (l s : Limit) → k ≡ ByteRate → r ≡ rateIn x → r ≡ Number n → l ≡ limit n
+    pub takes-byte-rate : (r : Rate) (number note : ℕ) (l s : Limit) → k ≡ ByteRate → r ≡ rateIn x → r ≡ Number number note → l ≡ limit number note
         → s ≡ smallerOf (a .bytes) l → b ≡ withByteRate a s → withCommunity a c ≡ Read b
     unfolding withKind withRate
-    takes-byte-rate r n l s h read is l-is s-is b-is = known ByteRate _ h (rw (← read, is, b-is, s-is, l-is))
+    takes-byte-rate r number note l s h read is l-is s-is b-is = known ByteRate _ h (rw (← read, is, b-is, s-is, l-is))
 
-    pub takes-packet-rate : (r : Rate) (n : ℕ) (l s : Limit) → k ≡ PacketRate → r ≡ rateIn x → r ≡ Number n → l ≡ limit n
+    pub takes-packet-rate : (r : Rate) (number note : ℕ) (l s : Limit) → k ≡ PacketRate → r ≡ rateIn x → r ≡ Number number note → l ≡ limit number note
         → s ≡ smallerOf (a .packets) l → b ≡ withPacketRate a s → withCommunity a c ≡ Read b
     unfolding withKind withRate
-    takes-packet-rate r n l s h read is l-is s-is b-is = known PacketRate _ h (rw (← read, is, b-is, s-is, l-is))
+    takes-packet-rate r number note l s h read is l-is s-is b-is = known PacketRate _ h (rw (← read, is, b-is, s-is, l-is))
 
     pub takes-flags : k ≡ TrafficAction → b ≡ withFlags a (a .sample || has x 0x02) (a .onward || has x 0x01) → withCommunity a c ≡ Read b
     unfolding withKind

@@ -2,28 +2,26 @@
 -- equal numbers is taken; no limit at either side changes nothing; and what could be a limit.
 use Prim.Native.Nat.{ℕ, min}
 use mathlib.Core.Path.{_≡_, refl}
-use mathlib.Core.Bool.{Bool, true, false, not, _&&_, _||_}
+use mathlib.Core.Bool.{Bool, true, false, cond, not, _&&_, _||_}
 use mathlib.Core.Logic.{_⊎_, inl, inr}
 use native.Mathlib.Omega.{arith}
-use borrow.Author.Tests.{leb-true, leb-false, le-leb, lt-leb, not-false}
-use lib.Dec.{leb}
+use borrow.Author.Tests.{leb-true, leb-false, le-leb, lt-leb, eqb-true, not-false}
+use lib.Dec.{leb, eqb}
 use Rattle.octets.proofs.Cases.{by-test, both, neither}
 use Rattle.rate.specs.Rate.{rateGiven}
 use Rattle.action.specs.declared.Limit.{Limit}
-use Rattle.action.specs.Given.{allowed}
 use Rattle.action.specs.Limit.{noLimit, limit, smallerOf, couldBeLimit}
-use Rattle.action.proofs.GivenLaws.{by-allowed}
 
 -- The test by which the first of two is taken.
-abbrev taken : Limit → Limit → Bool
+abbrev pub taken : Limit → Limit → Bool
 taken a b = a .present && (not (b .present) || leb (a .number) (b .number))
 
 module _ (a b : Limit) where
-  smaller-first : taken a b ≡ true → smallerOf a b ≡ a
+  pub smaller-first : taken a b ≡ true → smallerOf a b ≡ a
   unfolding smallerOf
   smaller-first h = rw h
 
-  smaller-second : taken a b ≡ false → smallerOf a b ≡ b
+  pub smaller-second : taken a b ≡ false → smallerOf a b ≡ b
   unfolding smallerOf
   smaller-second h = rw h
 
@@ -79,22 +77,29 @@ pub smaller-before : (l : Limit) → smallerOf noLimit l ≡ l
 unfolding smallerOf
 smaller-before l = refl
 
-pub smaller-one : (n : ℕ) → smallerOf (limit n) noLimit ≡ limit n
+pub smaller-one : (number note : ℕ) → smallerOf (limit number note) noLimit ≡ limit number note
 unfolding smallerOf
-smaller-one n = refl
+smaller-one number note = refl
 
 -- No limit could be, and so could a rate that some single gives.
 pub none-could : couldBeLimit noLimit ≡ true
-unfolding allowed
+unfolding couldBeLimit
 none-could = refl
 
-pub rate-could : (n : ℕ) → rateGiven n ≡ true → couldBeLimit (limit n) ≡ true
-unfolding allowed
-rate-could n h = h
+pub rate-could : (number note : ℕ) → rateGiven number note ≡ true → couldBeLimit (limit number note) ≡ true
+unfolding couldBeLimit
+rate-could number note h = h
 
 -- A limit that could be is a rate that some single gives, or none.
-pub by-limit : (P : Limit → Type 0) → ((n : ℕ) → rateGiven n ≡ true → P (limit n)) → P noLimit → (l : Limit) → couldBeLimit l ≡ true → P l
-by-limit P there gone l = by-allowed rateGiven (λ p n. P (record { present = p; number = n })) there gone (l .present) (l .number)
+pub by-limit : (P : Limit → Type 0) → ((number note : ℕ) → rateGiven number note ≡ true → P (limit number note)) → P noLimit
+    → (l : Limit) → couldBeLimit l ≡ true → P l
+unfolding couldBeLimit
+by-limit P there gone l = go (l .present) (l .number) (l .note)
+  where
+    go : (p : Bool) (number note : ℕ) → cond p (rateGiven number note) (eqb number 0 && eqb note 0) ≡ true
+        → P (record { present = p; number = number; note = note })
+    go true number note h = there number note h
+    go false number note h = let z = both (eqb number 0) (eqb note 0) h in rw (eqb-true number 0 (z .0), eqb-true note 0 (z .1)) gone
 
 -- The smaller of two that could be could be.
 pub smaller-could : (a b : Limit) → couldBeLimit a ≡ true → couldBeLimit b ≡ true → couldBeLimit (smallerOf a b) ≡ true
@@ -103,4 +108,4 @@ smaller-could a b p q = by-test (taken a b) (λ h. rw (smaller-first a b h) p) (
 -- No limit behind one that could be changes nothing.
 pub smaller-behind : (l : Limit) → couldBeLimit l ≡ true → smallerOf l noLimit ≡ l
 unfolding smallerOf
-smaller-behind = by-limit (λ l. smallerOf l noLimit ≡ l) (λ n h. refl) refl
+smaller-behind = by-limit (λ l. smallerOf l noLimit ≡ l) (λ number note h. refl) refl

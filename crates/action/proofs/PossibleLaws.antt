@@ -49,7 +49,8 @@ could-be a c = rw (c .bytes, c .packets, c .marks, c .redirects)
 -- A rate read could be the limit, where the smallest of the others could.
 rate-smallest : (c : ℕ) (rates : List Rate) → couldBeLimit (smallest rates) ≡ true → (r : Rate) → rateIn c ≡ r → couldBeLimit (smallest (r ∷ rates)) ≡ true
 unfolding smallest
-rate-smallest c rates p (Number n) h = smaller-could (limit n) (smallest rates) (rate-could n (complete (c % 2 ^ 32) n h)) p
+rate-smallest c rates p (Number number note) h =
+    smaller-could (limit number note) (smallest rates) (rate-could number note (complete (c % 2 ^ 32) number note h)) p
 rate-smallest c rates p NotANumber h = p
 
 -- The smallest of rates read could be.

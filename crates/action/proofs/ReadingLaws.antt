@@ -70,8 +70,8 @@ record Tidy (a : Actions) : Type 0 where
   marking : firstOf (a .marking) absent ≡ a .marking
   redirect : firstOf (a .redirect) absent ≡ a .redirect
 
-tidy-smaller : (l : Limit) (n : ℕ) → smallerOf (smallerOf l (limit n)) noLimit ≡ smallerOf l (limit n)
-tidy-smaller l n = rw (smaller-assoc l (limit n) noLimit, smaller-one n)
+tidy-smaller : (l : Limit) (number note : ℕ) → smallerOf (smallerOf l (limit number note)) noLimit ≡ smallerOf l (limit number note)
+tidy-smaller l number note = rw (smaller-assoc l (limit number note) noLimit, smaller-one number note)
 
 tidy-first : (g : Given) (n : ℕ) → firstOf (firstOf g (given n)) absent ≡ firstOf g (given n)
 tidy-first g n = rw (first-assoc g (given n) absent, first-one n absent)
@@ -82,19 +82,19 @@ answer a cs = cond (wrongRate cs) Unsound (Read (together a (ruleActions cs)))
 
 module _ (a : Actions) (tidy : Tidy a) (c : ℕ) (cs : List ℕ) (later : (b : Actions) → Tidy b → withCommunities b cs ≡ answer b cs) where
   byte-step : (r : Rate) → rateIn c ≡ r → Of ByteRate (c / 2 ^ 48)
-      → andThen (withRate (λ n. withByteRate a (smallerOf (a .bytes) (limit n))) r) (λ b. withCommunities b cs) ≡ answer a (c ∷ cs)
+      → andThen (withRate (λ l. withByteRate a (smallerOf (a .bytes) l)) r) (λ b. withCommunities b cs) ≡ answer a (c ∷ cs)
   unfolding withRate ruleActions ofType smallest oneHolds
-  byte-step (Number n) h t =
-      rw (t .bytes, t .packets, t .traffic, t .marking, t .redirect, h, ← (smaller-assoc (a .bytes) (limit n) (smallest (ratesOf isByteRate cs))))
-      (later _ (record { bytes = tidy-smaller (a .bytes) n; packets = tidy .packets; marking = tidy .marking; redirect = tidy .redirect }))
+  byte-step (Number number note) h t =
+      rw (t .bytes, t .packets, t .traffic, t .marking, t .redirect, h, ← (smaller-assoc (a .bytes) (limit number note) (smallest (ratesOf isByteRate cs))))
+      (later _ (record { bytes = tidy-smaller (a .bytes) number note; packets = tidy .packets; marking = tidy .marking; redirect = tidy .redirect }))
   byte-step NotANumber h t = rw (t .bytes, h)
 
   packet-step : (r : Rate) → rateIn c ≡ r → Of PacketRate (c / 2 ^ 48)
-      → andThen (withRate (λ n. withPacketRate a (smallerOf (a .packets) (limit n))) r) (λ b. withCommunities b cs) ≡ answer a (c ∷ cs)
+      → andThen (withRate (λ l. withPacketRate a (smallerOf (a .packets) l)) r) (λ b. withCommunities b cs) ≡ answer a (c ∷ cs)
   unfolding withRate ruleActions ofType smallest oneHolds
-  packet-step (Number n) h t =
-      rw (t .bytes, t .packets, t .traffic, t .marking, t .redirect, h, ← (smaller-assoc (a .packets) (limit n) (smallest (ratesOf isPacketRate cs))))
-      (later _ (record { bytes = tidy .bytes; packets = tidy-smaller (a .packets) n; marking = tidy .marking; redirect = tidy .redirect }))
+  packet-step (Number number note) h t =
+      rw (t .bytes, t .packets, t .traffic, t .marking, t .redirect, h, ← (smaller-assoc (a .packets) (limit number note) (smallest (ratesOf isPacketRate cs))))
+      (later _ (record { bytes = tidy .bytes; packets = tidy-smaller (a .packets) number note; marking = tidy .marking; redirect = tidy .redirect }))
   packet-step NotANumber h t = rw (t .packets, h, or-true)
 
   step : (k : Kind) → Of k (c / 2 ^ 48) → andThen (withKind k a c) (λ b. withCommunities b cs) ≡ answer a (c ∷ cs)

@@ -113,16 +113,16 @@ adds-kind kind type low a b p q h k =
 
 -- A limit that could be, of either kind.
 said-limit : (kind : Kind) (type : ℕ) (change : Limit → Actions) → type < 2 ^ 16 → kindOf type ≡ kind
-    → ((c : ℕ) → withKind kind (change noLimit) c ≡ withRate (λ n. change (smallerOf noLimit (limit n))) (rateIn c))
+    → ((c : ℕ) → withKind kind (change noLimit) c ≡ withRate (λ l. change (smallerOf noLimit l)) (rateIn c))
     → (l : Limit) → couldBeLimit l ≡ true → Said change noLimit l
 unfolding withRate
 said-limit kind type change p h same =
     by-limit (Said change noLimit)
-    (λ m g.
-    let s = sound m g in
+    (λ number note g.
+    let s = sound number note g in
     let below = s .1 in
     let last : (type * 2 ^ 48 + s .0) % 2 ^ 32 ≡ s .0 = omega arith in
-    inl (adds-kind kind type (s .0) (change noLimit) (change (limit m)) p (omega arith) h (same (type * 2 ^ 48 + s .0) ∙ rw (last, s .2, smaller-before (limit m)))))
+    inl (adds-kind kind type (s .0) (change noLimit) (change (limit number note)) p (omega arith) h (same (type * 2 ^ 48 + s .0) ∙ rw (last, s .2, smaller-before (limit number note)))))
     (inr refl)
 
 said-marking : (a : Actions) (g : Given) → Fine sixBits g → Said (withMarking a) absent g

@@ -69,7 +69,7 @@ markingIn c = c % 2 ^ 6
 -- The smallest of several rates, the first of those that are equal; one that is not a number does not count.
 unfoldable pub smallest : List Rate → Limit
 smallest [] = noLimit
-smallest (Number n ∷ rates) = smallerOf (limit n) (smallest rates)
+smallest (Number number note ∷ rates) = smallerOf (limit number note) (smallest rates)
 smallest (NotANumber ∷ rates) = smallest rates
 
 -- The first of several numbers.
@@ -92,7 +92,7 @@ ruleActions cs =
 
 -- A rate that is not a number.
 abbrev pub noNumber : Rate → Bool
-noNumber (Number n) = false
+noNumber (Number number note) = false
 noNumber NotANumber = true
 
 -- 01: "Not-a-number of either sign is 13", in a rate of either kind; the RFC is silent on it.
@@ -129,6 +129,10 @@ flagsOf a =
     + bitIf (a .marking .present) 16
     + bitIf (a .redirect .present) 32
 
--- The values of actions, in the order of a record: flags, DSCP, byte rate, packet rate, redirect community; an absent one is 0.
+-- 2026-05: "three bits for each rate, byte rate lowest (0 exact or absent, 1 to 4 the rest as listed)".
+unfoldable pub notesOf : Actions → ℕ
+notesOf a = a .bytes .note + a .packets .note * 2 ^ 3
+
+-- The values of actions, in the order of a record: flags, DSCP, byte rate, packet rate, redirect community, notes; an absent one is 0.
 abbrev pub valuesOf : Actions → List ℕ
-valuesOf a = flagsOf a ∷ a .marking .number ∷ a .bytes .number ∷ a .packets .number ∷ a .redirect .number ∷ []
+valuesOf a = flagsOf a ∷ a .marking .number ∷ a .bytes .number ∷ a .packets .number ∷ a .redirect .number ∷ notesOf a ∷ []

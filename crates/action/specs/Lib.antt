@@ -2,6 +2,7 @@
 pub mod Given
 pub mod Limit
 pub mod Actions
+pub mod Smallest
 pub mod Merging
 pub mod Possible
 pub mod Reading

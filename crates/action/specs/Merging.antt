@@ -1,5 +1,6 @@
 -- The actions of several matching rules taken together (01: "Over several matching rules: smallest rates, S if any, marking and redirect
--- from the first that has one"). Merged actions carry no T, which only says whether the walk goes on.
+-- from the first that has one"; 2026-05: the note of the "first matching rule, giving the smallest number"). Merged actions carry no T, which
+-- only says whether the walk goes on.
 use mathlib.Core.Bool.{false, _||_}
 use Rattle.action.specs.declared.Actions.{Actions}
 use Rattle.action.specs.Given.{firstOf}

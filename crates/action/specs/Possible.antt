@@ -7,7 +7,8 @@ use Rattle.action.specs.Given.{allowed}
 use Rattle.action.specs.Limit.{couldBeLimit}
 use Rattle.action.specs.Actions.{isRedirect}
 
--- Rates are numbers that some single gives, a marking has six bits, a redirect is a community of that type, and a missing number is 0.
+-- Rates are numbers that some single gives with their notes, a marking has six bits, a redirect is a community of that type, and a
+-- missing number is 0.
 unfoldable pub couldBe : Actions → Bool
 couldBe a =
     couldBeLimit (a .bytes) && couldBeLimit (a .packets)

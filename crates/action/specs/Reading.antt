@@ -49,14 +49,14 @@ withRedirect a g =
     record { bytes = a .bytes; packets = a .packets; sample = a .sample; onward = a .onward; marking = a .marking; redirect = g }
 
 -- A rate that is a number changes the actions, and one that is not makes them unsound.
-unfoldable pub withRate : (ℕ → Actions) → Rate → Reading
-withRate change (Number n) = Read (change n)
+unfoldable pub withRate : (Limit → Actions) → Rate → Reading
+withRate change (Number number note) = Read (change (limit number note))
 withRate change NotANumber = Unsound
 
 -- What a community of a kind adds to the actions told so far.
 unfoldable pub withKind : Kind → Actions → ℕ → Reading
-withKind ByteRate a c = withRate (λ n. withByteRate a (smallerOf (a .bytes) (limit n))) (rateIn c)
-withKind PacketRate a c = withRate (λ n. withPacketRate a (smallerOf (a .packets) (limit n))) (rateIn c)
+withKind ByteRate a c = withRate (λ l. withByteRate a (smallerOf (a .bytes) l)) (rateIn c)
+withKind PacketRate a c = withRate (λ l. withPacketRate a (smallerOf (a .packets) l)) (rateIn c)
 withKind TrafficAction a c = Read (withFlags a (a .sample || setsS c) (a .onward || setsT c))
 withKind Marking a c = Read (withMarking a (firstOf (a .marking) (given (markingIn c))))
 withKind Redirect a c = Read (withRedirect a (firstOf (a .redirect) (given c)))

@@ -14,10 +14,11 @@ pub struct Given {
     pub number: u64,
 }
 
-// A rate that actions limit to, which may be missing; a missing one is 0.
+// A rate that actions limit to, with its note; one that is missing is 0 with note 0.
 pub struct Limit {
     pub present: bool,
     pub number: u64,
+    pub note: u8,
 }
 
 // What rules ask for: limits, S as `sample`, T as `onward`, a marking, and the redirect community.
@@ -56,13 +57,14 @@ fn given_of(number: u64) -> Given
     }
 }
 
-// A limit that is there.
-fn limit_of(number: u64) -> Limit
-    ensures { λ r. ⌜ r ≡ limit number ⌝ }
+// A limit that is there, with its note.
+fn limit_of(number: u64, note: u8) -> Limit
+    ensures { λ r. ⌜ r ≡ limit number note ⌝ }
 {
     Limit {
         present: true,
         number,
+        note,
     }
 }
 
@@ -87,11 +89,13 @@ fn smaller_of(first: Limit, second: Limit) -> Limit
         return Limit {
             present: first.present,
             number: first.number,
+            note: first.note,
         };
     }
     Limit {
         present: second.present,
         number: second.number,
+        note: second.note,
     }
 }
 
@@ -106,6 +110,7 @@ pub fn no_actions() -> Actions
     let no_limit = Limit {
         present: false,
         number: 0,
+        note: 0,
     };
     Actions {
         bytes: no_limit,
@@ -166,16 +171,16 @@ pub fn actions_of(communities: &[u8]) -> Reading
         let community = octets::number_at(8, communities, at);
         match kind_of(community >> 48) {
             Kind::ByteRate => {
-                let Rate::Number(rate) = rate_in(community) else {
+                let Rate::Number { number, note } = rate_in(community) else {
                     return Reading::Unsound;
                 };
-                actions.bytes = smaller_of(actions.bytes, limit_of(rate));
+                actions.bytes = smaller_of(actions.bytes, limit_of(number, note));
             }
             Kind::PacketRate => {
-                let Rate::Number(rate) = rate_in(community) else {
+                let Rate::Number { number, note } = rate_in(community) else {
                     return Reading::Unsound;
                 };
-                actions.packets = smaller_of(actions.packets, limit_of(rate));
+                actions.packets = smaller_of(actions.packets, limit_of(number, note));
             }
             Kind::TrafficAction => {
                 actions.sample = actions.sample | (community & 0x02 != 0);
@@ -224,7 +229,10 @@ fn is_allowed(present: bool, number: u64, passes: bool) -> bool
 fn could_be_limit(limit: Limit) -> bool
     ensures { λ r. ⌜ r ≡ couldBeLimit limit ⌝ }
 {
-    is_allowed(limit.present, limit.number, rate::is_rate(limit.number))
+    if limit.present {
+        return rate::is_rate(limit.number, limit.note);
+    }
+    (limit.number == 0) & (limit.note == 0)
 }
 
 // Could these be the actions of some communities?

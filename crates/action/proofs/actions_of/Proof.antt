@@ -45,8 +45,8 @@ loop-again c =
     let kind = c .before .kind-of .ensures in (
       refl,
       next _ _ _ (c .before .before .before .before .loop .inv .1) (search needs) _
-          (⊎-elim (λ w. takes-byte-rate _ _ _ _ here kind _ _ _ _ _ (w .1 .given .1) (w .2 .ensures) (w .4 .given .1) (w .6 .ensures) (w .7 .ensures) (w .8))
-          (⊎-elim (λ w. takes-packet-rate _ _ _ _ here kind _ _ _ _ _ (w .1 .given .1) (w .2 .ensures) (w .4 .given .1) (w .6 .ensures) (w .7 .ensures) (w .8))
+          (⊎-elim (λ w. takes-byte-rate _ _ _ _ here kind _ _ _ _ _ _ (w .1 .given .1) (w .2 .ensures) (w .4 .given .1) (w .6 .ensures) (w .7 .ensures) (w .8))
+          (⊎-elim (λ w. takes-packet-rate _ _ _ _ here kind _ _ _ _ _ _ (w .1 .given .1) (w .2 .ensures) (w .4 .given .1) (w .6 .ensures) (w .7 .ensures) (w .8))
           (⊎-elim (λ w. takes-flags _ _ _ _ here kind _ (w .1 .given .1) (w .4))
           (⊎-elim (λ w. takes-marking _ _ _ _ here kind _ _ _ (w .1 .given .1) (w .2 .ensures) (w .3 .ensures) (w .4))
           (⊎-elim (λ w. takes-redirect _ _ _ _ here kind _ _ _ (w .1 .given .1) (w .2 .ensures) (w .3 .ensures) (w .4))
