@@ -1,11 +1,11 @@
 -- A record stands for one entry, and an entry has one record: reading and writing undo one another, both ways. Assumes nothing.
-use mathlib.Core.Path.{_≡_, refl, sym, ap, ap₂, _∙_}
+use mathlib.Core.Path.{_≡_, refl, sym, ap, _∙_}
 use mathlib.Core.Bool.{Bool, true, false, not, _&&_, and-true}
 use mathlib.Core.List.{List, [], _∷_, _++_, append-assoc, append-nil}
-use Prim.Native.Nat.{ℕ, zero, suc, _+_, _-_, _/_, _^_, _<_, _≤_}
+use Prim.Native.Nat.{ℕ, zero, suc, _+_, _*_, _-_, _/_, _%_, _^_, _<_, _≤_}
 use native.Mathlib.Omega.{arith}
 use lib.Bits.{bitAnd}
-use lib.Dec.{eqb, lit<}
+use lib.Dec.{ltb, eqb, lit<}
 use lib.ListN.{length, getD, take, drop, length-append, length-drop, take-append-drop}
 use lib.Seq.{drop-at, take-all}
 use borrow.Author.Tests.{ltb-true, lt-ltb, eqb-true, ne-eqb, not-true, not-false}
@@ -19,14 +19,16 @@ use Rattle.rule.specs.declared.Family.{Family}
 use Rattle.action.specs.declared.Actions.{Actions}
 use Rattle.octets.specs.Bit.{bitIf}
 use Rattle.action.specs.Given.{allowed}
-use Rattle.action.specs.Actions.{flagsOf}
-use Rattle.rate.specs.Rate.{rateGiven}
-use Rattle.rate.proofs.RatesGiven.{at-most}
+use Rattle.action.specs.declared.Limit.{Limit}
+use Rattle.action.specs.Limit.{couldBeLimit}
+use Rattle.action.specs.Actions.{flagsOf, notesOf}
+use Rattle.rate.proofs.RatesGiven.{at-most, note-at-most}
 use Rattle.action.proofs.GivenLaws.{by-allowed}
+use Rattle.action.proofs.LimitLaws.{by-limit}
 use Rattle.action.proofs.PossibleLaws.{could, sixBits, redirectType}
 use Rattle.action.specs.Possible.{couldBe}
 use Rattle.entry.specs.Entry.{Entry, plainValue, possible}
-use Rattle.entry.specs.Record.{lengthWidth, headWidths, widthOf, headCost, writtenFields, readFields, headNumbers, recordOf, actionsIn, entryOf, Measured, goodRecord}
+use Rattle.entry.specs.Record.{lengthWidth, headWidths, widthOf, headCost, writtenFields, readFields, headNumbers, recordOf, actionsIn, entryOf, Measured, goodRecord, tidyHead}
 use Rattle.entry.proofs.ValueLaws.{Possible, is-possible}
 use Rattle.entry.proofs.RecordLaws.{Fit, length-written, fields-back, back-fields}
 
@@ -50,10 +52,15 @@ flags-small a =
     )
 
 -- flags that are read are written as they stood, by computing all 64
-pub flags-back : (flags dscp bytes packets redirect : ℕ) → flags < 64 → flagsOf (actionsIn flags dscp bytes packets redirect) ≡ flags
+pub flags-back : (flags dscp bytes packets redirect notes : ℕ) → flags < 64 → flagsOf (actionsIn flags dscp bytes packets redirect notes) ≡ flags
 unfolding flagsOf actionsIn
-flags-back flags dscp bytes packets redirect h =
-    eqb-true _ _ (below 64 (λ f. eqb (flagsOf (actionsIn f 0 0 0 0)) f) refl flags h)
+flags-back flags dscp bytes packets redirect notes h =
+    eqb-true _ _ (below 64 (λ f. eqb (flagsOf (actionsIn f 0 0 0 0 0)) f) refl flags h)
+
+-- so are notes
+notes-back : (flags dscp bytes packets redirect notes : ℕ) → notes < 64 → notesOf (actionsIn flags dscp bytes packets redirect notes) ≡ notes
+unfolding notesOf actionsIn
+notes-back flags dscp bytes packets redirect notes h = omega arith
 
 -- the test passes at both outcomes, and at all lists of n outcomes
 abbrev either : (Bool → Bool) → Bool
@@ -84,14 +91,17 @@ flagSum l =
 abbrev hasFlag : ℕ → ℕ → List Bool → Bool
 hasFlag bit place l = eqb (bitAnd (flagSum l) bit) (bitIf (getD l place false) bit)
 
--- actions that are written are read again, by computing all 64 flags
-pub actions-back : (a : Actions)
-    → actionsIn (flagsOf a) (a .marking .number) (a .bytes .number) (a .packets .number) (a .redirect .number) ≡ a
-unfolding actionsIn flagsOf
-actions-back a =
+-- actions whose notes have three bits are read again once written, by computing all 64 flags
+pub actions-back : (a : Actions) → a .bytes .note < 8 → a .packets .note < 8
+    → actionsIn (flagsOf a) (a .marking .number) (a .bytes .number) (a .packets .number) (a .redirect .number) (notesOf a) ≡ a
+unfolding actionsIn flagsOf notesOf
+actions-back a bytes packets =
+    let low : (a .bytes .note + a .packets .note * 8) % 8 ≡ a .bytes .note = omega arith in
+    let high : (a .bytes .note + a .packets .note * 8) / 8 ≡ a .packets .note = omega arith in
+    let next : (a .bytes .note + a .packets .note * 8) / 8 % 8 ≡ a .packets .note = rw high (omega arith) in
     λ i. record {
-      bytes = record { present = says 1 0 (lit< tt) refl i; number = a .bytes .number };
-      packets = record { present = says 2 1 (lit< tt) refl i; number = a .packets .number };
+      bytes = record { present = says 1 0 (lit< tt) refl i; number = a .bytes .number; note = low i };
+      packets = record { present = says 2 1 (lit< tt) refl i; number = a .packets .number; note = next i };
       sample = says 4 2 (lit< tt) refl i;
       onward = says 8 3 (lit< tt) refl i;
       marking = record { present = says 16 4 (lit< tt) refl i; number = a .marking .number };
@@ -115,8 +125,11 @@ allowed-small : (test : ℕ → Bool) (most : ℕ) → ((n : ℕ) → test n ≡
     → allowed p n (test n) ≡ true → n < most
 allowed-small test most small some = by-allowed test (λ p n. n < most) small some
 
-rate-small : (n : ℕ) → rateGiven n ≡ true → n < 256 ^ 8
-rate-small n h = omega (arith, at-most n h)
+limit-small : (l : Limit) → couldBeLimit l ≡ true → (l .number < 256 ^ 8) × (l .note < 8)
+limit-small =
+    by-limit (λ l. (l .number < 256 ^ 8) × (l .note < 8))
+    (λ number note h. (omega (arith, at-most number note h), omega (arith, note-at-most number note h)))
+    (omega arith, omega arith)
 
 redirect-small : (n : ℕ) → redirectType n ≡ true → n < 256 ^ 8
 redirect-small n h =
@@ -126,25 +139,34 @@ redirect-small n h =
     (λ u. by-test (eqb type 0x8208) (λ w. omega (arith, eqb-true type 0x8208 w)) (λ w. let z : false ≡ true = rw (t, u, w) at h in apart (cc))))
 
 head-fits : (family : Family) (e : Entry) → Possible family e → Fit headWidths (headNumbers e)
-unfolding headNumbers
+unfolding headNumbers notesOf
 head-fits family e p =
     let v = p .value in
     let o = p .originates in
     let c = could (e .actions) (p .acts) in
     let f = flags-small (e .actions) in
     let marks = allowed-small sixBits 256 (λ n h. let t = ltb-true n (2 ^ 6) h in omega arith) (omega arith) _ (e .actions .marking .number) (c .marks) in
-    let bytes = allowed-small rateGiven (256 ^ 8) rate-small (omega arith) _ (e .actions .bytes .number) (c .bytes) in
-    let packets = allowed-small rateGiven (256 ^ 8) rate-small (omega arith) _ (e .actions .packets .number) (c .packets) in
+    let bytes = limit-small (e .actions .bytes) (c .bytes) in
+    let packets = limit-small (e .actions .packets) (c .packets) in
     let redirects = allowed-small redirectType (256 ^ 8) redirect-small (omega arith) _ (e .actions .redirect .number) (c .redirects) in
-    (omega arith, (omega arith, (omega arith, (marks, (bytes, (packets, (redirects, tt)))))))
+    let notes : e .actions .bytes .note + e .actions .packets .note * 8 < 256 = omega arith in
+    (omega arith, (omega arith, (omega arith, (marks, (bytes .0, (packets .0, (redirects, (notes, (omega arith, (omega arith, (omega arith, tt)))))))))))
 
 -- how `record_actions` comes to its answer
-pub head-actions : (s : List ℕ) (a : Actions) (flags dscp bytes packets redirect : ℕ) → flags ≡ getD s (place 2) 0 → dscp ≡ getD s (place 3) 0
-    → bytes ≡ numberAt 8 s (place 4) → packets ≡ numberAt 8 s (place 5) → redirect ≡ numberAt 8 s (place 6)
-    → a ≡ actionsIn flags dscp bytes packets redirect → a ≡ entryOf s .actions
+pub head-actions : (s : List ℕ) (a : Actions) (flags dscp bytes packets redirect notes : ℕ) → flags ≡ getD s (place 2) 0 → dscp ≡ getD s (place 3) 0
+    → bytes ≡ numberAt 8 s (place 4) → packets ≡ numberAt 8 s (place 5) → redirect ≡ numberAt 8 s (place 6) → notes ≡ getD s (place 7) 0
+    → a ≡ actionsIn flags dscp bytes packets redirect notes → a ≡ entryOf s .actions
 unfolding entryOf readFields
-head-actions s a flags dscp bytes packets redirect f d b p r h =
-    h ∙ rw (f, d, b, p, r, one-octet s (place 2), one-octet s (place 3))
+head-actions s a flags dscp bytes packets redirect notes f d b p r n h =
+    h ∙ rw (f, d, b, p, r, n, one-octet s (place 2), one-octet s (place 3), one-octet s (place 7))
+
+-- how `is_tidy_head` comes to its answer
+pub head-tidy : (s : List ℕ) (flags notes first second third : ℕ) → flags ≡ getD s (place 2) 0 → notes ≡ getD s (place 7) 0
+    → first ≡ getD s (place 8) 0 → second ≡ getD s (place 9) 0 → third ≡ getD s (place 10) 0
+    → (ltb flags 64 && ltb notes 64 && eqb first 0 && eqb second 0 && eqb third 0) ≡ tidyHead s
+unfolding tidyHead readFields
+head-tidy s flags notes first second third f n a b c =
+    rw (f, n, a, b, c, one-octet s (place 2), one-octet s (place 7), one-octet s (place 8), one-octet s (place 9), one-octet s (place 10))
 
 -- the record of an entry
 
@@ -172,19 +194,29 @@ module _ (family : Family) (e : Entry) (ok : possible family e ≡ true) where
   unfolding readFields headNumbers
   size-back rest = ap (λ (l : List ℕ). getD l 0 0) (head-back rest)
 
+  notes-small : (e .actions .bytes .note < 8) × (e .actions .packets .note < 8)
+  notes-small =
+      let c = could (e .actions) (is-possible family e ok .acts) in
+      (limit-small (e .actions .bytes) (c .bytes) .1, limit-small (e .actions .packets) (c .packets) .1)
+
   -- an entry that is written is read again
   pub read-written : entryOf (recordOf e) ≡ e
   unfolding entryOf headNumbers
   read-written =
       let fields = fields-alone in
       let value = value-record e in
+      let notes = notes-small in
       let actions
-      = ap (λ (l : List ℕ). actionsIn (getD l 2 0) (getD l 3 0) (getD l 4 0) (getD l 5 0) (getD l 6 0)) fields ∙ actions-back (e .actions) in
+      = ap (λ (l : List ℕ). actionsIn (getD l 2 0) (getD l 3 0) (getD l 4 0) (getD l 5 0) (getD l 6 0) (getD l 7 0)) fields
+      ∙ actions-back (e .actions) (notes .0) (notes .1) in
       λ i. record { origin = record { originator = getD (fields i) 1 0 }; actions = actions i; value = value i }
 
-  flags-octet : getD (recordOf e) (place 2) 0 ≡ flagsOf (e .actions)
-  unfolding readFields headNumbers
-  flags-octet = sym (one-octet (recordOf e) (place 2)) ∙ ap (λ (l : List ℕ). getD l 2 0) fields-alone
+  -- its head is tidy
+  pub tidy-written : tidyHead (recordOf e) ≡ true
+  unfolding tidyHead headNumbers notesOf
+  tidy-written =
+      let notes = notes-small in
+      rw (fields-alone, lt-ltb (flagsOf (e .actions)) 64 (flags-small (e .actions)), lt-ltb (e .actions .bytes .note + e .actions .packets .note * 8) 64 (omega arith))
 
   -- and its record could be
   pub good-written : goodRecord family (recordOf e) ≡ true
@@ -205,23 +237,43 @@ module _ (family : Family) (r : List ℕ) (good : goodRecord family r ≡ true) 
   unfolding goodRecord
   written-read = same-list (recordOf (entryOf r)) r (both (possible family (entryOf r)) (sameList (recordOf (entryOf r)) r) good .1)
 
-  pub good-flags : getD r (place 2) 0 < 64
-  good-flags =
-      let e = entryOf r in
-      let flags : getD r (place 2) 0 ≡ flagsOf (entryOf r .actions)
-      = ap (λ (s : List ℕ). getD s (place 2) 0) (sym written-read) ∙ flags-octet family (entryOf r) good-possible in
-      rw flags (flags-small (entryOf r .actions))
+  pub good-tidy : tidyHead r ≡ true
+  good-tidy = rw written-read at (tidy-written family (entryOf r) good-possible)
 
--- octets that are read are written as they stood, where they are as many as their length field says and have no other flag than the six
-written-back : (r : List ℕ) → Octets r → Measured r → getD r (place 2) 0 < 64 → recordOf (entryOf r) ≡ r
+-- what a tidy head has
+record Tidy (r : List ℕ) : Type 0 where
+  flags : numberAt 1 r (place 2) < 64
+  notes : numberAt 1 r (place 7) < 64
+  first : numberAt 1 r (place 8) ≡ 0
+  second : numberAt 1 r (place 9) ≡ 0
+  third : numberAt 1 r (place 10) ≡ 0
+
+tidy : (r : List ℕ) → tidyHead r ≡ true → Tidy r
+unfolding tidyHead readFields
+tidy r h =
+    let third = both _ (eqb (numberAt 1 r (place 10)) 0) h in
+    let second = both _ (eqb (numberAt 1 r (place 9)) 0) (third .0) in
+    let first = both _ (eqb (numberAt 1 r (place 8)) 0) (second .0) in
+    let low = both (ltb (numberAt 1 r (place 2)) 64) (ltb (numberAt 1 r (place 7)) 64) (first .0) in
+    record {
+      flags = ltb-true (numberAt 1 r (place 2)) 64 (low .0);
+      notes = ltb-true (numberAt 1 r (place 7)) 64 (low .1);
+      first = eqb-true (numberAt 1 r (place 8)) 0 (first .1);
+      second = eqb-true (numberAt 1 r (place 9)) 0 (second .1);
+      third = eqb-true (numberAt 1 r (place 10)) 0 (third .1);
+    }
+
+-- octets that are read are written as they stood, where they are as many as their length field says and their head is tidy
+written-back : (r : List ℕ) → Octets r → Measured r → tidyHead r ≡ true → recordOf (entryOf r) ≡ r
 unfolding recordOf entryOf headNumbers readFields actionsIn
-written-back r o long small =
+written-back r o long h =
+    let t = tidy r h in
     let n : length (drop headCost r) ≡ numberAt lengthWidth r 0 = length-drop headCost r ∙ omega arith in
-    let f
-    = flags-back (numberAt 1 r (place 2)) (numberAt 1 r (place 3)) (numberAt 8 r (place 4)) (numberAt 8 r (place 5)) (numberAt 8 r (place 6))
-    (rw (one-octet r (place 2)) small) in
+    let at : ℕ → ℕ = λ field. numberAt 8 r (place field) in
+    let f = flags-back (numberAt 1 r (place 2)) (numberAt 1 r (place 3)) (at 4) (at 5) (at 6) (numberAt 1 r (place 7)) (t .flags) in
+    let m = notes-back (numberAt 1 r (place 2)) (numberAt 1 r (place 3)) (at 4) (at 5) (at 6) (numberAt 1 r (place 7)) (t .notes) in
     let fields : headNumbers (entryOf r) ≡ readFields headWidths r 0
-    = ap₂ (λ (a b : ℕ). a ∷ numberAt 4 r (place 1) ∷ b ∷ numberAt 1 r (place 3) ∷ numberAt 8 r (place 4) ∷ numberAt 8 r (place 5) ∷ numberAt 8 r (place 6) ∷ []) n f in
+    = λ i. n i ∷ numberAt 4 r (place 1) ∷ f i ∷ numberAt 1 r (place 3) ∷ at 4 ∷ at 5 ∷ at 6 ∷ m i ∷ sym (t .first) i ∷ sym (t .second) i ∷ sym (t .third) i ∷ [] in
     ap (λ (l : List ℕ). writtenFields headWidths l ++ drop headCost r) fields
     ∙ ap (λ (l : List ℕ). l ++ drop headCost r) (back-fields headWidths r 0 o (omega arith)) ∙ take-append-drop headCost r
 
@@ -230,8 +282,9 @@ module _ (family : Family) (r : List ℕ) where
   never : (goodRecord family r ≡ true → ⊥) → false ≡ goodRecord family r
   never h = by-test (goodRecord family r) (λ t. absurd (h t)) (λ t. sym t)
 
-  pub good-no-flags : 64 ≤ getD r (place 2) 0 → false ≡ goodRecord family r
-  good-no-flags h = never (λ t. omega (arith, good-flags family r t))
+  pub good-untidy : (tidily : Bool) → tidily ≡ tidyHead r → not tidily ≡ true → false ≡ goodRecord family r
+  good-untidy tidily is h =
+      never (λ t. let z : false ≡ true = sym (not-true tidily h) ∙ is ∙ good-tidy family r t in apart (cc))
 
   module _ (actions : Actions) (acts : actions ≡ entryOf r .actions) (could : Bool) (tells : could ≡ couldBe actions) where
     pub good-no-actions : not could ≡ true → false ≡ goodRecord family r
@@ -241,11 +294,11 @@ module _ (family : Family) (r : List ℕ) where
         let z : false ≡ true = sym (not-true could h) ∙ tells ∙ ap couldBe acts ∙ c in
         apart (cc))
 
-    pub good-value : (plain : Bool) → Octets r → Measured r → getD r (place 2) 0 < 64 → not could ≡ false
+    pub good-value : (plain : Bool) → Octets r → Measured r → (tidily : Bool) → tidily ≡ tidyHead r → not tidily ≡ false → not could ≡ false
         → plain ≡ plainValue family (take (length r - headCost) (drop headCost r)) → plain ≡ goodRecord family r
     unfolding goodRecord possible entryOf readFields
-    good-value plain o long small h p =
+    good-value plain o long tidily is none h p =
         let c : couldBe (entryOf r .actions) ≡ true = sym (ap couldBe acts) ∙ sym tells ∙ not-false could h in
         let value = take-all (length r - headCost) (drop headCost r) (simp length-drop (omega arith)) in
-        let same : sameList (recordOf (entryOf r)) r ≡ true = rw (written-back r o long small) (list-same r) in
+        let same : sameList (recordOf (entryOf r)) r ≡ true = rw (written-back r o long (sym is ∙ not-false tidily none)) (list-same r) in
         rw (lt-ltb (numberAt 4 r (place 1)) (2 ^ 32) (number-small 4 r (place 1) o), c, same) (p ∙ ap (plainValue family) value ∙ sym (and-true _))

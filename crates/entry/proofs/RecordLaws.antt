@@ -14,7 +14,7 @@ use Rattle.octets.proofs.NumberLaws.{length-octetsOf, number-octets, octets-num
 use Rattle.octets.proofs.StoreLaws.{stored-none, stored-then, length-stored}
 use Rattle.action.specs.Actions.{valuesOf}
 use Rattle.entry.specs.Entry.{Entry}
-use Rattle.entry.specs.Record.{headWidths, widthOf, headCost, writtenFields, readFields, headNumbers, recordOf}
+use Rattle.entry.specs.Record.{headWidths, widthOf, headCost, writtenFields, readFields, spare, headNumbers, recordOf}
 
 -- as many numbers as widths, each within its width
 abbrev pub Fit : List ℕ → List ℕ → Type 0
@@ -96,7 +96,7 @@ unfolding writtenFields
 written-all ws ns start b at i place f h = sym (f .gives ∙ rw (drop-of-length-le ws h) (stored-none b place))
 
 -- how `write_record` comes to its record: there is room for the head, and the value is stored right behind it
-pub head-room : (at size room : ℕ) (numbers : List ℕ) → length numbers ≡ 7 → at + (headCost + size) ≤ room
+pub head-room : (at size room : ℕ) (numbers : List ℕ) → length numbers ≡ length headWidths → at + (headCost + size) ≤ room
     → at + length (writtenFields headWidths numbers) ≤ room
 head-room at size room numbers n h = omega (arith, length-written headWidths numbers n)
 
@@ -104,7 +104,7 @@ pub record-stored : (t head all values : List ℕ) (at : ℕ) (e : Entry) → va
     → head
     ≡ stored t at
     (writtenFields headWidths
-    (length (e .value) ∷ e .origin .originator ∷ getD values 0 0 ∷ getD values 1 0 ∷ getD values 2 0 ∷ getD values 3 0 ∷ getD values 4 0 ∷ []))
+    (length (e .value) ∷ e .origin .originator ∷ getD values 0 0 ∷ getD values 1 0 ∷ getD values 2 0 ∷ getD values 3 0 ∷ getD values 4 0 ∷ getD values 5 0 ∷ spare))
     → all ≡ stored head (at + headCost) (e .value) → all ≡ stored t at (recordOf e)
 unfolding recordOf headNumbers
 record-stored t head all values at e is room h k =

@@ -9,9 +9,9 @@ ghost use Rattle.octets.specs.Test.{sameList};
 ghost use Rattle.rule.specs.Shape.{shapeOf};
 ghost use Rattle.rule.specs.Component.{pairsFrom, prefixEnd, bodyEnd};
 ghost use Rattle.spelling.specs.Plain.{Length, Operator, bodyOf, plainFrom};
-ghost use Rattle.action.specs.Actions.{flagsOf, valuesOf};
+ghost use Rattle.action.specs.Actions.{flagsOf, notesOf, valuesOf};
 ghost use Rattle.entry.specs.Entry.{entryFor, plainValue};
-ghost use Rattle.entry.specs.Record.{headCost, writtenFields, recordOf, fieldIf, limitIf, actionsIn, entryOf, Measured, goodRecord};
+ghost use Rattle.entry.specs.Record.{headCost, writtenFields, recordOf, fieldIf, limitIf, actionsIn, entryOf, Measured, goodRecord, tidyHead};
 use action::Actions;
 use action::Given;
 use action::Limit;
@@ -35,7 +35,8 @@ use spelling::plain_operand;
 use spelling::plain_operator;
 use spelling::plain_pattern;
 
-// How many octets each field of a record's head has: value length, originator, flags, DSCP, each rate, redirect community.
+// How many octets each field of a record's head has: value length, originator, flags, DSCP, each rate, redirect community, notes, and each of
+// three that are zero.
 pub const LENGTH_WIDTH: usize = 2;
 
 const ORIGINATOR_WIDTH: usize = 4;
@@ -48,7 +49,11 @@ const RATE_WIDTH: usize = 8;
 
 const REDIRECT_WIDTH: usize = 8;
 
-// Where each field of the actions begins in a record: behind the fields before it.
+const NOTES_WIDTH: usize = 1;
+
+const SPARE_WIDTH: usize = 1;
+
+// Where each field from the flags on begins in a record: behind the fields before it.
 const FLAGS_PLACE: usize = LENGTH_WIDTH + ORIGINATOR_WIDTH;
 
 const DSCP_PLACE: usize = FLAGS_PLACE + FLAGS_WIDTH;
@@ -59,8 +64,16 @@ const PACKETS_PLACE: usize = BYTES_PLACE + RATE_WIDTH;
 
 const REDIRECT_PLACE: usize = PACKETS_PLACE + RATE_WIDTH;
 
+const NOTES_PLACE: usize = REDIRECT_PLACE + REDIRECT_WIDTH;
+
+const FIRST_SPARE: usize = NOTES_PLACE + NOTES_WIDTH;
+
+const SECOND_SPARE: usize = FIRST_SPARE + SPARE_WIDTH;
+
+const THIRD_SPARE: usize = SECOND_SPARE + SPARE_WIDTH;
+
 // The octets of a record's head.
-pub const HEAD_COST: usize = REDIRECT_PLACE + REDIRECT_WIDTH;
+pub const HEAD_COST: usize = THIRD_SPARE + SPARE_WIDTH;
 
 // What an announcement says of its rule: who announces it, and the actions.
 pub struct Head {
@@ -97,17 +110,28 @@ pub fn flags_of(actions: Actions) -> u8
     bytes + packets + sample + onward + marking + redirect
 }
 
-// The values of actions in the order of a record: flags, DSCP, byte rate, packet rate, redirect community.
-pub fn values_of(actions: Actions) -> [u64; 5]
+// The notes of actions: three bits for each rate, byte rate lowest.
+pub fn notes_of(actions: Actions) -> u64
+    ensures { λ r. ⌜ r ≡ notesOf actions ⌝ }
+{
+    let bytes = actions.bytes.note as u64;
+    let packets = actions.packets.note as u64;
+    bytes + packets * 8
+}
+
+// The values of actions in the order of a record: flags, DSCP, byte rate, packet rate, redirect community, notes.
+pub fn values_of(actions: Actions) -> [u64; 6]
     ensures { λ r. ⌜ r ≡ valuesOf actions ⌝ }
 {
     let flags = flags_of(actions);
+    let notes = notes_of(actions);
     [
         flags as u64,
         actions.marking.number,
         actions.bytes.number,
         actions.packets.number,
         actions.redirect.number,
+        notes,
     ]
 }
 
@@ -125,6 +149,10 @@ pub fn write_record(table: &mut [u8], at: usize, head: Head, value: &[u8])
         RATE_WIDTH,
         RATE_WIDTH,
         REDIRECT_WIDTH,
+        NOTES_WIDTH,
+        SPARE_WIDTH,
+        SPARE_WIDTH,
+        SPARE_WIDTH,
     ];
     let numbers = [
         value.len() as u64,
@@ -134,6 +162,10 @@ pub fn write_record(table: &mut [u8], at: usize, head: Head, value: &[u8])
         values[2],
         values[3],
         values[4],
+        values[5],
+        0,
+        0,
+        0,
     ];
     write_fields(&widths, &numbers, table, at);
     let start = at + HEAD_COST;
@@ -150,22 +182,25 @@ fn field_if(flags: u8, bit: u8, number: u64) -> Given
     }
 }
 
-// A rate with its flag.
-fn limit_if(flags: u8, bit: u8, number: u64) -> Limit
-    ensures { λ r. ⌜ r ≡ limitIf flags bit number ⌝ }
+// A rate with its flag and its note.
+fn limit_if(flags: u8, bit: u8, number: u64, note: u8) -> Limit
+    ensures { λ r. ⌜ r ≡ limitIf flags bit number note ⌝ }
 {
     Limit {
         present: flags & bit != 0,
         number,
+        note,
     }
 }
 
 // The actions that fields stand for.
-fn actions_in(flags: u8, dscp: u64, bytes: u64, packets: u64, redirect: u64) -> Actions
-    ensures { λ r. ⌜ r ≡ actionsIn flags dscp bytes packets redirect ⌝ }
+fn actions_in(flags: u8, dscp: u64, bytes: u64, packets: u64, redirect: u64, notes: u8) -> Actions
+    ensures { λ r. ⌜ r ≡ actionsIn flags dscp bytes packets redirect notes ⌝ }
 {
-    let byte_rate = limit_if(flags, 1, bytes);
-    let packet_rate = limit_if(flags, 2, packets);
+    let byte_note = notes % 8;
+    let packet_note = notes / 8 % 8;
+    let byte_rate = limit_if(flags, 1, bytes, byte_note);
+    let packet_rate = limit_if(flags, 2, packets, packet_note);
     let marking = field_if(flags, 16, dscp);
     let community = field_if(flags, 32, redirect);
     Actions {
@@ -187,7 +222,8 @@ pub fn record_actions(octets: &[u8]) -> Actions
     let bytes = number_at(RATE_WIDTH, octets, BYTES_PLACE);
     let packets = number_at(RATE_WIDTH, octets, PACKETS_PLACE);
     let redirect = number_at(REDIRECT_WIDTH, octets, REDIRECT_PLACE);
-    actions_in(flags, dscp as u64, bytes, packets, redirect)
+    let notes = octet_at(octets, NOTES_PLACE);
+    actions_in(flags, dscp as u64, bytes, packets, redirect, notes)
 }
 
 // Whether a prefix's body is its own plain spelling: only its last octet can have bits past the length.
@@ -279,13 +315,24 @@ pub fn is_plain_value(family: Family, value: &[u8]) -> bool
     }
 }
 
-// Whether a record, as long as its length field says, could be: no other flag than the six, actions that some communities give, and a
-// plain value.
+// Whether a head's octets that have bits to spare have none set: no bit beside six flags, none beside two notes, and three zeros.
+fn is_tidy_head(octets: &[u8]) -> bool
+    ensures { λ r. ⌜ r ≡ tidyHead (now (octets .entry)) ⌝ }
+{
+    let flags = octet_at(octets, FLAGS_PLACE);
+    let notes = octet_at(octets, NOTES_PLACE);
+    let first = octet_at(octets, FIRST_SPARE);
+    let second = octet_at(octets, SECOND_SPARE);
+    let third = octet_at(octets, THIRD_SPARE);
+    (flags < 64) & (notes < 64) & (first == 0) & (second == 0) & (third == 0)
+}
+
+// Whether a record, as long as its length field says, could be: a tidy head, actions that some communities give, and a plain value.
 pub fn is_good_record(family: Family, octets: &[u8]) -> bool
     requires { ⌜ Measured (now octets) ⌝ }
     ensures { λ r. ⌜ r ≡ goodRecord family (now (octets .entry)) ⌝ }
 {
-    if 64 <= octets[FLAGS_PLACE] {
+    if !is_tidy_head(octets) {
         return false;
     }
     let actions = record_actions(octets);

@@ -24,6 +24,7 @@ write-record-spec =
     (λ c. search needs)
     (λ c. search needs)
     (λ c. search needs)
+    (λ c. search needs)
     write-fields-requires
     (λ c. search needs)
     (λ c κs. search needs)
