@@ -21,6 +21,7 @@ use Rattle.rule.specs.Reading.{valueOf, oneRule}
 use Rattle.rule.proofs.ReadingLaws.{ReadRule, one-read}
 use Rattle.order.specs.Key.{keysOf}
 use Rattle.action.specs.declared.Actions.{Actions}
+use Rattle.action.specs.Actions.{notesOf}
 use Rattle.packet.specs.declared.Packet.{Packet}
 use Rattle.entry.specs.Entry.{entryFor}
 use Rattle.table.specs.declared.Soundness.{Soundness}
@@ -58,18 +59,19 @@ use Rattle.request.proofs.RequestLaws.{asked-rule}
 -- ---- announcing ----
 
 -- how `announced_of` comes to its answers
-pub announced-held : (number : ℕ) → number ≡ 0 → Held ≡ announcedOf number
-unfolding announcedOf
-announced-held number h = rw (eq-eqb number 0 h)
+module _ (actions : Actions) (number : ℕ) where
+  pub announced-held : (notes : ℕ) → number ≡ 0 → notes ≡ notesOf actions → Held notes ≡ announcedOf actions number
+  unfolding announcedOf
+  announced-held notes h n = rw (eq-eqb number 0 h, n)
 
-pub announced-refused : (number : ℕ) → (number ≡ 0 → ⊥) → NotAnnounced number 0 ≡ announcedOf number
-unfolding announcedOf
-announced-refused number h = rw (ne-eqb number 0 h)
+  pub announced-refused : (number ≡ 0 → ⊥) → NotAnnounced number 0 ≡ announcedOf actions number
+  unfolding announcedOf
+  announced-refused h = rw (ne-eqb number 0 h)
 
--- the answer for a change's number tells that number
-pub announced-told : (number : ℕ) → announcedTold (announcedOf number) .number ≡ number
-unfolding announcedOf
-announced-told number = by-test (eqb number 0) (λ h. rw h (sym (eqb-true number 0 h))) (λ h. rw h)
+  -- the answer for a change's number tells that number
+  pub announced-told : announcedTold (announcedOf actions number) .number ≡ number
+  unfolding announcedOf
+  announced-told = by-test (eqb number 0) (λ h. rw h (sym (eqb-true number 0 h))) (λ h. rw h)
 
 -- a promise from the equation for the outcome
 pub announce-kept : (family : Family) (policy : Policy) (a : Announcement) (t : List ℕ) (o : Outcome Announced) (answer : Announced) (exit : List ℕ)
@@ -103,13 +105,13 @@ module _ (family chosen : Family) (chose : chosen ≡ family) (policy : Policy) 
 
       pub announce-done : (told : Answer) (answer : Announced) (exit : List ℕ)
           → Leaves (changed chosen t (announce (entryFor (record { origin = a .origin; actions = actions }) (plain chosen (take (start + size - start) (drop start (a .rule))))) feasible)) told exit
-          → answer ≡ announcedOf (told .number) → Announces family policy a t answer exit (policy .routes ∷ a .rule ∷ a .communities ∷ [])
+          → answer ≡ announcedOf actions (told .number) → Announces family policy a t answer exit (policy .routes ∷ a .rule ∷ a .communities ∷ [])
       unfolding announcing
       announce-done told answer exit h says =
           let k = rw (add-sub-cancel-left start size) at h in
           rw (← chose)
-          (announce-kept chosen policy a t (outcome announcedOf (changed chosen t (announce (announcedEntry chosen a start size actions) feasible))) answer exit
-          (rw (was-sound chosen t s is used e .0, ← asks-so, f)) (says ∙ ap announcedOf (k .number)) (k .table))
+          (announce-kept chosen policy a t (outcome (announcedOf actions) (changed chosen t (announce (announcedEntry chosen a start size actions) feasible))) answer exit
+          (rw (was-sound chosen t s is used e .0, ← asks-so, f)) (says ∙ ap (announcedOf actions) (k .number)) (k .table))
 
 -- ---- withdrawing ----
 

@@ -24,7 +24,7 @@ use Rattle.order.specs.Key.{keysOf}
 use Rattle.order.specs.Precedence.{precedence}
 use Rattle.action.specs.declared.Reading.{Reading as ActionsReading}
 use Rattle.action.specs.declared.Reading.the-variants.{Read, Unsound}
-use Rattle.action.specs.Actions.{noActions, actionsOf, flagsOf, valuesOf}
+use Rattle.action.specs.Actions.{noActions, actionsOf, flagsOf, notesOf, valuesOf}
 use Rattle.entry.specs.Entry.{Entry}
 use Rattle.route.specs.declared.Origin.{Origin}
 use Rattle.route.specs.Route.{soundRoutes}
@@ -46,7 +46,7 @@ use Rattle.flowspec.specs.Announce.{announcedOf, announcedBy, announcing
 use Rattle.lookup.specs.Opening.{opening}
 use Rattle.flowspec.specs.Look.{noHead, lookingUp, firstMatch, matchPlace}
 use Rattle.flowspec.specs.Told.{Told, done, refused, readingTold, writingTold, comparisonTold, feasibilityTold, actionsTold, announcedTold, withdrawnTold, verdictTold, lookupTold, matchPlaceTold}
-use Rattle.flowspec.specs.Checks.{judgeChecks, announceChecks, Check, check, oneToSeven, told, endsThere, readChecks, readValues, writeChecks, writeValues, compareChecks, compareValues, actionsChecks, actionsValues, withdrawChecks, lookupChecks, lookupValues, firstMatchValues, isSound, actionsRead}
+use Rattle.flowspec.specs.Checks.{judgeChecks, announceChecks, announceValues, Check, check, oneToSeven, told, endsThere, readChecks, readValues, writeChecks, writeValues, compareChecks, compareValues, actionsChecks, actionsValues, withdrawChecks, lookupChecks, lookupValues, firstMatchValues, isSound, actionsRead}
 
 -- ---- reading ----
 
@@ -157,17 +157,17 @@ module _ (family : Family) (policy : Policy) (a : Announcement) (t : List ℕ) w
       ∷ check (hasRoom family t (announcedEntry family a (fieldSize (a .rule)) (fieldLength (a .rule)) (actionsRead c))) 11
       ∷ []
 
-  pub announce-tells : announcedTold (announcing family policy a t .answer) ≡ told (announceChecks family policy a t) (done [])
+  pub announce-tells : announcedTold (announcing family policy a t .answer) ≡ told (announceChecks family policy a t) (done (announceValues a))
   unfolding announcing requestOf readWithRoutes announcedOf
   announce-tells =
       by-test (soundTable family t)
       (λ s. by-test (soundRoutes family (policy .routes))
-      (λ r. rw (s, r) (go (oneRule family (a .rule)) refl (actionsOf (a .communities)) ∙ sym (read-first family (a .rule) (behindRule (actionsOf (a .communities))) (done []))))
+      (λ r. rw (s, r) (go (oneRule family (a .rule)) refl (actionsOf (a .communities)) ∙ sym (read-first family (a .rule) (behindRule (actionsOf (a .communities))) (done (announceValues a)))))
       (λ r. rw (s, r)))
       (λ s. rw s)
     where
       go : (r : Reading) → oneRule family (a .rule) ≡ r → (c : ActionsReading)
-          → announcedTold (announcedBy family a t (requestFor family policy a r c) .answer) ≡ afterReading r 0 (told (behindRule c) (done []))
+          → announcedTold (announcedBy family a t (requestFor family policy a r c) .answer) ≡ afterReading r 1 (told (behindRule c) (done (notesOf (actionsRead c) ∷ [])))
       go (NotRead number place) e c = refl
       go (Rule start size) e Unsound = refl
       go (Rule start size) e (Read actions) =
@@ -199,7 +199,7 @@ withdraw-tells family rule t =
 -- ---- looking up ----
 
 pub lookup-tells : (family : Family) (t packet : List ℕ) → lookupTold (lookingUp family t packet) ≡ told (lookupChecks family t packet) (done (lookupValues family t packet))
-unfolding lookingUp opening packetOf verdictFor verdictOf mergedOnto flagsOf
+unfolding lookingUp opening packetOf verdictFor verdictOf mergedOnto flagsOf notesOf
 lookup-tells family t packet =
     by-test (soundTable family t)
     (λ s. by-test (isUnusable family packet) (λ u. rw (s, u)) (λ u. rw (s, u) (go (collected (hit family noHead (fieldsOf family packet)) (entries t)))))

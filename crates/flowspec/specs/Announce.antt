@@ -11,6 +11,8 @@ use Rattle.rule.specs.declared.Reading.the-variants.{Rule, Refused as NotRead}
 use Rattle.spelling.specs.Plain.{plain}
 use Rattle.rule.specs.Reading.{valueOf, oneRule}
 use Rattle.order.specs.Key.{RuleKey, keysOf}
+use Rattle.action.specs.declared.Actions.{Actions}
+use Rattle.action.specs.Actions.{notesOf}
 use Rattle.entry.specs.Entry.{Entry}
 use Rattle.table.specs.Sound.{soundTable}
 use Rattle.table.specs.Change.{Changed, changed}
@@ -36,9 +38,10 @@ outcome answerOf c = record { answer = answerOf (c .number); table = c .table }
 abbrev pub refusal : {A : Type 0} → A → List ℕ → Outcome A
 refusal answer t = record { answer = answer; table = t }
 
--- The answer of an announcement for a change's number: at 0 the rule is held, and the refusals 8 and 11 carry place 0.
-unfoldable pub announcedOf : ℕ → Announced
-announcedOf number = cond (eqb number 0) Held (NotAnnounced number 0)
+-- The answer of an announcement, by its actions, for a change's number: at 0 the rule is held, and the notes of its rates are told; the
+-- refusals 8 and 11 carry place 0.
+unfoldable pub announcedOf : Actions → ℕ → Announced
+announcedOf actions number = cond (eqb number 0) (Held (notesOf actions)) (NotAnnounced number 0)
 
 -- What an announcement asks of a table once its input is read and judged: nothing, where that is refused; else to announce an entry,
 -- which is feasible or not.
@@ -50,7 +53,7 @@ announceOperation family a (Announce start size actions feasible) = announce (an
 abbrev pub announcedBy : Family → Announcement → List ℕ → Request → Outcome Announced
 announcedBy family a t (NoRequest number place) = refusal (NotAnnounced number place) t
 announcedBy family a t (Announce start size actions feasible) =
-    outcome announcedOf (changed family t (announceOperation family a (Announce start size actions feasible)))
+    outcome (announcedOf actions) (changed family t (announceOperation family a (Announce start size actions feasible)))
 
 -- 01: "Announce checks 10, 9, 1 to 7, 15, 13, 8, 11".
 unfoldable pub announcing : Family → Policy → Announcement → List ℕ → Outcome Announced

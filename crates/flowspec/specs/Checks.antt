@@ -20,7 +20,7 @@ use Rattle.order.specs.Precedence.{precedence}
 use Rattle.action.specs.declared.Actions.{Actions}
 use Rattle.action.specs.declared.Reading.{Reading as ActionsReading}
 use Rattle.action.specs.declared.Reading.the-variants.{Read, Unsound}
-use Rattle.action.specs.Actions.{noActions, actionsOf, valuesOf}
+use Rattle.action.specs.Actions.{noActions, actionsOf, notesOf, valuesOf}
 use Rattle.route.specs.declared.Origin.{Origin}
 use Rattle.route.specs.Route.{soundRoutes}
 use Rattle.packet.specs.Packet.{isUnusable, fieldsOf}
@@ -136,6 +136,14 @@ announceChecks family policy a table =
     ∷ check (isFeasible family policy (valueIn (a .rule)) (a .origin)) 8
     ∷ check (hasRoom family table (entryIn family a)) 11
     ∷ []
+
+-- The notes of the rates that communities ask for.
+abbrev pub notesIn : List ℕ → ℕ
+notesIn communities = notesOf (actionsRead (actionsOf communities))
+
+-- An announcement that is done answers those of its own communities.
+abbrev pub announceValues : Announcement → List ℕ
+announceValues a = notesIn (a .communities) ∷ []
 
 -- 01: "withdraw 10, 1 to 7, 15, 14".
 abbrev pub withdrawChecks : Family → List ℕ → List ℕ → List Check

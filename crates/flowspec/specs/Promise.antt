@@ -29,7 +29,7 @@ use Rattle.rule.specs.Value.{between}
 use Rattle.order.specs.Compare.{compareRules}
 use Rattle.flowspec.specs.Feasibility.{judgement}
 use Rattle.flowspec.specs.Told.{done, readingTold, writingTold, comparisonTold, feasibilityTold, actionsTold, announcedTold, withdrawnTold, lookupTold, matchPlaceTold}
-use Rattle.flowspec.specs.Checks.{told, readChecks, readValues, writeChecks, writeValues, compareChecks, compareValues, judgeChecks, actionsChecks, actionsValues, announceChecks, withdrawChecks, lookupChecks, lookupValues, firstMatchValues}
+use Rattle.flowspec.specs.Checks.{told, readChecks, readValues, writeChecks, writeValues, compareChecks, compareValues, judgeChecks, actionsChecks, actionsValues, announceChecks, announceValues, withdrawChecks, lookupChecks, lookupValues, firstMatchValues}
 
 -- Reading one rule: refusals 1 to 7, then 15.
 pub record ReadsOne (family : Family) (rule : List ℕ) (answer : Reading) (kept : List (List ℕ)) : Type 0 where
@@ -69,7 +69,7 @@ pub record ReadsActions (communities : List ℕ) (answer : ActionsReading) (kept
 pub record Announces (family : Family) (policy : Policy) (announcement : Announcement) (table : List ℕ)
     (answer : Announced) (exit : List ℕ) (kept : List (List ℕ)) : Type 0 where
   pub is : answer ≡ announcing family policy announcement table .answer
-  pub tells : announcedTold answer ≡ told (announceChecks family policy announcement table) (done [])
+  pub tells : announcedTold answer ≡ told (announceChecks family policy announcement table) (done (announceValues announcement))
   pub leaves : exit ≡ announcing family policy announcement table .table
   pub keeps : kept ≡ policy .routes ∷ announcement .rule ∷ announcement .communities ∷ []
 

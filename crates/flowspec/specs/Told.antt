@@ -67,31 +67,31 @@ abbrev pub feasibilityTold : Feasibility → Told
 feasibilityTold Feasible = done []
 feasibilityTold (NotFeasible number place) = refused number place 0
 
--- Flags, DSCP, byte rate, packet rate, redirect community; unsound actions are 13.
+-- Flags, DSCP, byte rate, packet rate, redirect community, notes; unsound actions are 13.
 abbrev pub actionsTold : ActionsReading → Told
 actionsTold (Read actions) = done (valuesOf actions)
-actionsTold Unsound = refused 13 0 5
+actionsTold Unsound = refused 13 0 6
 
--- No value: what announcing leaves is the table.
+-- The notes of the rule's rates. 2026-05: "Actions and announcement answer it".
 abbrev pub announcedTold : Announced → Told
-announcedTold Held = done []
-announcedTold (NotAnnounced number place) = refused number place 0
+announcedTold (Held notes) = done (notes ∷ [])
+announcedTold (NotAnnounced number place) = refused number place 1
 
 -- No value: what withdrawing leaves is the table.
 abbrev pub withdrawnTold : Withdrawn → Told
 withdrawnTold Done = done []
 withdrawnTold (NotWithdrawn number place) = refused number place 0
 
--- The count, then flags, DSCP, byte rate, packet rate and redirect community of the merged actions, in which T is never set; each is 0
--- where no rule matches.
+-- The count, then flags, DSCP, byte rate, packet rate, redirect community and notes of the merged actions, in which T is never set; each
+-- is 0 where no rule matches.
 abbrev pub verdictTold : Verdict → Told
-verdictTold Unmatched = done (replicate 6 0)
+verdictTold Unmatched = done (replicate 7 0)
 verdictTold (Matched actions count) = done (count ∷ valuesOf actions)
 
 -- The verdict's, where the packet was looked up.
 abbrev pub lookupTold : Looked → Told
 lookupTold (Answered verdict) = verdictTold verdict
-lookupTold (NotLookedUp number place) = refused number place 6
+lookupTold (NotLookedUp number place) = refused number place 7
 
 -- A part of a table, by its start and length.
 abbrev pub placeValues : ℕ → ℕ → List ℕ

@@ -8,6 +8,7 @@ ghost use Rattle.flowspec.specs.Feasibility.{feasibilityOf};
 ghost use Rattle.request.specs.Input.{announcementOf, policyOf};
 ghost use Rattle.flowspec.specs.Promise.{ReadsOne, WritesOne, ComparesTwo, JudgesOne, ReadsActions, Announces, Withdraws, LooksUp, LocatesFirst, FirstMatches};
 ghost use Rattle.flowspec.specs.Announce.{announcedOf, withdrawnOf};
+use action::Actions;
 use entry::Head;
 use lookup::Opening;
 use lookup::Verdict;
@@ -26,9 +27,9 @@ pub enum Feasibility {
     Refused { number: u8, place: usize },
 }
 
-// What announcing answers: that the table holds the rule, or a refusal.
+// What announcing answers: that the table holds the rule, with the notes of its rates, or a refusal.
 pub enum Announced {
-    Held,
+    Held { notes: u64 },
     Refused { number: u8, place: usize },
 }
 
@@ -117,12 +118,13 @@ pub fn read_actions(communities: &[u8]) -> action::Reading
     action::actions_of(communities)
 }
 
-// What the number of a change means for an announcement: at 0 the rule is held.
-fn announced_of(number: u8) -> Announced
-    ensures { λ r. ⌜ r ≡ announcedOf number ⌝ }
+// What the number of a change means for an announcement with actions: at 0 the rule is held, and the notes of its rates are told.
+fn announced_of(actions: Actions, number: u8) -> Announced
+    ensures { λ r. ⌜ r ≡ announcedOf actions number ⌝ }
 {
     if number == 0 {
-        return Announced::Held;
+        let notes = entry::notes_of(actions);
+        return Announced::Held { notes };
     }
     Announced::Refused { number, place: 0 }
 }
@@ -170,7 +172,7 @@ pub fn announce(
                     feasible,
                     &rule[start..end],
                 );
-                announced_of(answer.number)
+                announced_of(actions, answer.number)
             }
         },
     }

@@ -18,8 +18,8 @@ use Rattle.attribute.specs.Head.{isReach, isUnreach}
 use Rattle.attribute.specs.Rules.{reachRules, unreachRules}
 use Rattle.attribute.specs.Count.{countOf}
 use Rattle.attribute.proofs.CountLaws.{counted-refused, counted-all}
-use Rattle.update.specs.declared.Reached.{Reached}
-use Rattle.update.specs.declared.Reached.the-variants.{Rules as Announced, Refused as NotReached}
+use Rattle.update.specs.declared.RulesRead.{RulesRead}
+use Rattle.update.specs.declared.RulesRead.the-variants.{Rules as Announced, Refused as NotRead}
 use Rattle.update.specs.Checks.{reachCount, unreachCount, reachInput, unreachInput}
 use Rattle.update.specs.Apply.{decided}
 
@@ -49,21 +49,21 @@ module _ (family : Family) (a : List ℕ) (words : ℕ) (taken : Bool) (is : tak
 
 -- ---- a reach ----
 
-abbrev reachRead : Family → List ℕ → List ℕ → List ℕ → ℕ → Reached
+abbrev reachRead : Family → List ℕ → List ℕ → List ℕ → ℕ → RulesRead
 reachRead family routes a communities words =
     decided (reachInput family routes a communities words) (Announced (reachCount family a) (actionsRead (actionsOf communities)))
-    (λ number place. NotReached number place)
+    (λ number place. NotRead number place)
 
 module _ (family : Family) (routes a communities : List ℕ) (words : ℕ) (sound : Bool) (sound-is : sound ≡ soundRoutes family routes) where
-  pub reach-unsound : not sound ≡ true → NotReached 9 0 ≡ reachRead family routes a communities words
+  pub reach-unsound : not sound ≡ true → NotRead 9 0 ≡ reachRead family routes a communities words
   reach-unsound h = rw (← sound-is, not-true sound h)
 
   module _ (ok : not sound ≡ false) (taken : Bool) (is : taken ≡ isReach family a) where
-    pub reach-other : not taken ≡ true → NotReached 19 0 ≡ reachRead family routes a communities words
+    pub reach-other : not taken ≡ true → NotRead 19 0 ≡ reachRead family routes a communities words
     reach-other h = rw (← sound-is, not-false sound ok, ← is, not-true taken h)
 
     module _ (yes : not taken ≡ false) (counted : Counted) (counts : counted ≡ countOf (reachRules family a)) where
-      pub reach-refused : (number place : ℕ) → counted ≡ Refused number place → NotReached number place ≡ reachRead family routes a communities words
+      pub reach-refused : (number place : ℕ) → counted ≡ Refused number place → NotRead number place ≡ reachRead family routes a communities words
       reach-refused number place e =
           rw (← sound-is, not-false sound ok, ← is, not-false taken yes, counted-refused (reachRules family a) counted counts number place e)
 
@@ -71,11 +71,11 @@ module _ (family : Family) (routes a communities : List ℕ) (words : ℕ) (soun
         all : (reachRules family a .ending ≡ Accepted) × (reachCount family a ≡ count)
         all = counted-all (reachRules family a) counted counts count e
 
-        pub reach-actions : reading ≡ Unsound → NotReached 13 0 ≡ reachRead family routes a communities words
+        pub reach-actions : reading ≡ Unsound → NotRead 13 0 ≡ reachRead family routes a communities words
         reach-actions h = rw (← sound-is, not-false sound ok, ← is, not-false taken yes, all .0, ← reads, h)
 
         module _ (actions : Actions) (f : reading ≡ Read actions) where
-          pub reach-short : words < count → NotReached 16 0 ≡ reachRead family routes a communities words
+          pub reach-short : words < count → NotRead 16 0 ≡ reachRead family routes a communities words
           reach-short h = rw (← sound-is, not-false sound ok, ← is, not-false taken yes, all .0, all .1, ← reads, f, lt-leb _ _ h)
 
           pub reach-read : count ≤ words → Announced count actions ≡ reachRead family routes a communities words

@@ -9,7 +9,7 @@ use Rattle.action.specs.Actions.{actionsOf}
 use Rattle.route.specs.Route.{soundRoutes}
 use Rattle.table.specs.Sound.{soundTable}
 use Rattle.request.specs.Input.{Policy}
-use Rattle.flowspec.specs.Checks.{Check, check, oneToSeven, isSound}
+use Rattle.flowspec.specs.Checks.{Check, check, oneToSeven, isSound, notesIn}
 use Rattle.attribute.specs.Head.{isReach, isUnreach}
 use Rattle.attribute.specs.Rules.{reachRules, unreachRules}
 use Rattle.update.specs.Singles.{Reach}
@@ -17,6 +17,14 @@ use Rattle.update.specs.Singles.{Reach}
 -- How many rules a reach has.
 abbrev pub reachCount : Family → List ℕ → ℕ
 reachCount family attribute = length (reachRules family attribute .items)
+
+-- The notes of the rates that a reach announces each of its rules with.
+abbrev pub reachNotes : Reach → ℕ
+reachNotes reach = notesIn (reach .communities)
+
+-- What a reach is answered with: how many rules it has, and those notes.
+abbrev pub reachValues : Family → Reach → List ℕ
+reachValues family reach = reachCount family (reach .attribute) ∷ reachNotes reach ∷ []
 
 -- How many rules an unreach has.
 abbrev pub unreachCount : Family → List ℕ → ℕ

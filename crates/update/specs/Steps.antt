@@ -22,7 +22,7 @@ use Rattle.attribute.specs.Rules.{rulesFrom}
 use Rattle.update.specs.declared.Task.{Task}
 use Rattle.update.specs.declared.Task.the-variants.{Announce, Withdraw}
 use Rattle.update.specs.Singles.{Singles, eachRule}
-use Rattle.update.specs.Apply.{appliedAll}
+use Rattle.update.specs.Apply.{listed}
 
 -- What a task asks of a sound table for one rule, by its accepted value: to announce it, as it is judged, or to withdraw it.
 unfoldable pub ruleAsks : Family → List ℕ → Task → List ℕ → Op RuleKey Entry
@@ -57,5 +57,5 @@ pub record Prepared (family : Family) (task : Task) (attribute : List ℕ) (at :
 
 -- What the code leaves behind the last rule: the table, and the answer words.
 pub record LeavesAll (singles : Singles) (answers exit words : List ℕ) : Type 0 where
-  pub leaves : exit ≡ appliedAll singles answers .table
-  pub lists : words ≡ appliedAll singles answers .words
+  pub leaves : exit ≡ singles .table
+  pub lists : words ≡ listed singles answers

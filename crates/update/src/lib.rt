@@ -27,8 +27,8 @@ use rule::Family;
 use table::Answer;
 use table::Soundness;
 
-// What a reach asks once its input is read: how many rules it has and the actions of each, or a refusal.
-pub enum Reached {
+// What reading a reach gives: how many rules it has and the actions of each, or a refusal.
+pub enum RulesRead {
     Rules { count: usize, actions: Actions },
     Refused { number: u8, place: usize },
 }
@@ -39,8 +39,14 @@ pub enum Task {
     Withdraw,
 }
 
-// What a call with a whole attribute answers: how many rules it has, each with its number among the answer words, or a refusal.
-pub enum Applied {
+// What a reach answers: how many rules it has, each with its number among the answer words, and the notes of their rates, or a refusal.
+pub enum Reached {
+    Done { count: usize, notes: u64 },
+    Refused { number: u8, place: usize },
+}
+
+// What an unreach answers: how many rules it has, each with its number among the answer words, or a refusal.
+pub enum Unreached {
     Done(usize),
     Refused { number: u8, place: usize },
 }
@@ -78,37 +84,37 @@ fn read_reach(
     attribute: &[u8],
     communities: &[u8],
     words: usize,
-) -> Reached
+) -> RulesRead
     requires { ⌜ Fits family ⌝ }
-    ensures { λ r. ⌜ r ≡ decided (reachInput family (now (routes .entry)) (now (attribute .entry)) (now (communities .entry)) words) (Reached.Rules (reachCount family (now (attribute .entry))) (actionsRead (actionsOf (now (communities .entry))))) (λ number place. Reached.Refused number place) ⌝ }
+    ensures { λ r. ⌜ r ≡ decided (reachInput family (now (routes .entry)) (now (attribute .entry)) (now (communities .entry)) words) (RulesRead.Rules (reachCount family (now (attribute .entry))) (actionsRead (actionsOf (now (communities .entry))))) (λ number place. RulesRead.Refused number place) ⌝ }
 {
     if !route::sound_routes(family, routes) {
-        return Reached::Refused {
+        return RulesRead::Refused {
             number: 9,
             place: 0,
         };
     }
     if !attribute::is_reach(family, attribute) {
-        return Reached::Refused {
+        return RulesRead::Refused {
             number: 19,
             place: 0,
         };
     }
     match attribute::count_rules(family, attribute, attribute::REACH_HEAD) {
-        Counted::Refused { number, place } => Reached::Refused { number, place },
+        Counted::Refused { number, place } => RulesRead::Refused { number, place },
         Counted::Rules(count) => match action::actions_of(communities) {
-            action::Reading::Unsound => Reached::Refused {
+            action::Reading::Unsound => RulesRead::Refused {
                 number: 13,
                 place: 0,
             },
             action::Reading::Read(actions) => {
                 if words < count {
-                    return Reached::Refused {
+                    return RulesRead::Refused {
                         number: 16,
                         place: 0,
                     };
                 }
-                Reached::Rules { count, actions }
+                RulesRead::Rules { count, actions }
             }
         },
     }
@@ -191,20 +197,20 @@ pub fn reach(
     origin: Origin,
     communities: &[u8],
     answers: &mut [u32],
-) -> Applied
+) -> Reached
     ensures { λ r. ⌜ Reaches (familyOf family) (policyOf (now (routes .entry)) settings) (reachOf (now (attribute .entry)) origin (now (communities .entry))) (now (table .entry)) (now (answers .entry)) r (now (table .exit)) (now (answers .exit)) (now (routes .exit) ∷ now (attribute .exit) ∷ now (communities .exit) ∷ []) ⌝ }
 {
     let chosen = rule::family_of(family);
     match table::sound_table(chosen, table) {
-        Soundness::Unsound => Applied::Refused {
+        Soundness::Unsound => Reached::Refused {
             number: 10,
             place: 0,
         },
         Soundness::Sound(used) => {
             let words = answers.len();
             match read_reach(chosen, routes, attribute, communities, words) {
-                Reached::Refused { number, place } => Applied::Refused { number, place },
-                Reached::Rules { count, actions } => {
+                RulesRead::Refused { number, place } => Reached::Refused { number, place },
+                RulesRead::Rules { count, actions } => {
                     let head = Head { origin, actions };
                     let task = Task::Announce { head, settings };
                     apply_rules(
@@ -217,7 +223,8 @@ pub fn reach(
                         attribute::REACH_HEAD,
                         answers,
                     );
-                    Applied::Done(count)
+                    let notes = entry::notes_of(actions);
+                    Reached::Done { count, notes }
                 }
             }
         }
@@ -230,19 +237,19 @@ pub fn unreach(
     table: &mut [u8],
     attribute: &[u8],
     answers: &mut [u32],
-) -> Applied
+) -> Unreached
     ensures { λ r. ⌜ Unreaches (familyOf family) (now (attribute .entry)) (now (table .entry)) (now (answers .entry)) r (now (table .exit)) (now (answers .exit)) (now (attribute .exit) ∷ []) ⌝ }
 {
     let chosen = rule::family_of(family);
     match table::sound_table(chosen, table) {
-        Soundness::Unsound => Applied::Refused {
+        Soundness::Unsound => Unreached::Refused {
             number: 10,
             place: 0,
         },
         Soundness::Sound(used) => {
             let words = answers.len();
             match read_unreach(chosen, attribute, words) {
-                Counted::Refused { number, place } => Applied::Refused { number, place },
+                Counted::Refused { number, place } => Unreached::Refused { number, place },
                 Counted::Rules(count) => {
                     let routes = [0u32; 0];
                     apply_rules(
@@ -255,7 +262,7 @@ pub fn unreach(
                         attribute::UNREACH_HEAD,
                         answers,
                     );
-                    Applied::Done(count)
+                    Unreached::Done(count)
                 }
             }
         }

@@ -1,4 +1,4 @@
--- At 0 the rule is held.
+-- At 0 the rule is held, and its notes are told.
 use borrow.Author.Needs.{needs}
 use Rattle.flowspec.proofs.TableLaws.{announced-held, announced-refused}
 use Rattle.flowspec.proofs.announced_of.Statement.{statement}
@@ -11,4 +11,4 @@ returns-2 : tie.Need-returns-2
 returns-2 c = search (announced-refused, needs)
 
 pub announced-of-spec : {M : Type 1} → statement M
-announced-of-spec = tie.close (tie.spec returns returns-2)
+announced-of-spec = tie.close (tie.spec (λ c κs. search needs) returns returns-2)

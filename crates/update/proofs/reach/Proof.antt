@@ -60,11 +60,11 @@ returns-2 c = search (reach-refused, needs)
 
 returns-3 : tie.Need-returns-3
 returns-3 c =
-    let applied = c .before .before .before .before in
+    let applied = c .before .before .before .before .before in
     let k = applied .before .before .before in
     reach-done _ _ (chosen k .family-of .ensures) (policy k) (asked k) _ (start k .args .answers .now) _ (checked k .sound-table .ensures) _
     (reading k .before .before .used .given .1) _ (reading k .read-reach .ensures) _ _ (k .before .count .given .1)
-    (attribute-octets k) (origin-fits k) _ _ (applied .apply-rules .ensures)
+    (attribute-octets k) (origin-fits k) _ _ _ (c .notes-of .ensures) (applied .apply-rules .ensures)
 
 pub reach-spec : {M : Type 1} → statement M
 reach-spec =
@@ -78,6 +78,7 @@ reach-spec =
     (λ c. search needs)
     (λ c. search needs)
     apply-rules-requires
+    (λ c κs. search needs)
     (λ c. search needs)
     returns
     (λ c. search needs)
