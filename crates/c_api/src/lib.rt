@@ -1,11 +1,23 @@
-// The public calls for C and Rust. A slice is a pointer and a length, and `&mut [u64; 2]` is a `uint64_t out[2]`. Each function is the call in
-// words of its name (crate calls) for the family of its number, 4 for IPv4 and 6 for IPv6, and promises what that call does. No promise can name
-// a C function: rust/flowspec/tests/names.rs holds names, families and parameters to each other and to the header.
+// The public calls for C and Rust. A slice is a pointer and a length, and `&mut [u64; 2]` is a `uint64_t out[2]`. Each function but
+// `flowspec_interface` is the call in words of its name (crate calls) for the family of its number, 4 for IPv4 and 6 for IPv6, and promises
+// what that call does. No promise can name a C function: rust/flowspec/tests/names.rs holds names, families and parameters to each other and
+// to the header.
+ghost use mathlib.Core.Path.{_≡_};
 ghost use Rattle.rule.specs.Family.{ipv4, ipv6};
 ghost use Rattle.request.specs.Input.{originOf};
-ghost use Rattle.calls.specs.Word.{settingsIn};
+ghost use Rattle.calls.specs.Word.{interfaceNumber, settingsIn};
 ghost use Rattle.calls.specs.Promise.{ReadCall, WriteCall, CompareCall, FeasibleCall, ActionsCall, AnnounceCall, WithdrawCall, ReachCall, UnreachCall, LookupCall, FirstMatchCall};
 use rule::AddressFamily;
+
+// ---- The interface ----
+
+// The number of the interface, which the header has as FLOWSPEC_INTERFACE.
+#[no_mangle]
+pub extern "C" fn flowspec_interface() -> u64
+    ensures { λ r. ⌜ r ≡ interfaceNumber ⌝ }
+{
+    5
+}
 
 // ---- IPv4 (RFC 8955) ----
 
@@ -66,7 +78,7 @@ pub extern "C" fn flowspec4_feasible(
 
 // Reads the filtering actions of a rule's communities, whatever the rule's family.
 #[no_mangle]
-pub extern "C" fn flowspec4_actions(communities: &[u8], out: &mut [u64; 5]) -> u64
+pub extern "C" fn flowspec4_actions(communities: &[u8], out: &mut [u64; 6]) -> u64
     ensures { λ r. ⌜ ActionsCall
         (record { communities = now (communities .entry); out = now (out .entry) })
         r
@@ -84,6 +96,7 @@ pub extern "C" fn flowspec4_announce(
     rule: &[u8],
     originator: u32,
     communities: &[u8],
+    out: &mut [u64; 1],
 ) -> u64
     ensures { λ r. ⌜ AnnounceCall ipv4 (settingsIn «allow_no_destination») (originOf originator)
         (record {
@@ -91,6 +104,7 @@ pub extern "C" fn flowspec4_announce(
           routes = now (routes .entry);
           rule = now (rule .entry);
           communities = now (communities .entry);
+          out = now (out .entry);
         })
         r
         (record {
@@ -98,6 +112,7 @@ pub extern "C" fn flowspec4_announce(
           routes = now (routes .exit);
           rule = now (rule .exit);
           communities = now (communities .exit);
+          out = now (out .exit);
         }) ⌝ }
 {
     calls::announce(
@@ -108,6 +123,7 @@ pub extern "C" fn flowspec4_announce(
         rule,
         originator,
         communities,
+        out,
     )
 }
 
@@ -132,7 +148,7 @@ pub extern "C" fn flowspec4_reach(
     originator: u32,
     communities: &[u8],
     answers: &mut [u32],
-    out: &mut [u64; 1],
+    out: &mut [u64; 2],
 ) -> u64
     ensures { λ r. ⌜ ReachCall ipv4 (settingsIn «allow_no_destination») (originOf originator)
         (record {
@@ -194,7 +210,7 @@ pub extern "C" fn flowspec4_unreach(
 
 // Looks a packet up in a table.
 #[no_mangle]
-pub extern "C" fn flowspec4_lookup(table: &[u8], packet: &[u8], out: &mut [u64; 6]) -> u64
+pub extern "C" fn flowspec4_lookup(table: &[u8], packet: &[u8], out: &mut [u64; 7]) -> u64
     ensures { λ r. ⌜ LookupCall ipv4
         (record { table = now (table .entry); packet = now (packet .entry); out = now (out .entry) })
         r
@@ -280,6 +296,7 @@ pub extern "C" fn flowspec6_announce(
     rule: &[u8],
     originator: u32,
     communities: &[u8],
+    out: &mut [u64; 1],
 ) -> u64
     ensures { λ r. ⌜ AnnounceCall ipv6 (settingsIn «allow_no_destination») (originOf originator)
         (record {
@@ -287,6 +304,7 @@ pub extern "C" fn flowspec6_announce(
           routes = now (routes .entry);
           rule = now (rule .entry);
           communities = now (communities .entry);
+          out = now (out .entry);
         })
         r
         (record {
@@ -294,6 +312,7 @@ pub extern "C" fn flowspec6_announce(
           routes = now (routes .exit);
           rule = now (rule .exit);
           communities = now (communities .exit);
+          out = now (out .exit);
         }) ⌝ }
 {
     calls::announce(
@@ -304,6 +323,7 @@ pub extern "C" fn flowspec6_announce(
         rule,
         originator,
         communities,
+        out,
     )
 }
 
@@ -328,7 +348,7 @@ pub extern "C" fn flowspec6_reach(
     originator: u32,
     communities: &[u8],
     answers: &mut [u32],
-    out: &mut [u64; 1],
+    out: &mut [u64; 2],
 ) -> u64
     ensures { λ r. ⌜ ReachCall ipv6 (settingsIn «allow_no_destination») (originOf originator)
         (record {
@@ -390,7 +410,7 @@ pub extern "C" fn flowspec6_unreach(
 
 // Looks a packet up in a table.
 #[no_mangle]
-pub extern "C" fn flowspec6_lookup(table: &[u8], packet: &[u8], out: &mut [u64; 6]) -> u64
+pub extern "C" fn flowspec6_lookup(table: &[u8], packet: &[u8], out: &mut [u64; 7]) -> u64
     ensures { λ r. ⌜ LookupCall ipv6
         (record { table = now (table .entry); packet = now (packet .entry); out = now (out .entry) })
         r

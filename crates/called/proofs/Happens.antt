@@ -10,29 +10,29 @@ use Rattle.route.specs.declared.Origin.{Origin}
 use Rattle.route.specs.declared.Settings.{Settings}
 use Rattle.table.specs.Sound.{mostOctets}
 use Rattle.request.specs.Input.{announcementOf, policyOf}
-use Rattle.flowspec.specs.declared.Announced.{Announced}
 use Rattle.flowspec.specs.declared.Withdrawn.{Withdrawn}
-use Rattle.flowspec.specs.Told.{announcedTold, withdrawnTold}
-use Rattle.update.specs.declared.Applied.{Applied}
+use Rattle.flowspec.specs.declared.Withdrawn.the-variants.{Done, Refused as NotWithdrawn}
+use Rattle.flowspec.specs.Told.{Told, announcedTold, withdrawnTold}
 use Rattle.update.specs.Singles.{reachOf}
-use Rattle.update.specs.Apply.{appliedTold}
+use Rattle.update.specs.Apply.{reachedTold, unreachedTold}
 use Rattle.history.specs.History.{Call, announcement, withdrawal, AnswerTo, answerTold, Promised, emptyTable, HoldsExactly}
-use Rattle.history.specs.Attributes.{Attribute, reach, unreach, Event, single, whole, Asked, askedBy, endOfEvents, AskedCanBe, EventCanBe, WholePromised, EventsHappened, eventsOf, singlesOf}
+use Rattle.history.specs.Attributes.{Attribute, reach, unreach, AnswerToAll, wholeTold, Event, single, whole, Asked, askedBy, endOfEvents, AskedCanBe, EventCanBe, WholePromised, EventsHappened, eventsOf, singlesOf}
 use Rattle.history.proofs.AttributesHappen.{events-happen, of-these-asks, events-happen-from-empty, events-happen-only}
 use Rattle.calls.specs.Word.{wordOf, outAfter}
 use Rattle.calls.specs.Buffers.{AnnounceBuffers, WithdrawBuffers, ReachBuffers, UnreachBuffers}
 use Rattle.calls.specs.Promise.{AnnounceCall, WithdrawCall, ReachCall, UnreachCall}
 use Rattle.calls.proofs.CallLaws.{Tells, with-out, reaches, unreaches, announces, withdraws}
-use Rattle.called.specs.History.{answered, Returned, WholeReturned, AllReturned, asCalled, calledOf}
+use Rattle.called.specs.History.{answered, Returned, WholeReturned, AllReturned, outLent, asCalled, calledOf}
 use Rattle.called.proofs.HistoryLaws.{returned-happened, returned-holds}
 
 -- ---- what a call ensures is what a history asks of it ----
 
 module _ (family : Family) (settings : Settings) (origin : Origin) where
   pub announce-returned : (lent : AnnounceBuffers) (result : ℕ) (left : AnnounceBuffers) → AnnounceCall family settings origin lent result left
-      → Returned family (announcement (policyOf (lent .routes) settings) (announcementOf (lent .rule) origin (lent .communities))) (lent .table) result (left .table)
+      → let call = announcement (policyOf (lent .routes) settings) (announcementOf (lent .rule) origin (lent .communities)) in
+      Returned family call (lent .table) (record { call = call; entry = lent .out; result = result; exit = left .out; left = left .table })
   announce-returned lent result left p =
-      record { is = p .is; leaves = ap (λ (b : AnnounceBuffers). announces (b .table) (lent .routes) (lent .rule) (lent .communities)) (p .leaves) }
+      record { is = p .is; leaves = ap (λ (b : AnnounceBuffers). announces (b .table) (lent .routes) (lent .rule) (lent .communities) (b .out)) (p .leaves) }
 
   pub reach-returned : (lent : ReachBuffers) (result : ℕ) (left : ReachBuffers) → ReachCall family settings origin lent result left
       → let attribute = reach (policyOf (lent .routes) settings) (reachOf (lent .attribute) origin (lent .communities)) in
@@ -54,8 +54,10 @@ module _ (family : Family) (settings : Settings) (origin : Origin) where
 
 module _ (family : Family) where
   pub withdraw-returned : (lent : WithdrawBuffers) (result : ℕ) (left : WithdrawBuffers) → WithdrawCall family lent result left
-      → Returned family (withdrawal (lent .rule)) (lent .table) result (left .table)
-  withdraw-returned lent result left p = record { is = p .is; leaves = ap (λ (b : WithdrawBuffers). withdraws (b .table) (lent .rule)) (p .leaves) }
+      → Returned family (withdrawal (lent .rule)) (lent .table)
+      (record { call = withdrawal (lent .rule); entry = []; result = result; exit = []; left = left .table })
+  withdraw-returned lent result left p =
+      (record { is = p .is; leaves = ap (λ (b : WithdrawBuffers). withdraws (b .table) (lent .rule)) (p .leaves) }, refl)
 
   pub unreach-returned : (lent : UnreachBuffers) (result : ℕ) (left : UnreachBuffers) → UnreachCall family lent result left
       → WholeReturned family (unreach (lent .attribute)) (lent .table)
@@ -77,47 +79,53 @@ module _ (family : Family) where
 -- ---- a history at the door is one of calls in words ----
 
 -- the word of an answer and `out` after it are what is promised of this answer
-told-tells : (a b : Applied) → a ≡ b → (out : List ℕ) → Tells (appliedTold b) out (wordOf (appliedTold a)) (outAfter (appliedTold a) out)
-told-tells a b e out = record { is = ap (λ (x : Applied). wordOf (appliedTold x)) e; out = ap (λ (x : Applied). outAfter (appliedTold x) out) e }
+told-tells : {A : Type 0} (tells : A → Told) (a b : A) → a ≡ b → (out : List ℕ) → Tells (tells b) out (wordOf (tells a)) (outAfter (tells a) out)
+told-tells {A} tells a b e out = record { is = ap (λ (x : A). wordOf (tells x)) e; out = ap (λ (x : A). outAfter (tells x) out) e }
+
+-- a withdrawal has no value
+no-values : (answer : Withdrawn) → outAfter (withdrawnTold answer) [] ≡ []
+no-values Done = refl
+no-values (NotWithdrawn number place) = refl
 
 module _ (family : Family) where
   -- what is promised at the door is what a call in words returns, with the answer's word
-  promised-returned : (call : Call) (table : List ℕ) (answer : AnswerTo call) (left : List ℕ) → Promised family call table answer left
-      → Returned family call table (wordOf (answerTold call answer)) left
-  promised-returned (announcement policy a) table answer left p =
-      record {
-        is = ap (λ (c : Announced). wordOf (announcedTold c)) (p .is);
-        leaves = ap (λ (t : List ℕ). announces t (policy .routes) (a .rule) (a .communities)) (p .leaves);
-      }
-  promised-returned (withdrawal rule) table answer left p =
-      record {
-        is = ap (λ (c : Withdrawn). wordOf (withdrawnTold c)) (p .is);
-        leaves = ap (λ (t : List ℕ). withdraws t rule) (p .leaves);
-      }
+  promised-returned : (out : List ℕ) (call : Call) (table : List ℕ) (answer : AnswerTo call) (left : List ℕ) → Promised family call table answer left
+      → let told = answerTold call answer in
+      let lent = outLent call out in
+      Returned family call table (record { call = call; entry = lent; result = wordOf told; exit = outAfter told lent; left = left })
+  promised-returned out (announcement policy a) table answer left p =
+      rw (p .leaves) (with-out (announces _ _ _ _) (told-tells announcedTold answer _ (p .is) out))
+  promised-returned out (withdrawal rule) table answer left p = (
+    record {
+      is = ap (λ (c : Withdrawn). wordOf (withdrawnTold c)) (p .is);
+      leaves = ap (λ (t : List ℕ). withdraws t rule) (p .leaves);
+    },
+    no-values answer,
+  )
 
   module _ (out : List ℕ) where
-    whole-returned : (attribute : Attribute) (table lent : List ℕ) (answer : Applied) (left words : List ℕ)
+    whole-returned : (attribute : Attribute) (table lent : List ℕ) (answer : AnswerToAll attribute) (left words : List ℕ)
         → WholePromised family attribute table lent answer left words
         → WholeReturned family attribute table
         (record {
           attribute = attribute;
           lent = lent;
           entry = out;
-          result = wordOf (appliedTold answer);
-          exit = outAfter (appliedTold answer) out;
+          result = wordOf (wholeTold attribute answer);
+          exit = outAfter (wholeTold attribute answer) out;
           words = words;
           left = left;
         })
     whole-returned (reach policy r) table lent answer left words p =
-        rw (p .leaves, p .lists) (with-out (reaches _ _ _ _ _) (told-tells answer _ (p .is) out))
+        rw (p .leaves, p .lists) (with-out (reaches _ _ _ _ _) (told-tells reachedTold answer _ (p .is) out))
     whole-returned (unreach attribute) table lent answer left words p =
-        rw (p .leaves, p .lists) (with-out (unreaches _ _ _) (told-tells answer _ (p .is) out))
+        rw (p .leaves, p .lists) (with-out (unreaches _ _ _) (told-tells unreachedTold answer _ (p .is) out))
 
     -- **a history at the door is one of calls in words**
     pub happened-returned : (es : List Event) (table : List ℕ) → EventsHappened family table es → AllReturned family table (map (asCalled out) es)
     happened-returned [] table p = tt
     happened-returned (single m ∷ es) table p =
-        (promised-returned (m .call) table (m .answer) (m .left) (p .0), happened-returned es (m .left) (p .1))
+        (promised-returned out (m .call) table (m .answer) (m .left) (p .0), happened-returned es (m .left) (p .1))
     happened-returned (whole w ∷ es) table p =
         (whole-returned (w .attribute) table (w .lent) (w .answer) (w .left) (w .words) (p .0), happened-returned es (w .left) (p .1))
 

@@ -16,10 +16,12 @@ use Rattle.attribute.specs.declared.NextRule.the-variants.{Refused as NotRule}
 use Rattle.attribute.specs.Head.{reachHead, unreachHead}
 use Rattle.attribute.specs.Rules.{rulesFrom}
 use Rattle.attribute.proofs.RulesLaws.{says, rules-ind}
-use Rattle.update.specs.declared.Applied.{Applied}
-use Rattle.update.specs.declared.Applied.the-variants.{Done, Refused as NotApplied}
+use Rattle.update.specs.declared.Reached.{Reached}
+use Rattle.update.specs.declared.Reached.the-variants.{Done as AllAnnounced, Refused as NotReached}
+use Rattle.update.specs.declared.Unreached.{Unreached}
+use Rattle.update.specs.declared.Unreached.the-variants.{Done as AllWithdrawn, Refused as NotUnreached}
 use Rattle.update.specs.Singles.{Reach, announcingEach, withdrawingEach}
-use Rattle.update.specs.Checks.{reachChecks, unreachChecks}
+use Rattle.update.specs.Checks.{reachNotes, reachChecks, unreachChecks}
 use Rattle.update.specs.Apply.{Left, appliedAll, refusedWhole, reaching, unreaching}
 use Rattle.update.proofs.ApplyLaws.{decided-ind}
 
@@ -36,17 +38,17 @@ rules-refuse family a =
 
 -- ---- the two calls ----
 
-abbrev Applies : Applied → Type 0
-Applies (NotApplied number place) = Refusal number place
-Applies (Done count) = Unit {0}
+abbrev Reaches : Reached → Type 0
+Reaches (NotReached number place) = Refusal number place
+Reaches (AllAnnounced count notes) = Unit {0}
 
 pub not-reached : (family : Family) (policy : Policy) (reach : Reach) (t answers : List ℕ) (number place : ℕ)
-    → reaching family policy reach t answers .answer ≡ NotApplied number place → Refusal number place
+    → reaching family policy reach t answers .answer ≡ NotReached number place → Refusal number place
 unfolding reaching
 not-reached family policy reach t answers number place e =
-    subst Applies e
-    (decided-ind (λ (left : Left). Applies (left .answer)) (reachChecks family policy reach t answers)
-    (appliedAll (announcingEach family policy reach t) answers) (refusedWhole t answers) (λ hold. tt) each)
+    subst Reaches e
+    (decided-ind (λ (left : Left Reached). Reaches (left .answer)) (reachChecks family policy reach t answers)
+    (appliedAll (λ n. AllAnnounced n (reachNotes reach)) (announcingEach family policy reach t) answers) (refusedWhole NotReached t answers) (λ hold. tt) each)
   where
     each : Each Refuses (reachChecks family policy reach t answers)
     each = (
@@ -66,13 +68,17 @@ not-reached family policy reach t answers number place e =
       ),
     )
 
+abbrev Unreaches : Unreached → Type 0
+Unreaches (NotUnreached number place) = Refusal number place
+Unreaches (AllWithdrawn count) = Unit {0}
+
 pub not-unreached : (family : Family) (attribute t answers : List ℕ) (number place : ℕ)
-    → unreaching family attribute t answers .answer ≡ NotApplied number place → Refusal number place
+    → unreaching family attribute t answers .answer ≡ NotUnreached number place → Refusal number place
 unfolding unreaching
 not-unreached family attribute t answers number place e =
-    subst Applies e
-    (decided-ind (λ (left : Left). Applies (left .answer)) (unreachChecks family attribute t answers)
-    (appliedAll (withdrawingEach family attribute t) answers) (refusedWhole t answers) (λ hold. tt) each)
+    subst Unreaches e
+    (decided-ind (λ (left : Left Unreached). Unreaches (left .answer)) (unreachChecks family attribute t answers)
+    (appliedAll AllWithdrawn (withdrawingEach family attribute t) answers) (refusedWhole NotUnreached t answers) (λ hold. tt) each)
   where
     each : Each Refuses (unreachChecks family attribute t answers)
     each = (

@@ -11,7 +11,7 @@ use Rattle.rule.specs.declared.Reading.{Reading}
 use Rattle.rule.specs.declared.Reading.the-variants.{Rule, Refused as NotRead}
 use Rattle.rule.specs.Reading.{oneRule}
 use Rattle.rule.proofs.ReadingLaws.{one-refused}
-use Rattle.rule.proofs.Refusal.{Refusal, placeless}
+use Rattle.rule.proofs.Refusal.{Refusal}
 use Rattle.action.specs.declared.Actions.{Actions}
 use Rattle.action.specs.declared.Reading.the-variants.{Read, Unsound}
 use Rattle.action.specs.Actions.{valuesOf}
@@ -52,8 +52,9 @@ compares a b out = record { a = a; b = b; out = out }
 abbrev pub acts : List ℕ → List ℕ → ActionsBuffers
 acts communities out = record { communities = communities; out = out }
 
-abbrev pub announces : List ℕ → List ℕ → List ℕ → List ℕ → AnnounceBuffers
-announces table routes rule communities = record { table = table; routes = routes; rule = rule; communities = communities }
+abbrev pub announces : List ℕ → List ℕ → List ℕ → List ℕ → List ℕ → AnnounceBuffers
+announces table routes rule communities out =
+    record { table = table; routes = routes; rule = rule; communities = communities; out = out }
 
 abbrev pub withdraws : List ℕ → List ℕ → WithdrawBuffers
 withdraws table rule = record { table = table; rule = rule }
@@ -118,11 +119,11 @@ lookup-done Unmatched values entry h = rw h (done (verdictTold Unmatched .values
 lookup-done (Matched actions count) values entry h = rw h (done (verdictTold (Matched actions count) .values) entry)
 
 -- the words of a verdict
-pub unmatched-words : (v : Verdict) → v ≡ Unmatched → 0 ∷ 0 ∷ 0 ∷ 0 ∷ 0 ∷ 0 ∷ [] ≡ verdictTold v .values
+pub unmatched-words : (v : Verdict) → v ≡ Unmatched → 0 ∷ 0 ∷ 0 ∷ 0 ∷ 0 ∷ 0 ∷ 0 ∷ [] ≡ verdictTold v .values
 unmatched-words v e = rw e
 
 pub matched-words : (v : Verdict) (actions : Actions) (count : ℕ) (values : List ℕ) → v ≡ Matched actions count → values ≡ valuesOf actions
-    → count ∷ getD values 0 0 ∷ getD values 1 0 ∷ getD values 2 0 ∷ getD values 3 0 ∷ getD values 4 0 ∷ [] ≡ verdictTold v .values
+    → count ∷ getD values 0 0 ∷ getD values 1 0 ∷ getD values 2 0 ∷ getD values 3 0 ∷ getD values 4 0 ∷ getD values 5 0 ∷ [] ≡ verdictTold v .values
 matched-words v actions count values e h = rw (e, h)
 
 -- the first match, by its place with the lookup's number

@@ -24,18 +24,23 @@ use Rattle.action.specs.declared.Reading.{Reading as ActionsReading}
 use Rattle.action.specs.declared.Reading.the-variants.{Read, Unsound}
 use Rattle.lookup.specs.declared.Verdict.{Verdict}
 use Rattle.lookup.specs.declared.Verdict.the-variants.{Unmatched, Matched}
-use Rattle.request.specs.Input.{Policy}
+use Rattle.request.specs.Input.{Announcement, Policy}
+use Rattle.flowspec.specs.declared.Announced.{Announced}
+use Rattle.flowspec.specs.declared.Announced.the-variants.{Held, Refused as NotAnnounced}
+use Rattle.flowspec.specs.Announce.{announcing}
 use Rattle.flowspec.specs.declared.Looked.{Looked}
 use Rattle.flowspec.specs.declared.Looked.the-variants.{Answered, Refused as NotLookedUp}
 use Rattle.flowspec.specs.declared.MatchPlace.{MatchPlace}
 use Rattle.flowspec.specs.Look.{lookingUp}
-use Rattle.flowspec.specs.Told.{refused, readingTold, writingTold, comparisonTold, actionsTold, verdictTold, lookupTold, matchPlaceTold}
-use Rattle.update.specs.declared.Applied.{Applied}
-use Rattle.update.specs.declared.Applied.the-variants.{Done, Refused as NotApplied}
+use Rattle.flowspec.specs.Told.{refused, readingTold, writingTold, comparisonTold, actionsTold, announcedTold, verdictTold, lookupTold, matchPlaceTold}
+use Rattle.update.specs.declared.Reached.{Reached}
+use Rattle.update.specs.declared.Reached.the-variants.{Done as AllAnnounced, Refused as NotReached}
+use Rattle.update.specs.declared.Unreached.{Unreached}
+use Rattle.update.specs.declared.Unreached.the-variants.{Done as AllWithdrawn, Refused as NotUnreached}
 use Rattle.update.specs.Singles.{Reach}
-use Rattle.update.specs.Apply.{reaching, unreaching, appliedTold}
+use Rattle.update.specs.Apply.{reaching, unreaching, reachedTold, unreachedTold}
 use Rattle.calls.specs.Word.{NumberTells}
-use Rattle.calls.proofs.Places.{not-compared, not-looked-up}
+use Rattle.calls.proofs.Places.{not-compared, not-announced, not-looked-up}
 use Rattle.calls.proofs.AttributePlaces.{not-reached, not-unreached}
 
 -- a refusal's number is not 0
@@ -72,15 +77,29 @@ pub actions-number : (r : ActionsReading) → NumberTells (actionsTold r)
 actions-number (Read actions) = refl
 actions-number Unsound = refl
 
-applied-number : (answer : Applied) → ((number place : ℕ) → answer ≡ NotApplied number place → Refusal number place) → NumberTells (appliedTold answer)
-applied-number (Done count) h = refl
-applied-number (NotApplied number place) h = refusal-tells number place 1 (h number place refl)
+pub announce-number : (family : Family) (policy : Policy) (a : Announcement) (t : List ℕ) → NumberTells (announcedTold (announcing family policy a t .answer))
+announce-number family policy a t =
+    go (announcing family policy a t .answer) refl
+  where
+    go : (r : Announced) → announcing family policy a t .answer ≡ r → NumberTells (announcedTold r)
+    go (Held notes) e = refl
+    go (NotAnnounced number place) e = refusal-tells number place 1 (not-announced family policy a t number place e)
 
-pub reach-number : (family : Family) (policy : Policy) (reach : Reach) (t answers : List ℕ) → NumberTells (appliedTold (reaching family policy reach t answers .answer))
-reach-number family policy reach t answers = applied-number (reaching family policy reach t answers .answer) (not-reached family policy reach t answers)
+pub reach-number : (family : Family) (policy : Policy) (reach : Reach) (t answers : List ℕ) → NumberTells (reachedTold (reaching family policy reach t answers .answer))
+reach-number family policy reach t answers =
+    go (reaching family policy reach t answers .answer) refl
+  where
+    go : (r : Reached) → reaching family policy reach t answers .answer ≡ r → NumberTells (reachedTold r)
+    go (AllAnnounced count notes) e = refl
+    go (NotReached number place) e = refusal-tells number place 2 (not-reached family policy reach t answers number place e)
 
-pub unreach-number : (family : Family) (attribute t answers : List ℕ) → NumberTells (appliedTold (unreaching family attribute t answers .answer))
-unreach-number family attribute t answers = applied-number (unreaching family attribute t answers .answer) (not-unreached family attribute t answers)
+pub unreach-number : (family : Family) (attribute t answers : List ℕ) → NumberTells (unreachedTold (unreaching family attribute t answers .answer))
+unreach-number family attribute t answers =
+    go (unreaching family attribute t answers .answer) refl
+  where
+    go : (r : Unreached) → unreaching family attribute t answers .answer ≡ r → NumberTells (unreachedTold r)
+    go (AllWithdrawn count) e = refl
+    go (NotUnreached number place) e = refusal-tells number place 1 (not-unreached family attribute t answers number place e)
 
 judged-number : (verdict : Verdict) → NumberTells (verdictTold verdict)
 judged-number Unmatched = refl
@@ -92,7 +111,7 @@ lookup-number family t octets =
   where
     go : (r : Looked) → lookingUp family t octets ≡ r → NumberTells (lookupTold r)
     go (Answered verdict) e = judged-number verdict
-    go (NotLookedUp number place) e = refusal-tells number place 6 (not-looked-up family t octets number place e)
+    go (NotLookedUp number place) e = refusal-tells number place 7 (not-looked-up family t octets number place e)
 
 pub first-match-number : (found : MatchPlace) → NumberTells (matchPlaceTold found)
 first-match-number found = by-test (eqb (found .number) 0) (λ h. rw h) (λ h. rw h (sym h))

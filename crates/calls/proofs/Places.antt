@@ -24,6 +24,7 @@ use Rattle.order.specs.Key.{RuleKey, keysOf, keyOrder}
 use Rattle.order.specs.Precedence.{precedence}
 use Rattle.route.specs.declared.Origin.{Origin}
 use Rattle.route.specs.Route.{soundRoutes}
+use Rattle.action.specs.declared.Actions.{Actions}
 use Rattle.action.specs.declared.Reading.{Reading as ActionsReading}
 use Rattle.action.specs.declared.Reading.the-variants.{Read, Unsound}
 use Rattle.action.specs.Actions.{actionsOf}
@@ -47,7 +48,7 @@ use Rattle.flowspec.specs.declared.Withdrawn.{Withdrawn}
 use Rattle.flowspec.specs.declared.Withdrawn.the-variants.{Done, Refused as NotWithdrawn}
 use Rattle.flowspec.specs.declared.Looked.{Looked}
 use Rattle.flowspec.specs.declared.Looked.the-variants.{Answered, Refused as NotLookedUp}
-use Rattle.flowspec.specs.Told.{announcedTold, withdrawnTold}
+use Rattle.flowspec.specs.Told.{withdrawnTold}
 use Rattle.order.specs.Compare.{comparisonOf, compareRead, compareRules}
 use Rattle.request.specs.Input.{Announcement, Policy}
 use Rattle.request.specs.Judging.{readWithRoutes, isFeasible}
@@ -116,17 +117,13 @@ not-feasible family policy rule origin number place e = subst Judges e (go (read
 
 abbrev Announces : Announced → Type 0
 Announces (NotAnnounced number place) = Refusal number place
-Announces Held = Unit {0}
+Announces (Held notes) = Unit {0}
 
 abbrev Withdraws : Withdrawn → Type 0
 Withdraws (NotWithdrawn number place) = Refusal number place
 Withdraws Done = Unit {0}
 
 -- an answer is near where each of its refusals is one of 01's table
-pub announced-near : (c : Announced) → ((number place : ℕ) → c ≡ NotAnnounced number place → Refusal number place) → announcedTold c .place ≤ mostValue
-announced-near (NotAnnounced number place) h = h number place refl .near
-announced-near Held h = omega arith
-
 pub withdrawn-near : (c : Withdrawn) → ((number place : ℕ) → c ≡ NotWithdrawn number place → Refusal number place) → withdrawnTold c .place ≤ mostValue
 withdrawn-near (NotWithdrawn number place) h = h number place refl .near
 withdrawn-near Done h = omega arith
@@ -142,9 +139,9 @@ changed-known family t (announce e false) h = omega arith
 changed-known family t (withdraw k) h =
     by-test (isHeld (lookup keyOrder (entryKey family) k (entries t))) (λ r. rw r (omega arith)) (λ r. rw r (omega arith))
 
-announces : (number : ℕ) → number ≤ highestNumber → Announces (announcedOf number)
+announces : (actions : Actions) (number : ℕ) → number ≤ highestNumber → Announces (announcedOf actions number)
 unfolding announcedOf
-announces number h =
+announces actions number h =
     by-test (eqb number 0) (λ t. rw t tt) (λ t. let n = eqb-false number 0 t in rw t (placeless number (omega arith) h))
 
 withdraws : (number : ℕ) → number ≤ highestNumber → Withdraws (withdrawnOf number)
@@ -177,7 +174,7 @@ module _ (family : Family) (policy : Policy) (a : Announcement) where
       go : (r : Request) → Asks r → Announces (announcedBy family a t r .answer)
       go (NoRequest number place) h = h
       go (Announce start size actions feasible) h =
-          announces _ (changed-known family t (announce (announcedEntry family a start size actions) feasible) (λ n z. apart (cc)))
+          announces actions _ (changed-known family t (announce (announcedEntry family a start size actions) feasible) (λ n z. apart (cc)))
 
 pub not-withdrawn : (family : Family) (rule t : List ℕ) (number place : ℕ) → withdrawing family rule t .answer ≡ NotWithdrawn number place → Refusal number place
 unfolding withdrawing

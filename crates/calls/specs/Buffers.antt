@@ -30,19 +30,20 @@ pub record ActionsBuffers : Type 0 where
   pub communities : List ℕ
   pub out : List ℕ
 
--- Those of `announce`, of which `table` alone is written.
+-- Those of `announce`: `out` has the notes.
 pub record AnnounceBuffers : Type 0 where
   pub table : List ℕ
   pub routes : List ℕ
   pub rule : List ℕ
   pub communities : List ℕ
+  pub out : List ℕ
 
--- Those of `withdraw`, likewise.
+-- Those of `withdraw`, of which `table` alone is written.
 pub record WithdrawBuffers : Type 0 where
   pub table : List ℕ
   pub rule : List ℕ
 
--- Those of `reach`: `answers` lists a number for each rule, and `out` has their count.
+-- Those of `reach`: `answers` lists a number for each rule, and `out` has their count and the notes.
 pub record ReachBuffers : Type 0 where
   pub table : List ℕ
   pub routes : List ℕ
@@ -51,7 +52,7 @@ pub record ReachBuffers : Type 0 where
   pub answers : List ℕ
   pub out : List ℕ
 
--- Those of `unreach`, likewise.
+-- Those of `unreach`: `out` has the count alone.
 pub record UnreachBuffers : Type 0 where
   pub table : List ℕ
   pub attribute : List ℕ

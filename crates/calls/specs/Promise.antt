@@ -17,7 +17,7 @@ use Rattle.flowspec.specs.Announce.{announcing, withdrawing}
 use Rattle.flowspec.specs.Look.{lookingUp, matchPlace}
 use Rattle.flowspec.specs.Told.{Told, readingTold, writingTold, comparisonTold, feasibilityTold, actionsTold, announcedTold, withdrawnTold, lookupTold, matchPlaceTold}
 use Rattle.update.specs.Singles.{reachOf}
-use Rattle.update.specs.Apply.{reaching, unreaching, appliedTold}
+use Rattle.update.specs.Apply.{reaching, unreaching, reachedTold, unreachedTold}
 use Rattle.calls.specs.Word.{wordOf, outAfter}
 use Rattle.calls.specs.Buffers.{ReadBuffers, WriteBuffers, CompareBuffers, FeasibleBuffers, ActionsBuffers, AnnounceBuffers, WithdrawBuffers, ReachBuffers, UnreachBuffers, LookupBuffers}
 
@@ -62,8 +62,15 @@ abbrev pub AnnounceCall : Family → Settings → Origin → AnnounceBuffers →
 AnnounceCall family settings origin lent result left =
     let announcement = announcementOf (lent .rule) origin (lent .communities) in
     let outcome = announcing family (policyOf (lent .routes) settings) announcement (lent .table) in
-    Returns (announcedTold (outcome .answer))
-    (record { table = outcome .table; routes = lent .routes; rule = lent .rule; communities = lent .communities })
+    let answer = announcedTold (outcome .answer) in
+    Returns answer
+    (record {
+      table = outcome .table;
+      routes = lent .routes;
+      rule = lent .rule;
+      communities = lent .communities;
+      out = outAfter answer (lent .out);
+    })
     result left
 
 -- `withdraw`: refusals 10, 1 to 7, 15, 14, none of which changes an octet.
@@ -77,7 +84,7 @@ abbrev pub ReachCall : Family → Settings → Origin → ReachBuffers → ℕ �
 ReachCall family settings origin lent result left =
     let reach = reachOf (lent .attribute) origin (lent .communities) in
     let applied = reaching family (policyOf (lent .routes) settings) reach (lent .table) (lent .answers) in
-    let answer = appliedTold (applied .answer) in
+    let answer = reachedTold (applied .answer) in
     Returns answer
     (record {
       table = applied .table;
@@ -93,7 +100,7 @@ ReachCall family settings origin lent result left =
 abbrev pub UnreachCall : Family → UnreachBuffers → ℕ → UnreachBuffers → Type 0
 UnreachCall family lent result left =
     let applied = unreaching family (lent .attribute) (lent .table) (lent .answers) in
-    let answer = appliedTold (applied .answer) in
+    let answer = unreachedTold (applied .answer) in
     Returns answer
     (record { table = applied .table; attribute = lent .attribute; answers = applied .words; out = outAfter answer (lent .out) })
     result left

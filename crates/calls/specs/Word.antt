@@ -1,5 +1,5 @@
 -- The one word that a call returns, and what it leaves in `out`, by what the door's answer says in 01's terms (flowspec/specs/Told.antt);
--- and what the numbers that a call is handed beside its buffers say at the door.
+-- what the numbers that a call is handed beside its buffers say at the door; and the number of the interface itself.
 use Prim.Native.Nat.{ℕ, _+_, _*_, _^_}
 use mathlib.Core.Path.{_≡_}
 use mathlib.Core.Bool.{cond, not}
@@ -31,3 +31,8 @@ NumberTells a = a .grants ≡ eqb (a .number) 0
 -- The header's `allow_no_destination`: 0 is off and any other number on. 01: "A setting may allow rules with no destination".
 abbrev pub settingsIn : ℕ → Settings
 settingsIn allow = settingsOf (not (eqb allow 0))
+
+-- The number of the interface for C: 5 of 2026-05, the request that last changed a parameter of a call or the words of an `out`. A request that
+-- changes them again raises it.
+abbrev pub interfaceNumber : ℕ
+interfaceNumber = 5

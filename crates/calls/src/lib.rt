@@ -4,7 +4,7 @@ ghost use mathlib.Core.Path.{_≡_};
 ghost use Prim.Native.Nat.{_≤_};
 ghost use Rattle.rule.specs.Family.{familyOf};
 ghost use Rattle.rule.specs.Value.{mostValue};
-ghost use Rattle.flowspec.specs.Told.{announcedTold, withdrawnTold, verdictTold};
+ghost use Rattle.flowspec.specs.Told.{withdrawnTold, verdictTold};
 ghost use Rattle.request.specs.Input.{originOf};
 ghost use Rattle.calls.specs.Word.{word, wordOf, settingsIn};
 ghost use Rattle.calls.specs.Promise.{ReadCall, WriteCall, CompareCall, FeasibleCall, ActionsCall, AnnounceCall, WithdrawCall, ReachCall, UnreachCall, LookupCall, FirstMatchCall};
@@ -19,7 +19,8 @@ use route::Settings;
 use rule::AddressFamily;
 use rule::Reading;
 use spelling::Writing;
-use update::Applied;
+use update::Reached;
+use update::Unreached;
 
 // The word of a refusal: its number in the low 32 bits, its place in the high 32.
 fn word_of(number: u8, place: usize) -> u64
@@ -27,17 +28,6 @@ fn word_of(number: u8, place: usize) -> u64
     ensures { λ r. ⌜ r ≡ word number place ⌝ }
 {
     number as u64 + place as u64 * 0x1_0000_0000
-}
-
-// The word of an announcement's answer: its refusal's, and 0 where the rule is held.
-fn announced_word(answer: Announced) -> u64
-    requires { ⌜ announcedTold answer .place ≤ mostValue ⌝ }
-    ensures { λ r. ⌜ r ≡ wordOf (announcedTold answer) ⌝ }
-{
-    match answer {
-        Announced::Refused { number, place } => word_of(number, place),
-        Announced::Held => 0,
-    }
 }
 
 // The word of a withdrawal's answer: its refusal's, and 0 where it is done.
@@ -61,11 +51,11 @@ fn settings_in(allow: u32) -> Settings
 }
 
 // The words of a verdict: the count and the merged actions' values, all 0 where no rule matches.
-fn words_of(verdict: Verdict) -> [u64; 6]
+fn words_of(verdict: Verdict) -> [u64; 7]
     ensures { λ r. ⌜ r ≡ verdictTold verdict .values ⌝ }
 {
     match verdict {
-        Verdict::Unmatched => [0; 6],
+        Verdict::Unmatched => [0; 7],
         Verdict::Matched { actions, count } => {
             let values = entry::values_of(actions);
             [
@@ -75,6 +65,7 @@ fn words_of(verdict: Verdict) -> [u64; 6]
                 values[2],
                 values[3],
                 values[4],
+                values[5],
             ]
         }
     }
@@ -157,8 +148,8 @@ pub fn feasible(
     }
 }
 
-// Reads the filtering actions of a rule's communities. out: flags, DSCP, byte rate, packet rate, redirect.
-pub fn actions(communities: &[u8], out: &mut [u64; 5]) -> u64
+// Reads the filtering actions of a rule's communities. out: flags, DSCP, byte rate, packet rate, redirect, notes.
+pub fn actions(communities: &[u8], out: &mut [u64; 6]) -> u64
     ensures { λ r. ⌜ ActionsCall
         (record { communities = now (communities .entry); out = now (out .entry) })
         r
@@ -173,7 +164,7 @@ pub fn actions(communities: &[u8], out: &mut [u64; 5]) -> u64
     }
 }
 
-// Announces a rule with its actions to a table; `allow_no_destination` is on where it is not 0.
+// Announces a rule with its actions to a table; `allow_no_destination` is on where it is not 0. out: the notes.
 pub fn announce(
     family: AddressFamily,
     table: &mut [u8],
@@ -182,6 +173,7 @@ pub fn announce(
     rule: &[u8],
     originator: u32,
     communities: &[u8],
+    out: &mut [u64; 1],
 ) -> u64
     ensures { λ r. ⌜ AnnounceCall (familyOf family) (settingsIn «allow_no_destination») (originOf originator)
         (record {
@@ -189,6 +181,7 @@ pub fn announce(
           routes = now (routes .entry);
           rule = now (rule .entry);
           communities = now (communities .entry);
+          out = now (out .entry);
         })
         r
         (record {
@@ -196,12 +189,18 @@ pub fn announce(
           routes = now (routes .exit);
           rule = now (rule .exit);
           communities = now (communities .exit);
+          out = now (out .exit);
         }) ⌝ }
 {
     let settings = settings_in(allow_no_destination);
     let origin = Origin { originator };
-    let answer = flowspec::announce(family, table, settings, routes, rule, origin, communities);
-    announced_word(answer)
+    match flowspec::announce(family, table, settings, routes, rule, origin, communities) {
+        Announced::Refused { number, place } => word_of(number, place),
+        Announced::Held { notes } => {
+            *out = [notes];
+            0
+        }
+    }
 }
 
 // Withdraws a rule from a table.
@@ -216,7 +215,7 @@ pub fn withdraw(family: AddressFamily, table: &mut [u8], rule: &[u8]) -> u64
 }
 
 // Announces the rules of an MP_REACH_NLRI attribute to a table; `allow_no_destination` is on where it is not 0. answers: a number for each
-// rule. out: how many rules there are.
+// rule. out: how many rules there are, and the notes.
 pub fn reach(
     family: AddressFamily,
     table: &mut [u8],
@@ -226,7 +225,7 @@ pub fn reach(
     originator: u32,
     communities: &[u8],
     answers: &mut [u32],
-    out: &mut [u64; 1],
+    out: &mut [u64; 2],
 ) -> u64
     ensures { λ r. ⌜ ReachCall (familyOf family) (settingsIn «allow_no_destination») (originOf originator)
         (record {
@@ -259,9 +258,9 @@ pub fn reach(
         communities,
         answers,
     ) {
-        Applied::Refused { number, place } => word_of(number, place),
-        Applied::Done(count) => {
-            *out = [count as u64];
+        Reached::Refused { number, place } => word_of(number, place),
+        Reached::Done { count, notes } => {
+            *out = [count as u64, notes];
             0
         }
     }
@@ -291,8 +290,8 @@ pub fn unreach(
         }) ⌝ }
 {
     match update::unreach(family, table, attribute, answers) {
-        Applied::Refused { number, place } => word_of(number, place),
-        Applied::Done(count) => {
+        Unreached::Refused { number, place } => word_of(number, place),
+        Unreached::Done(count) => {
             *out = [count as u64];
             0
         }
@@ -300,7 +299,7 @@ pub fn unreach(
 }
 
 // Looks a packet up in a table. out: the count, 0 where unmatched, and the merged actions' values, 0 where unmatched.
-pub fn lookup(family: AddressFamily, table: &[u8], packet: &[u8], out: &mut [u64; 6]) -> u64
+pub fn lookup(family: AddressFamily, table: &[u8], packet: &[u8], out: &mut [u64; 7]) -> u64
     ensures { λ r. ⌜ LookupCall (familyOf family)
         (record { table = now (table .entry); packet = now (packet .entry); out = now (out .entry) })
         r

@@ -1,7 +1,7 @@
 -- The answer to a whole attribute as a word and in `out`; a refusal is one of 01's table, as amended.
 use mathlib.Core.Path.{sym, _∙_}
 use Rattle.rule.proofs.Refusal.{Refusal}
-use Rattle.update.specs.Apply.{appliedTold}
+use Rattle.update.specs.Apply.{reachedTold}
 use Rattle.calls.proofs.AttributePlaces.{not-reached}
 use Rattle.calls.proofs.CallLaws.{with-out, reaches, refused, done, answered}
 use borrow.Author.Needs.{needs}
@@ -17,12 +17,12 @@ word-of-requires c κs = refusal c .near
 returns : tie.Need-returns
 returns c =
     let kept = rw (c .before .before .before .before .before .before .before .before .before .before .before .settings-in .ensures) at (c .before .before .before .before .before .before .before .before .reach .ensures) in
-    rw (kept .leaves, kept .lists) (with-out (reaches _ _ _ _ _) (answered appliedTold _ _ (kept .is) _ (c .before .before .number .given .1) _ _ _ (refused _ _ _ _ _ (c .word-of .ensures))))
+    rw (kept .leaves, kept .lists) (with-out (reaches _ _ _ _ _) (answered reachedTold _ _ (kept .is) _ (c .before .before .number .given .1) _ _ _ (refused _ _ _ _ _ (c .word-of .ensures))))
 
 returns-2 : tie.Need-returns-2
 returns-2 c =
     let kept = rw (c .before .before .before .before .before .before .before .before .before .before .before .settings-in .ensures) at (c .before .before .before .before .before .before .before .before .reach .ensures) in
-    rw (kept .leaves, kept .lists) (with-out (reaches _ _ _ _ _) (answered appliedTold _ _ (kept .is) _ (c .before .before .count .given .1) _ _ _ (done _ _)))
+    rw (kept .leaves, kept .lists) (with-out (reaches _ _ _ _ _) (answered reachedTold _ _ (kept .is) _ (c .before .before .count .given .1) _ _ _ (done _ _)))
 
 pub reach-spec : {M : Type 1} → statement M
 reach-spec =
