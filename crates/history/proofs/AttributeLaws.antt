@@ -2,25 +2,30 @@
 -- events are a history of single calls (`singles-happened`) with the same end (`singles-end`), and what holds of those (HistoryLaws.antt,
 -- AgreeLaws.antt) holds of the table that the events left. Of what the calls were given only what their types say is assumed.
 use mathlib.Core.Path.{_≡_, refl, sym, ap, ap₂, subst, _∙_}
+use mathlib.Core.Bool.{true, false}
 use mathlib.Core.List.{List, [], _∷_, _++_, map}
 use Prim.Native.Nat.{ℕ, _^_, _<_}
 use lib.ListN.{length, drop, length-map}
 use Rattle.octets.specs.Test.{Each}
+use Rattle.octets.proofs.Cases.{by-test, apart}
 use Rattle.octets.proofs.Facts.{Octets}
 use Rattle.rule.specs.declared.Family.{Family}
 use Rattle.rule.specs.Family.{Fits}
-use Rattle.request.specs.Input.{Policy}
+use Rattle.request.specs.Input.{Announcement, Policy}
+use Rattle.flowspec.specs.Told.{done}
+use Rattle.flowspec.specs.Checks.{Check, told, announceChecks, announceValues, withdrawChecks}
+use Rattle.flowspec.proofs.ToldLaws.{announce-tells, withdraw-tells}
 use Rattle.attribute.specs.Head.{reachHead}
 use Rattle.attribute.specs.Rules.{reachRules, unreachRules}
 use Rattle.attribute.proofs.RulesLaws.{each-octets}
-use Rattle.update.specs.declared.Applied.{Applied}
-use Rattle.update.specs.declared.Applied.the-variants.{Done, Refused}
+use Rattle.update.specs.declared.Reached.the-variants.{Done as AllAnnounced, Refused as NotReached}
+use Rattle.update.specs.declared.Unreached.the-variants.{Done as AllWithdrawn, Refused as NotUnreached}
 use Rattle.update.specs.Singles.{Reach, Singles, numbered, eachRule, announcementIn, announcingEach, withdrawingEach}
-use Rattle.update.specs.Checks.{reachChecks, unreachChecks}
-use Rattle.update.specs.Apply.{Left, appliedAll, refusedWhole, reaching, unreaching}
+use Rattle.update.specs.Checks.{reachNotes, reachChecks, unreachChecks}
+use Rattle.update.specs.Apply.{Left, listed, appliedAll, refusedWhole, reaching, unreaching}
 use Rattle.update.proofs.ApplyLaws.{decided-either}
-use Rattle.history.specs.History.{Call, announcement, withdrawal, answerTold, Made, CanBe, EachCanBe, numberOf, LentPolicy, SamePolicy, endOf, Happened, outcomeOf, madeOn, historyOf, emptyTable, FromEmpty, Agree, HoldsExactly, EndAlike}
-use Rattle.history.specs.Attributes.{Attribute, reach, unreach, Whole, Event, single, whole, leftBy, endOfEvents, callsIn, standsFor, AttributeCanBe, EventCanBe, AttributeLent, EventLent, SameThroughout, ActsAs, WholePromised, EventPromised, EventsHappened, leftOn, singlesIn, singlesOf, EventsFromEmpty}
+use Rattle.history.specs.History.{Call, announcement, withdrawal, answerTold, Made, CanBe, EachCanBe, toldOf, numberOf, LentPolicy, SamePolicy, endOf, Happened, outcomeOf, madeOn, historyOf, emptyTable, FromEmpty, Agree, HoldsExactly, EndAlike}
+use Rattle.history.specs.Attributes.{Attribute, reach, unreach, AnswerToAll, wholeTold, Whole, Event, single, whole, leftBy, endOfEvents, callsIn, standsFor, AttributeCanBe, EventCanBe, AttributeLent, EventLent, SameThroughout, ActsAs, WholePromised, EventPromised, EventsHappened, leftOn, singlesIn, singlesOf, EventsFromEmpty}
 use Rattle.history.proofs.HistoryLaws.{history-holds}
 use Rattle.history.proofs.AgreeLaws.{histories-alike}
 use Rattle.history.proofs.Happens.{happens, each-given, end-append, given-append, happened-append}
@@ -45,9 +50,9 @@ calls-given family (reach policy r) can =
     announced-given policy r (reachRules family (r .attribute) .items) (can .1) (each-octets family (r .attribute) reachHead (can .0))
 calls-given family (unreach attribute) can = withdrawn-given (unreachRules family attribute .items)
 
-stands-given : (family : Family) (attribute : Attribute) (answer : Applied) → AttributeCanBe attribute → Each CanBe (standsFor family attribute answer)
-stands-given family attribute (Done count) can = calls-given family attribute can
-stands-given family attribute (Refused number place) can = tt
+stands-given : (family : Family) (attribute : Attribute) (answer : AnswerToAll attribute) → AttributeCanBe attribute → Each CanBe (standsFor family attribute answer)
+stands-given family attribute answer can =
+    by-test (wholeTold attribute answer .grants) (λ g. rw g (calls-given family attribute can)) (λ g. rw g tt)
 
 -- what the single calls of an attribute are lent
 announced-lent : (policy lent : Policy) (r : Reach) (rules : List (List ℕ)) → lent ≡ policy
@@ -63,10 +68,21 @@ calls-lent : (family : Family) (policy : Policy) (attribute : Attribute) → Att
 calls-lent family policy (reach lent r) same = announced-lent policy lent r (reachRules family (r .attribute) .items) same
 calls-lent family policy (unreach attribute) same = withdrawn-lent policy (unreachRules family attribute .items)
 
-stands-lent : (family : Family) (policy : Policy) (attribute : Attribute) (answer : Applied) → AttributeLent policy attribute
+stands-lent : (family : Family) (policy : Policy) (attribute : Attribute) (answer : AnswerToAll attribute) → AttributeLent policy attribute
     → Each (LentPolicy policy) (standsFor family attribute answer)
-stands-lent family policy attribute (Done count) same = calls-lent family policy attribute same
-stands-lent family policy attribute (Refused number place) same = tt
+stands-lent family policy attribute answer same =
+    by-test (wholeTold attribute answer .grants) (λ g. rw g (calls-lent family policy attribute same)) (λ g. rw g tt)
+
+-- a call has these values where it is done
+abbrev Tells : List ℕ → Made → Type 0
+Tells values m = toldOf m .grants ≡ true → toldOf m .values ≡ values
+
+-- an answer that grants something has the values of its call
+granted-values : (cs : List Check) (values : List ℕ) → told cs (done values) .grants ≡ true → told cs (done values) .values ≡ values
+granted-values [] values g = refl
+granted-values (c ∷ cs) values g =
+    by-test (c .holds) (λ h. let rest = granted-values cs values (rw h at g) in rw h rest)
+    (λ h. let z : false ≡ true = rw h at g in apart (cc))
 
 module _ (family : Family) where
   -- one call for each rule leaves what the history of these calls does
@@ -87,50 +103,71 @@ module _ (family : Family) where
         ap (λ (rest : List ℕ). numberOf (madeOn family (call rule) table) ∷ rest)
         (each-numbers rules (outcomeOf family (call rule) table .table))
 
-    each-acts : (rules : List (List ℕ)) (table lent : List ℕ)
-        → ActsAs table lent (Done (length (eachOf rules table .numbers))) (eachOf rules table .table)
-        (appliedAll (eachOf rules table) lent .words) (historyEach rules table)
-    each-acts rules table lent =
+    each-notes : (values : List ℕ) → ((rule table : List ℕ) → Tells values (madeOn family (call rule) table)) → (rules : List (List ℕ)) (table : List ℕ)
+        → Each (Tells values) (historyEach rules table)
+    each-notes values tells [] table = tt
+    each-notes values tells (rule ∷ rules) table = (tells rule table, each-notes values tells rules (outcomeOf family (call rule) table .table))
+
+    each-acts : (values : List ℕ) → ((rule table : List ℕ) → Tells values (madeOn family (call rule) table)) → (rules : List (List ℕ)) (table lent : List ℕ)
+        → ActsAs table lent (done (length (eachOf rules table .numbers) ∷ values)) (eachOf rules table .table)
+        (listed (eachOf rules table) lent) (historyEach rules table)
+    each-acts values tells rules table lent =
         let numbers = each-numbers rules table in
         let many = ap length numbers ∙ length-map (historyEach rules table) numberOf in
         record {
           leaves = each-leaves rules table;
           lists = ap₂ (λ (front : List ℕ) (count : ℕ). front ++ drop count lent) numbers many;
-          counts = ap (λ (count : ℕ). count ∷ []) many;
+          counts = many;
+          notes = each-notes values tells rules table;
         }
 
-  -- what an attribute leaves is what its single calls leave, and a refusal leaves what no call does
-  abbrev LeftActs : Attribute → List ℕ → List ℕ → Left → Type 0
-  LeftActs attribute table lent left =
-      ActsAs table lent (left .answer) (left .table) (left .words) (historyOf family table (standsFor family attribute (left .answer)))
+  -- the values of a single announcement that is done, and of a withdrawal
+  announced-values : (policy : Policy) (a : Announcement) (table : List ℕ) → Tells (announceValues a) (madeOn family (announcement policy a) table)
+  announced-values policy a table =
+      rw (announce-tells family policy a table) (granted-values (announceChecks family policy a table) (announceValues a))
 
-  refused-acts : (attribute : Attribute) (table lent : List ℕ) (number place : ℕ) → LeftActs attribute table lent (refusedWhole table lent number place)
-  refused-acts attribute table lent number place = record { leaves = refl; lists = refl; counts = refl }
+  withdrawn-values : (rule table : List ℕ) → Tells [] (madeOn family (withdrawal rule) table)
+  withdrawn-values rule table = rw (withdraw-tells family rule table) (granted-values (withdrawChecks family rule table) [])
+
+  -- what an attribute leaves is what its single calls leave, and a refusal leaves what no call does
+  abbrev LeftActs : (attribute : Attribute) → List ℕ → List ℕ → Left (AnswerToAll attribute) → Type 0
+  LeftActs attribute table lent left =
+      ActsAs table lent (wholeTold attribute (left .answer)) (left .table) (left .words)
+      (historyOf family table (standsFor family attribute (left .answer)))
 
   left-acts : (attribute : Attribute) (table lent : List ℕ) → LeftActs attribute table lent (leftOn family attribute table lent)
   unfolding reaching unreaching
   left-acts (reach policy r) table lent =
       decided-either (LeftActs (reach policy r) table lent) (reachChecks family policy r table lent)
-      (appliedAll (announcingEach family policy r table) lent) (refusedWhole table lent)
-      (λ hold. each-acts (λ rule. announcement policy (announcementIn r rule)) (reachRules family (r .attribute) .items) table lent)
-      (refused-acts (reach policy r) table lent)
+      (appliedAll (λ count. AllAnnounced count (reachNotes r)) (announcingEach family policy r table) lent) (refusedWhole NotReached table lent)
+      (λ hold. each-acts (λ rule. announcement policy (announcementIn r rule)) (reachNotes r ∷ [])
+      (λ rule t. announced-values policy (announcementIn r rule) t) (reachRules family (r .attribute) .items) table lent)
+      (λ number place. record { leaves = refl; lists = refl; counts = refl; notes = tt })
   left-acts (unreach attribute) table lent =
       decided-either (LeftActs (unreach attribute) table lent) (unreachChecks family attribute table lent)
-      (appliedAll (withdrawingEach family attribute table) lent) (refusedWhole table lent)
-      (λ hold. each-acts withdrawal (unreachRules family attribute .items) table lent)
-      (refused-acts (unreach attribute) table lent)
+      (appliedAll AllWithdrawn (withdrawingEach family attribute table) lent) (refusedWhole NotUnreached table lent)
+      (λ hold. each-acts withdrawal [] withdrawn-values (unreachRules family attribute .items) table lent)
+      (λ number place. record { leaves = refl; lists = refl; counts = refl; notes = tt })
 
-  promised-acts : (attribute : Attribute) (table lent : List ℕ) (answer : Applied) (left words : List ℕ)
+  promised-acts : (attribute : Attribute) (table lent : List ℕ) (answer : AnswerToAll attribute) (left words : List ℕ)
       → WholePromised family attribute table lent answer left words
-      → ActsAs table lent answer left words (historyOf family table (standsFor family attribute answer))
+      → ActsAs table lent (wholeTold attribute answer) left words (historyOf family table (standsFor family attribute answer))
   promised-acts (reach policy r) table lent answer left words p = rw (p .is, p .leaves, p .lists) (left-acts (reach policy r) table lent)
   promised-acts (unreach attribute) table lent answer left words p = rw (p .is, p .leaves, p .lists) (left-acts (unreach attribute) table lent)
 
   -- **nobody can tell the difference**: a call with a whole attribute, answered whatever, does on its table what the single calls do that it
-  -- stands for: they leave one table, and the answer words are the numbers of these calls, before the rest of what was lent
+  -- stands for: they leave one table, the answer words are the numbers of these calls, before the rest of what was lent, and the notes of a
+  -- reach are those of each that is done
   pub whole-acts : (w : Whole) (table : List ℕ) → EventPromised family table (whole w)
-      → ActsAs table (w .lent) (w .answer) (w .left) (w .words) (singlesIn family table (whole w))
+      → ActsAs table (w .lent) (wholeTold (w .attribute) (w .answer)) (w .left) (w .words) (singlesIn family table (whole w))
   whole-acts w table p = promised-acts (w .attribute) table (w .lent) (w .answer) (w .left) (w .words) p
+
+  -- so the notes that a reach tells are those that each of its announcements tells which is done
+  pub reach-notes : (policy : Policy) (r : Reach) (table lent left words : List ℕ) (count notes : ℕ)
+      → WholePromised family (reach policy r) table lent (AllAnnounced count notes) left words
+      → Each (λ m. toldOf m .grants ≡ true → toldOf m .values ≡ notes ∷ []) (historyOf family table (callsIn family (reach policy r)))
+  reach-notes policy r table lent left words count notes p =
+      whole-acts (record { attribute = reach policy r; lent = lent; answer = AllAnnounced count notes; words = words; left = left }) table p .notes
 
   -- one event
   event-happened : (e : Event) (table : List ℕ) → EventPromised family table e → Happened family table (singlesIn family table e)

@@ -9,13 +9,14 @@ use Rattle.octets.proofs.Facts.{Octets}
 use Rattle.rule.specs.declared.Family.{Family}
 use Rattle.table.specs.Sound.{mostOctets}
 use Rattle.request.specs.Input.{Policy}
-use Rattle.update.specs.declared.Applied.{Applied}
+use Rattle.update.specs.declared.Reached.{Reached}
+use Rattle.update.specs.declared.Unreached.{Unreached}
 use Rattle.update.specs.Singles.{Reach}
 use Rattle.update.specs.Apply.{Left}
 use Rattle.update.specs.Promise.{Reaches, Unreaches}
 use Rattle.update.proofs.ApplyLaws.{reach-tells, unreach-tells}
 use Rattle.history.specs.History.{emptyTable}
-use Rattle.history.specs.Attributes.{Attribute, reach, unreach, Event, single, whole, Asked, askSingle, askWhole, askedBy, leftBy, AttributeCanBe, AskedCanBe, EventCanBe, WholePromised, EventPromised, EventsHappened, leftOn, eventOn, eventsOf, EventsFromEmpty}
+use Rattle.history.specs.Attributes.{Attribute, reach, unreach, AnswerToAll, Event, single, whole, Asked, askSingle, askWhole, askedBy, leftBy, AttributeCanBe, AskedCanBe, EventCanBe, WholePromised, EventPromised, EventsHappened, leftOn, eventOn, eventsOf, EventsFromEmpty}
 use Rattle.history.proofs.Happens.{made-promised, made-only}
 
 -- what a call is lent by its types is what it can be given
@@ -27,16 +28,16 @@ unreach-given attribute o = tt
 
 module _ (family : Family) where
   -- what a call promises is what a history asks of it
-  pub reaches-promised : (policy : Policy) (r : Reach) (table lent : List ℕ) (answer : Applied) (left words : List ℕ) (kept : List (List ℕ))
+  pub reaches-promised : (policy : Policy) (r : Reach) (table lent : List ℕ) (answer : Reached) (left words : List ℕ) (kept : List (List ℕ))
       → Reaches family policy r table lent answer left words kept → WholePromised family (reach policy r) table lent answer left words
   reaches-promised policy r table lent answer left words kept p = subst (λ k. Reaches family policy r table lent answer left words k) (p .keeps) p
 
-  pub unreaches-promised : (attribute table lent : List ℕ) (answer : Applied) (left words : List ℕ) (kept : List (List ℕ))
+  pub unreaches-promised : (attribute table lent : List ℕ) (answer : Unreached) (left words : List ℕ) (kept : List (List ℕ))
       → Unreaches family attribute table lent answer left words kept → WholePromised family (unreach attribute) table lent answer left words
   unreaches-promised attribute table lent answer left words kept p = subst (λ k. Unreaches family attribute table lent answer left words k) (p .keeps) p
 
   -- a call that left this keeps its promise
-  pub left-promised : (attribute : Attribute) (table lent : List ℕ) (left : Left) → leftOn family attribute table lent ≡ left
+  pub left-promised : (attribute : Attribute) (table lent : List ℕ) (left : Left (AnswerToAll attribute)) → leftOn family attribute table lent ≡ left
       → WholePromised family attribute table lent (left .answer) (left .table) (left .words)
   left-promised (reach policy r) table lent left e =
       rw (← e) (record { is = refl; tells = reach-tells family policy r table lent; leaves = refl; lists = refl; keeps = refl })
@@ -73,16 +74,16 @@ module _ (family : Family) where
       record { fits = fits; given = each-asked asks (emptyTable n) can; happened = events-happen asks (emptyTable n) }
 
   -- **and no other history asks this**
-  whole-only : (attribute : Attribute) (table lent : List ℕ) (answer : Applied) (left words : List ℕ)
+  whole-only : (attribute : Attribute) (table lent : List ℕ) (answer : AnswerToAll attribute) (left words : List ℕ)
       → WholePromised family attribute table lent answer left words
-      → _≡_ {A = Left} (record { answer = answer; table = left; words = words }) (leftOn family attribute table lent)
+      → _≡_ {A = Left (AnswerToAll attribute)} (record { answer = answer; table = left; words = words }) (leftOn family attribute table lent)
   whole-only (reach policy r) table lent answer left words p = rw (p .is, p .leaves, p .lists)
   whole-only (unreach attribute) table lent answer left words p = rw (p .is, p .leaves, p .lists)
 
   event-only : (e : Event) (table : List ℕ) → EventPromised family table e → e ≡ eventOn family (askedBy e) table
   event-only (single m) table p = ap single (made-only family m table p)
   event-only (whole w) table p =
-      ap (λ (l : Left). whole (record { attribute = w .attribute; lent = w .lent; answer = l .answer; words = l .words; left = l .table }))
+      ap (λ (l : Left (AnswerToAll (w .attribute))). whole (record { attribute = w .attribute; lent = w .lent; answer = l .answer; words = l .words; left = l .table }))
       (whole-only (w .attribute) table (w .lent) (w .answer) (w .left) (w .words) p)
 
   pub events-happen-only : (es : List Event) (table : List ℕ) → EventsHappened family table es

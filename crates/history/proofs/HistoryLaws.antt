@@ -90,7 +90,7 @@ module _ (family : Family) (t : List ℕ) (es : List Entry) (c : Encodes family 
           (apply keyOrder (entryKey family) cost (length t) (announceOperation family a r) es)
       go (NoRequest number place) ok = record { answers = refl; encodes = c; long = refl }
       go (Announce start size actions feasible) ok =
-          same-changed family t es c (announce (announcedEntry family a start size actions) feasible) ok _ (announced-told _)
+          same-changed family t es c (announce (announcedEntry family a start size actions) feasible) ok _ (announced-told actions _)
 
   same-withdrawing : (rule : List ℕ)
       → Same family (length t) (withdrawnTold (withdrawing family rule t .answer) .number) (withdrawing family rule t .table)

@@ -1,7 +1,7 @@
 -- What an operator relies on, of the calls by their own promises: an announcement that was answered 0, made again with the same routes and
--- setting, is answered 0 and changes nothing; withdrawing after it is done, and leaves what withdrawing alone would have left; and two
--- announcements of different rules, each by its own routes, answered 0 in either order, leave equal octets. Of what a call is given only what
--- its types say is assumed (`CanBe`).
+-- setting, is answered 0 with the same notes and changes nothing; withdrawing after it is done, and leaves what withdrawing alone would have
+-- left; and two announcements of different rules, each by its own routes, answered 0 in either order, leave equal octets and tell the same
+-- notes. Of what a call is given only what its types say is assumed (`CanBe`).
 use mathlib.Core.Path.{_≡_, refl, sym, ap, ap₂, _∙_}
 use mathlib.Core.Bool.{true, false}
 use mathlib.Core.List.{List}
@@ -14,9 +14,10 @@ use Rattle.rule.specs.Family.{Fits}
 use Rattle.spelling.specs.Plain.{plain}
 use Rattle.rule.specs.Reading.{valueOf, oneRule}
 use Rattle.order.specs.Precedence.{precedence}
-use Rattle.order.specs.Key.{keysOf, keyOrder}
+use Rattle.order.specs.Key.{keysOf}
 use Rattle.order.proofs.KeyLaws.{key-order, keys-plain, one-order}
 use Rattle.action.specs.declared.Actions.{Actions}
+use Rattle.action.specs.Actions.{notesOf}
 use Rattle.entry.specs.Entry.{Entry, entryKey, possible}
 use Rattle.table.specs.Walk.{entries}
 use Rattle.table.specs.Sound.{soundTable, Encodes}
@@ -41,30 +42,33 @@ use Rattle.history.proofs.HistoryLaws.{asked-could}
 
 module _ (family : Family) (policy : Policy) (a : Announcement) where
   -- what a done announcement asked, what it found, and what it left
-  record Stored (t left : List ℕ) : Type 0 where
+  record Stored (t : List ℕ) (notes : ℕ) (left : List ℕ) : Type 0 where
     pub start : ℕ
     pub size : ℕ
     pub actions : Actions
     pub requests : requestOf family policy a ≡ Announce start size actions true
     pub sound : soundTable family t ≡ true
     pub room : hasRoom family t (announcedEntry family a start size actions) ≡ true
+    pub says : notes ≡ notesOf actions
     pub is : left ≡ inserted family t (announcedEntry family a start size actions)
 
-  done-stored : (t left : List ℕ) (kept : List (List ℕ)) → Announces family policy a t Held left kept → Stored t left
+  done-stored : (t : List ℕ) (notes : ℕ) (left : List ℕ) (kept : List (List ℕ)) → Announces family policy a t (Held notes) left kept
+      → Stored t notes left
   unfolding announcing announcedOf
-  done-stored t left kept p =
+  done-stored t notes left kept p =
       by-test (soundTable family t) (λ s. go s (requestOf family policy a) refl (rw s at (p .is)) (rw s at (p .leaves)))
-      (λ s. let z : Held ≡ NotAnnounced 10 0 = rw s at (p .is) in apart (cc))
+      (λ s. let z : Held notes ≡ NotAnnounced 10 0 = rw s at (p .is) in apart (cc))
     where
-      go : soundTable family t ≡ true → (r : Request) → requestOf family policy a ≡ r → Held ≡ announcedBy family a t r .answer
-          → left ≡ announcedBy family a t r .table → Stored t left
+      go : soundTable family t ≡ true → (r : Request) → requestOf family policy a ≡ r → Held notes ≡ announcedBy family a t r .answer
+          → left ≡ announcedBy family a t r .table → Stored t notes left
       go s (NoRequest number place) e says l = apart (cc)
       go s (Announce start size actions false) e says l =
-          let z : Held ≡ NotAnnounced 8 0 = rw (changed-infeasible family t (announcedEntry family a start size actions)) at says in
+          let z : Held notes ≡ NotAnnounced 8 0 = rw (changed-infeasible family t (announcedEntry family a start size actions)) at says in
           apart (cc)
       go s (Announce start size actions true) e says l =
           by-test (hasRoom family t (announcedEntry family a start size actions))
           (λ h.
+          let z : Held notes ≡ Held (notesOf actions) = rw (changed-room family t (announcedEntry family a start size actions) h) at says in
           record {
             start = start;
             size = size;
@@ -72,30 +76,37 @@ module _ (family : Family) (policy : Policy) (a : Announcement) where
             requests = e;
             sound = s;
             room = h;
+            says = cc;
             is = rw (changed-room family t (announcedEntry family a start size actions) h) at l;
           })
-          (λ h. let z : Held ≡ NotAnnounced 11 0 = rw (changed-no-room family t (announcedEntry family a start size actions) h) at says in apart (cc))
+          (λ h. let z : Held notes ≡ NotAnnounced 11 0 = rw (changed-no-room family t (announcedEntry family a start size actions) h) at says in apart (cc))
 
   stores : (t : List ℕ) (start size : ℕ) (actions : Actions) → requestOf family policy a ≡ Announce start size actions true
       → soundTable family t ≡ true → hasRoom family t (announcedEntry family a start size actions) ≡ true
-      → announcing family policy a t ≡ record { answer = Held; table = inserted family t (announcedEntry family a start size actions) }
+      → announcing family policy a t ≡ record { answer = Held (notesOf actions); table = inserted family t (announcedEntry family a start size actions) }
   unfolding announcing announcedOf
   stores t start size actions e s h = rw (s, e, changed-room family t (announcedEntry family a start size actions) h)
 
-  -- an announcement asks for the same entry wherever it is made
-  one-entry : (t left u exit : List ℕ) (s : Stored t left) (r : Stored u exit)
+  -- an announcement asks for the same entry wherever it is made, and tells the same notes
+  one-entry : (t left u exit : List ℕ) (notes also : ℕ) (s : Stored t notes left) (r : Stored u also exit)
       → announcedEntry family a (s .start) (s .size) (s .actions) ≡ announcedEntry family a (r .start) (r .size) (r .actions)
-  one-entry t left u exit s r =
+  one-entry t left u exit notes also s r =
       let same = sym (s .requests) ∙ r .requests in
       let starts : s .start ≡ r .start = cc in
       let sizes : s .size ≡ r .size = cc in
       let acts : s .actions ≡ r .actions = cc in
       rw (starts, sizes, acts)
 
-  module _ (o : Octets (a .rule)) (small : a .origin .originator < 2 ^ 32) (t : List ℕ) (left : List ℕ) (kept : List (List ℕ))
-      (done : Announces family policy a t Held left kept) where
-    stored : Stored t left
-    stored = done-stored t left kept done
+  one-notes : (t left u exit : List ℕ) (notes also : ℕ) (s : Stored t notes left) (r : Stored u also exit) → notes ≡ also
+  one-notes t left u exit notes also s r =
+      let same = sym (s .requests) ∙ r .requests in
+      let acts : s .actions ≡ r .actions = cc in
+      s .says ∙ ap notesOf acts ∙ sym (r .says)
+
+  module _ (o : Octets (a .rule)) (small : a .origin .originator < 2 ^ 32) (t : List ℕ) (notes : ℕ) (left : List ℕ) (kept : List (List ℕ))
+      (done : Announces family policy a t (Held notes) left kept) where
+    stored : Stored t notes left
+    stored = done-stored t notes left kept done
 
     abbrev entered : Entry
     entered = announcedEntry family a (stored .start) (stored .size) (stored .actions)
@@ -106,13 +117,13 @@ module _ (family : Family) (policy : Policy) (a : Announcement) where
     could : possible family entered ≡ true
     could = rw (stored .requests) at (asked-could family policy a o small)
 
-    -- **the same announcement twice**: the second is done too, and changes nothing
+    -- **the same announcement twice**: the second is done too, with the same notes, and changes nothing
     pub announced-twice : (answer : Announced) (exit : List ℕ) (held : List (List ℕ)) → Announces family policy a left answer exit held
-        → (answer ≡ Held) × (exit ≡ left)
+        → (answer ≡ Held notes) × (exit ≡ left)
     announced-twice answer exit held q =
         let again = stores (inserted family t entered) (stored .start) (stored .size) (stored .actions) (stored .requests) (sound-with family t before entered could (stored .room)) (room-again family t before entered could (stored .room)) in
         let requests = ap (announcing family policy a) (stored .is) ∙ again in (
-          q .is ∙ ap (λ (x : Outcome Announced). x .answer) requests,
+          q .is ∙ ap (λ (x : Outcome Announced). x .answer) requests ∙ ap Held (sym (stored .says)),
           q .leaves ∙ ap (λ (x : Outcome Announced). x .table) requests ∙ inserted-again family t before entered could (stored .room) ∙ sym (stored .is),
         )
 
@@ -154,25 +165,27 @@ same-rule family fits rule other start size begin extent o p found also same =
 
 module _ (family : Family) (fits : Fits family) (policy other : Policy) (a b : Announcement) (o : Octets (a .rule)) (small : a .origin .originator < 2 ^ 32) (p : Octets (b .rule))
     (little : b .origin .originator < 2 ^ 32) (t : List ℕ) where
-  -- **two announcements of different rules**, done in either order, leave equal octets
-  pub announced-either-way : (compareRules family (a .rule) (b .rule) ≡ Same → ⊥) → (first both second all : List ℕ) (k l m n : List (List ℕ))
-      → Announces family policy a t Held first k → Announces family other b first Held both l
-      → Announces family other b t Held second m → Announces family policy a second Held all n
-      → both ≡ all
-  announced-either-way differ first both second all k l m n one two three four =
-      let x = stored family policy a o small t first k one in
-      let y = stored family other b p little t second m three in
-      let z = done-stored family other b first both l two in
-      let w = done-stored family policy a second all n four in
-      let e = entered family policy a o small t first k one in
-      let f = entered family other b p little t second m three in
-      let can = could family policy a o small t first k one in
-      let also = could family other b p little t second m three in
-      let whole = before family policy a o small t first k one in
-      let apart-keys : entryKey family e ≡ entryKey family f → ⊥ = λ same.
-      differ (same-rule family fits (a .rule) (b .rule) (x .start) (x .size) (y .start) (y .size) o p (read family policy a o small t first k one)
-      (read family other b p little t second m three) same) in
-      let either = inserted-either family t whole e can (x .room) f also (y .room) apart-keys in
-      z .is ∙ ap₂ (inserted family) (x .is) (one-entry family other b first both t second z y)
-      ∙ either
-      ∙ sym (w .is ∙ ap₂ (inserted family) (y .is) (one-entry family policy a second all t first w x))
+  -- **two announcements of different rules**, done in either order, leave equal octets, and each tells the same notes
+  pub announced-either-way : (compareRules family (a .rule) (b .rule) ≡ Same → ⊥) → (first both second all : List ℕ) (c d e f : ℕ) (k l m n : List (List ℕ))
+      → Announces family policy a t (Held c) first k → Announces family other b first (Held d) both l
+      → Announces family other b t (Held e) second m → Announces family policy a second (Held f) all n
+      → (both ≡ all) × ((c ≡ f) × (d ≡ e))
+  announced-either-way differ first both second all c d e f k l m n one two three four =
+      let x = stored family policy a o small t c first k one in
+      let y = stored family other b p little t e second m three in
+      let z = done-stored family other b first d both l two in
+      let w = done-stored family policy a second f all n four in
+      let one-entered = entered family policy a o small t c first k one in
+      let other-entered = entered family other b p little t e second m three in
+      let can = could family policy a o small t c first k one in
+      let also = could family other b p little t e second m three in
+      let whole = before family policy a o small t c first k one in
+      let apart-keys : entryKey family one-entered ≡ entryKey family other-entered → ⊥ = λ same.
+      differ (same-rule family fits (a .rule) (b .rule) (x .start) (x .size) (y .start) (y .size) o p (read family policy a o small t c first k one)
+      (read family other b p little t e second m three) same) in
+      let either = inserted-either family t whole one-entered can (x .room) other-entered also (y .room) apart-keys in (
+        z .is ∙ ap₂ (inserted family) (x .is) (one-entry family other b first both t second d e z y)
+            ∙ either
+            ∙ sym (w .is ∙ ap₂ (inserted family) (y .is) (one-entry family policy a second all t first f c w x)),
+        (one-notes family policy a t first second all c f x w, one-notes family other b first both t second d e z y),
+      )

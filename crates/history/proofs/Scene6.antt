@@ -10,17 +10,17 @@ use Rattle.prefix.specs.Prefix.{bits, contains, patternIn, coversAddress, prefi
 use Rattle.rule.specs.Component.{pairAt, pairsFrom, prefixEnd, bodyEnd, componentAt, leadOf, offsetAt}
 use Rattle.rule.specs.Operator.{endsList, sizeOf}
 use Rattle.spelling.specs.Plain.{bodyOf, operandAfter, after, plainOperator, plainOperand, plainPattern, clearedOctet, plainFrom, plain, expectedAtStart, patternAfter, withoutReserved}
-use Rattle.rule.specs.Reading.{fieldSize, fieldLength, firstRule, oneRule, valueOf}
+use Rattle.rule.specs.Reading.{fieldSize, fieldLength, firstRule, oneRule}
 use Rattle.rule.specs.Value.{componentsFrom, components, checkValue}
 use Rattle.rule.specs.Family.{ipv6}
 use Rattle.rule.proofs.FamilyLaws.{ipv6-fits}
-use Rattle.order.specs.Key.{bodyKey, keyOf, keysOf, RuleKey, keyOrder}
+use Rattle.order.specs.Key.{bodyKey, keyOf, keysOf}
 use Rattle.route.specs.Destination.{destinationFor, destinationAmong, destinationOf}
 use Rattle.route.specs.Feasible.{coveredBy, moreSpecific, longer, matched, bestMatch, undisputed, originates, judged, feasible}
 use Rattle.route.specs.Route.{routeAt, routesOf, plainPrefix, rises, rising, soundRoutes, numberInWords, routesFrom}
-use Rattle.action.specs.Actions.{communitiesAt, actionsOf, flagsOf, ofType, smallest, first, ruleActions}
+use Rattle.action.specs.Actions.{communitiesAt, actionsOf, flagsOf, notesOf, ofType, smallest, first, ruleActions}
 use Rattle.action.specs.Given.{firstOf, allowed}
-use Rattle.action.specs.Limit.{smallerOf}
+use Rattle.action.specs.Limit.{smallerOf, couldBeLimit}
 use Rattle.action.specs.Merging.{merged}
 use Rattle.action.specs.Possible.{couldBe}
 use Rattle.extension.specs.Extension.{extensionAt, fragmentAt, headerAt, headersFrom, upperLayer}
@@ -30,7 +30,7 @@ use Rattle.matching.specs.Operator.{numericHolds, bitmaskHolds}
 use Rattle.packet.specs.Packet.{fragmentData, ipv6Fields, isUnusable, fieldsOf, packetOf}
 use Rattle.matching.specs.PairList.{groupsFrom, groups, listHolds}
 use Rattle.packet.specs.Transport.{transportFields}
-use Rattle.entry.specs.Entry.{plainValue, possible, Entry, entryKey}
+use Rattle.entry.specs.Entry.{plainValue, possible}
 use Rattle.entry.specs.Record.{writtenFields, readFields, headNumbers, recordOf, actionsIn, entryOf, goodRecord}
 use Rattle.table.specs.Change.{holds, hasRoom, changed}
 use Rattle.lookup.specs.Lookup.{collected, mergedOnto, verdictOf, verdictFor, firstPlace}
@@ -43,14 +43,14 @@ use Rattle.flowspec.specs.Feasibility.{judgement}
 use Rattle.lookup.specs.Opening.{opening}
 use Rattle.flowspec.specs.Look.{lookingUp, firstMatch, matchPlace}
 use Rattle.rule.specs.Shape.{shapeOf}
-use Rattle.rate.specs.Rate.{scaled, numberFor, numberOfParts, rateOfParts, rateOf, fitsSignificand, rateGiven}
+use Rattle.rate.specs.Rate.{scaled, valueRate, rateOfParts, rateOf, fitsSignificand, isSingle, rateGiven}
 use Rattle.order.specs.Precedence.{bodyOrder, componentOrder, componentsOrder, plainOrder, precedence}
 use Rattle.attribute.specs.Head.{afiOf, isOfFamily, isReach, isUnreach}
 use Rattle.attribute.specs.Rules.{ruleAt, rulesFrom}
 use Rattle.update.specs.Apply.{reaching, unreaching}
 use Rattle.update.specs.Singles.{reachOf}
 use Rattle.flowspec.specs.declared.Announced.the-variants.{Refused as NotAnnounced}
-use Rattle.update.specs.declared.Applied.the-variants.{Refused as NotApplied}
+use Rattle.update.specs.declared.Reached.the-variants.{Refused as NotReached}
 use Rattle.history.specs.History.{emptyTable}
 use Rattle.history.specs.Worked.{seven, dropping}
 use Rattle.history.specs.Scene6.{sceneSix, allowing, shifted, shiftedTable}
@@ -63,12 +63,12 @@ unfolding
     plainOperator plainOperand plainPattern clearedOctet plainFrom plain fieldSize fieldLength firstRule oneRule componentsFrom
     components checkValue bodyKey keyOf keysOf destinationFor destinationAmong destinationOf coveredBy moreSpecific longer matched bestMatch
     undisputed originates judged feasible numberInWords routeAt routesFrom routesOf plainPrefix rises rising soundRoutes ofType smallest first
-    ruleActions communitiesAt actionsOf flagsOf firstOf smallerOf allowed merged couldBe isUnusable ipv6Unusable fragmentData ipv6Fields extensionAt fragmentAt headerAt headersFrom upperLayer upperOctets holdsFor bodyHolds
+    ruleActions communitiesAt actionsOf flagsOf notesOf firstOf smallerOf allowed merged couldBeLimit couldBe isUnusable ipv6Unusable fragmentData ipv6Fields extensionAt fragmentAt headerAt headersFrom upperLayer upperOctets holdsFor bodyHolds
     fieldMatches fieldsFor bodyCovers componentMatches matches numericHolds bitmaskHolds fieldsOf packetOf groupsFrom groups listHolds
     transportFields plainValue possible writtenFields readFields headNumbers recordOf actionsIn entryOf goodRecord holds
     hasRoom changed collected mergedOnto verdictOf verdictFor firstPlace recordsOf tableOf soundTable soundness recordAt
     recordsFrom records entries announcedOf withdrawnOf requestOf announcing withdrawing readWithRoutes isFeasible judgement opening lookingUp firstMatch
-    matchPlace shapeOf scaled numberFor numberOfParts rateOfParts rateOf fitsSignificand rateGiven bodyOrder componentOrder componentsOrder
+    matchPlace shapeOf scaled valueRate rateOfParts rateOf fitsSignificand isSingle rateGiven bodyOrder componentOrder componentsOrder
     plainOrder precedence afiOf isOfFamily isReach isUnreach ruleAt rulesFrom reaching unreaching
 computed =
     record {
@@ -118,7 +118,7 @@ pub record Beside : Type 0 where
   pub sound : soundTable ipv6 shiftedTable ≡ true
   pub removes : announcing ipv6 allowing shifted shiftedTable ≡ record { answer = NotAnnounced 8 0; table = emptyTable 64 }
   pub reachesNone : reaching ipv6 allowing (reachOf (0 ∷ 1 ∷ 133 ∷ 0 ∷ 0 ∷ sceneSix .rule) seven dropping) (emptyTable 64) (99 ∷ [])
-      ≡ record { answer = NotApplied 19 0; table = emptyTable 64; words = 99 ∷ [] }
+      ≡ record { answer = NotReached 19 0; table = emptyTable 64; words = 99 ∷ [] }
 
 pub beside : Beside
 unfolding
@@ -127,11 +127,11 @@ unfolding
     plainOperator plainOperand plainPattern clearedOctet plainFrom plain fieldSize fieldLength firstRule oneRule componentsFrom
     components checkValue bodyKey keyOf keysOf destinationFor destinationAmong destinationOf coveredBy moreSpecific longer matched bestMatch
     undisputed originates judged feasible numberInWords routeAt routesFrom routesOf plainPrefix rises rising soundRoutes ofType smallest first
-    ruleActions communitiesAt actionsOf flagsOf firstOf smallerOf allowed merged couldBe isUnusable ipv6Unusable fragmentData ipv6Fields extensionAt fragmentAt headerAt headersFrom upperLayer upperOctets holdsFor bodyHolds
+    ruleActions communitiesAt actionsOf flagsOf notesOf firstOf smallerOf allowed merged couldBeLimit couldBe isUnusable ipv6Unusable fragmentData ipv6Fields extensionAt fragmentAt headerAt headersFrom upperLayer upperOctets holdsFor bodyHolds
     fieldMatches fieldsFor bodyCovers componentMatches matches numericHolds bitmaskHolds fieldsOf packetOf groupsFrom groups listHolds
     transportFields plainValue possible writtenFields readFields headNumbers recordOf actionsIn entryOf goodRecord holds
     hasRoom changed collected mergedOnto verdictOf verdictFor firstPlace recordsOf tableOf soundTable soundness recordAt
     recordsFrom records entries announcedOf withdrawnOf requestOf announcing withdrawing readWithRoutes isFeasible judgement opening lookingUp firstMatch
-    matchPlace shapeOf scaled numberFor numberOfParts rateOfParts rateOf fitsSignificand rateGiven bodyOrder componentOrder componentsOrder
+    matchPlace shapeOf scaled valueRate rateOfParts rateOf fitsSignificand isSingle rateGiven bodyOrder componentOrder componentsOrder
     plainOrder precedence afiOf isOfFamily isReach isUnreach ruleAt rulesFrom reaching unreaching
 beside = record { refuses = refl; sound = refl; removes = refl; reachesNone = refl }

@@ -15,13 +15,13 @@ use borrow.Author.Tests.{leb-true, ltb-true}
 use Rattle.octets.specs.Test.{every}
 use Rattle.octets.proofs.Cases.{by-test, apart, both}
 use Rattle.octets.proofs.Facts.{Octets}
-use Rattle.rule.specs.declared.Family.{Family}
 use Rattle.rule.specs.declared.Reading.the-variants.{Rule}
 use Rattle.rule.specs.Family.{Fits}
 use Rattle.rule.specs.Reading.{oneRule, valueOf}
 use Rattle.spelling.specs.Plain.{plain}
 use Rattle.order.specs.Key.{keysOf, RuleKey, keyOrder}
 use Rattle.order.proofs.KeyLaws.{key-order}
+use Rattle.rate.specs.Rate.{takenAsZero}
 use Rattle.action.specs.declared.Reading.the-variants.{Read}
 use Rattle.action.specs.Actions.{actionsOf}
 use Rattle.entry.specs.Entry.{Entry, entryKey}
@@ -37,7 +37,8 @@ use Rattle.flowspec.specs.Look.{lookingUp}
 use Rattle.flowspec.specs.Told.{lookupTold, done}
 use Rattle.flowspec.specs.Promise.{LooksUp}
 use Rattle.flowspec.proofs.TableLaws.{announce-kept, withdraw-kept}
-use Rattle.update.specs.declared.Applied.the-variants.{Done as DoneAll}
+use Rattle.update.specs.declared.Reached.the-variants.{Done as AllAnnounced}
+use Rattle.update.specs.declared.Unreached.the-variants.{Done as AllWithdrawn}
 use Rattle.update.specs.Apply.{reaching, unreaching}
 use Rattle.history.specs.History.{Made, announced, withdrew, deedOf, emptyTable, endOf, lastCounted, inForceAfter, SamePolicy, Agree, FromEmpty, HoldsExactly, EndAlike}
 use Rattle.history.specs.Attributes.{reach, unreach, single, endOfEvents, singlesOf, EventsFromEmpty}
@@ -65,17 +66,17 @@ octets-each (x ∷ s) e =
 -- lookups
 pub record Computed (s : Scene) : Type 0 where
   pub fits : leb (s .size) mostOctets ≡ true
-  pub announces : announcing (s .family) (s .policy) (owned s) (emptyTable (s .size)) ≡ record { answer = Held; table = s .one }
-  pub adds : announcing (s .family) (s .policy) (marked s) (s .one) ≡ record { answer = Held; table = s .both }
+  pub announces : announcing (s .family) (s .policy) (owned s) (emptyTable (s .size)) ≡ record { answer = Held takenAsZero; table = s .one }
+  pub adds : announcing (s .family) (s .policy) (marked s) (s .one) ≡ record { answer = Held 0; table = s .both }
   pub removes : announcing (s .family) (s .policy) (foreign s) (s .both) ≡ record { answer = NotAnnounced 8 0; table = s .another }
-  pub again : announcing (s .family) (s .policy) (owned s) (s .another) ≡ record { answer = Held; table = s .both }
+  pub again : announcing (s .family) (s .policy) (owned s) (s .another) ≡ record { answer = Held takenAsZero; table = s .both }
   pub withdraws : withdrawing (s .family) (s .otherRule) (s .both) ≡ record { answer = Done; table = s .one }
   pub withdrawsNone : withdrawing (s .family) (s .otherRule) (emptyTable (s .size)) ≡ record { answer = NotWithdrawn 14 0; table = emptyTable (s .size) }
-  pub announcesSpelled : announcing (s .family) (s .policy) (respelled s) (emptyTable (s .size)) ≡ record { answer = Held; table = s .one }
+  pub announcesSpelled : announcing (s .family) (s .policy) (respelled s) (emptyTable (s .size)) ≡ record { answer = Held takenAsZero; table = s .one }
   pub removesUnrouted : announcing (s .family) unrouted (owned s) (s .both) ≡ record { answer = NotAnnounced 8 0; table = s .another }
   pub reaches : reaching (s .family) (s .policy) (bothReached s) (emptyTable (s .size)) (99 ∷ 99 ∷ 99 ∷ [])
-      ≡ record { answer = DoneAll 2; table = s .dropped; words = 0 ∷ 0 ∷ 99 ∷ [] }
-  pub unreaches : unreaching (s .family) (s .unreachedOther) (s .dropped) (99 ∷ []) ≡ record { answer = DoneAll 1; table = s .one; words = 0 ∷ [] }
+      ≡ record { answer = AllAnnounced 2 takenAsZero; table = s .dropped; words = 0 ∷ 0 ∷ 99 ∷ [] }
+  pub unreaches : unreaching (s .family) (s .unreachedOther) (s .dropped) (99 ∷ []) ≡ record { answer = AllWithdrawn 1; table = s .one; words = 0 ∷ [] }
   pub stands : singlesOf (s .family) (emptyTable (s .size)) (attributes s) ≡ standing s
   pub askedOwned : requestOf (s .family) (s .policy) (owned s) ≡ Announce 1 (length (s .value)) drops true
   pub askedForeign : requestOf (s .family) (s .policy) (foreign s) ≡ Announce 1 (length (s .value)) drops false
@@ -97,8 +98,8 @@ pub record Computed (s : Scene) : Type 0 where
   pub gone : inForceAfter (s .family) (worked s) (keysOf (s .family) (s .otherValue)) ≡ none
   pub inForceUnrouted : inForceAfter (s .family) (rerouted s) (entryKey (s .family) (otherEntry s)) ≡ some (otherEntry s)
   pub goneUnrouted : inForceAfter (s .family) (rerouted s) (keysOf (s .family) (s .value)) ≡ none
-  pub judgesMatched : lookupTold (lookingUp (s .family) (s .one) (s .met)) ≡ done (1 ∷ 1 ∷ 0 ∷ 0 ∷ 0 ∷ 0 ∷ [])
-  pub judgesUnmatched : lookupTold (lookingUp (s .family) (s .one) (s .missed)) ≡ done (replicate 6 0)
+  pub judgesMatched : lookupTold (lookingUp (s .family) (s .one) (s .met)) ≡ done (1 ∷ 1 ∷ 0 ∷ 0 ∷ 0 ∷ 0 ∷ takenAsZero ∷ [])
+  pub judgesUnmatched : lookupTold (lookingUp (s .family) (s .one) (s .missed)) ≡ done (replicate 7 0)
 
 -- the table that a history of a scene leaves, and what is said of it
 module _ (s : Scene) (h : List Made) where
@@ -119,14 +120,15 @@ module _ (s : Scene) (h : List Made) where
 
 -- **what is shown of a scene.** The first history ends in a table that holds exactly what is in force (`holds`): the one rule, with its
 -- originator and actions (`oneHeld`), and not the other (`otherGone`); a packet that the one rule meets is matched there by one rule, which
--- drops it (`met`), and one that it does not meet is not (`missed`). The second history and the third, of attributes, end alike. The fourth,
--- whose routes change, holds exactly what is in force (`reroutedHolds`): the other rule (`reroutedHeld`), and not the one (`reroutedGone`).
+-- drops it and notes that its rate was taken as zero (`met`), and one that it does not meet is not (`missed`). The second history and the
+-- third, of attributes, end alike. The fourth, whose routes change, holds exactly what is in force (`reroutedHolds`): the other rule
+-- (`reroutedHeld`), and not the one (`reroutedGone`).
 pub record Shown (s : Scene) : Type 0 where
   pub holds : Holds s (worked s)
   pub oneHeld : Stands s (worked s) (entry s)
   pub otherGone : Gone s (worked s) (s .otherValue)
-  pub met : Judges s (worked s) (s .met) (1 ∷ 1 ∷ 0 ∷ 0 ∷ 0 ∷ 0 ∷ [])
-  pub missed : Judges s (worked s) (s .missed) (replicate 6 0)
+  pub met : Judges s (worked s) (s .met) (1 ∷ 1 ∷ 0 ∷ 0 ∷ 0 ∷ 0 ∷ takenAsZero ∷ [])
+  pub missed : Judges s (worked s) (s .missed) (replicate 7 0)
   pub alike : EndAlike (s .family) (left s (worked s)) (left s (other s))
   pub attributesAlike : EndAlike (s .family) (endOfEvents (emptyTable (s .size)) (attributes s)) (left s (worked s))
   pub reroutedHolds : Holds s (rerouted s)
@@ -145,13 +147,13 @@ module _ (s : Scene) (c : Computed s) where
         fits = within;
         given = ((rule, omega arith), ((octets-each (s .otherRule) (c .octetsOther), omega arith), ((rule, omega arith), ((rule, omega arith), (tt, tt)))));
         happened = (
-          announce-kept (s .family) (s .policy) (owned s) (emptyTable (s .size)) _ Held (s .one) (c .announces) refl refl,
+          announce-kept (s .family) (s .policy) (owned s) (emptyTable (s .size)) _ (Held takenAsZero) (s .one) (c .announces) refl refl,
           (
-            announce-kept (s .family) (s .policy) (marked s) (s .one) _ Held (s .both) (c .adds) refl refl,
+            announce-kept (s .family) (s .policy) (marked s) (s .one) _ (Held 0) (s .both) (c .adds) refl refl,
             (
               announce-kept (s .family) (s .policy) (foreign s) (s .both) _ (NotAnnounced 8 0) (s .another) (c .removes) refl refl,
               (
-                announce-kept (s .family) (s .policy) (owned s) (s .another) _ Held (s .both) (c .again) refl refl,
+                announce-kept (s .family) (s .policy) (owned s) (s .another) _ (Held takenAsZero) (s .both) (c .again) refl refl,
                 (withdraw-kept (s .family) (s .otherRule) (s .both) _ Done (s .one) (c .withdraws) refl refl, tt),
               ),
             ),
@@ -166,7 +168,7 @@ module _ (s : Scene) (c : Computed s) where
         given = (tt, ((octets-each (s .spelled) (c .octetsSpelled), omega arith), tt));
         happened = (
           withdraw-kept (s .family) (s .otherRule) (emptyTable (s .size)) _ (NotWithdrawn 14 0) (emptyTable (s .size)) (c .withdrawsNone) refl refl,
-          (announce-kept (s .family) (s .policy) (respelled s) (emptyTable (s .size)) _ Held (s .one) (c .announcesSpelled) refl refl, tt),
+          (announce-kept (s .family) (s .policy) (respelled s) (emptyTable (s .size)) _ (Held takenAsZero) (s .one) (c .announcesSpelled) refl refl, tt),
         );
       }
 
@@ -188,9 +190,9 @@ module _ (s : Scene) (c : Computed s) where
         fits = within;
         given = ((rule, omega arith), ((octets-each (s .otherRule) (c .octetsOther), omega arith), ((rule, omega arith), tt)));
         happened = (
-          announce-kept (s .family) (s .policy) (owned s) (emptyTable (s .size)) _ Held (s .one) (c .announces) refl refl,
+          announce-kept (s .family) (s .policy) (owned s) (emptyTable (s .size)) _ (Held takenAsZero) (s .one) (c .announces) refl refl,
           (
-            announce-kept (s .family) (s .policy) (marked s) (s .one) _ Held (s .both) (c .adds) refl refl,
+            announce-kept (s .family) (s .policy) (marked s) (s .one) _ (Held 0) (s .both) (c .adds) refl refl,
             (announce-kept (s .family) unrouted (owned s) (s .both) _ (NotAnnounced 8 0) (s .another) (c .removesUnrouted) refl refl, tt),
           ),
         );

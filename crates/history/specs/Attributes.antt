@@ -2,32 +2,44 @@
 -- for." An attribute that is refused stands for none. Demand 3 itself (History.antt) is read on those single calls.
 use Prim.Native.Nat.{ℕ, _^_, _<_, _≤_}
 use mathlib.Core.Path.{_≡_}
+use mathlib.Core.Bool.{true, cond}
 use mathlib.Core.List.{List, [], _∷_, _++_, map}
-use lib.ListN.{length, drop}
+use lib.ListN.{length, drop, getD}
 use Rattle.octets.specs.Number.{Octets}
 use Rattle.octets.specs.Test.{Each}
 use Rattle.rule.specs.declared.Family.{Family}
 use Rattle.table.specs.Sound.{mostOctets}
 use Rattle.request.specs.Input.{Policy}
 use Rattle.attribute.specs.Rules.{reachRules, unreachRules}
-use Rattle.update.specs.declared.Applied.{Applied}
-use Rattle.update.specs.declared.Applied.the-variants.{Done, Refused}
+use Rattle.flowspec.specs.Told.{Told}
+use Rattle.update.specs.declared.Reached.{Reached}
+use Rattle.update.specs.declared.Unreached.{Unreached}
 use Rattle.update.specs.Singles.{Reach, announcementIn}
-use Rattle.update.specs.Apply.{Left, reaching, unreaching, appliedTold}
+use Rattle.update.specs.Apply.{Left, reaching, unreaching, reachedTold, unreachedTold}
 use Rattle.update.specs.Promise.{Reaches, Unreaches}
-use Rattle.history.specs.History.{Call, announcement, withdrawal, Made, CanBe, Promised, numberOf, LentPolicy, endOf, madeOn, historyOf, emptyTable}
+use Rattle.history.specs.History.{Call, announcement, withdrawal, Made, CanBe, Promised, toldOf, numberOf, LentPolicy, endOf, madeOn, historyOf, emptyTable}
 
 -- A whole attribute, with whatever octets it came: a reach, with the routes and the setting that its rules are judged by, or an unreach.
 pub data Attribute : Type 0 where
   reach : Policy → Reach → Attribute
   unreach : List ℕ → Attribute
 
+-- What a call with a whole attribute is answered with, by its kind.
+abbrev pub AnswerToAll : Attribute → Type 0
+AnswerToAll (reach policy r) = Reached
+AnswerToAll (unreach attribute) = Unreached
+
+-- What that answer says.
+abbrev pub wholeTold : (attribute : Attribute) → AnswerToAll attribute → Told
+wholeTold (reach policy r) answer = reachedTold answer
+wholeTold (unreach attribute) answer = unreachedTold answer
+
 -- A call with a whole attribute as it was made: what it was given, the answer words that it was lent, its answer, and the answer words and
 -- the table's octets after it.
 pub record Whole : Type 0 where
   pub attribute : Attribute
   pub lent : List ℕ
-  pub answer : Applied
+  pub answer : AnswerToAll attribute
   pub words : List ℕ
   pub left : List ℕ
 
@@ -62,9 +74,8 @@ callsIn family (reach policy r) = map (λ rule. announcement policy (announcemen
 callsIn family (unreach attribute) = map withdrawal (unreachRules family attribute .items)
 
 -- The single calls that an attribute stands for, by its answer: none where it is refused.
-abbrev pub standsFor : Family → Attribute → Applied → List Call
-standsFor family attribute (Done count) = callsIn family attribute
-standsFor family attribute (Refused number place) = []
+abbrev pub standsFor : Family → (attribute : Attribute) → AnswerToAll attribute → List Call
+standsFor family attribute answer = cond (wholeTold attribute answer .grants) (callsIn family attribute) []
 
 -- What is asked of what a call is given, and holds by the types of what it is lent: a reach is octets, and its originator has 32 bits.
 abbrev pub AttributeCanBe : Attribute → Type 0
@@ -96,16 +107,18 @@ SameThroughout policy = Each (EventLent policy)
 
 -- **Nobody can tell the difference**: a call with a whole attribute does what single calls do, one after the other, on its table. It leaves
 -- the table that the last of them leaves (`leaves`); its answer words list the numbers that they are answered with, in order, and keep
--- the rest of what was lent (`lists`); and its answer counts them (`counts`). Of an attribute that is refused, whose own number and place
--- its promise has, there are none, so that nothing is changed.
-pub record ActsAs (table lent : List ℕ) (answer : Applied) (left words : List ℕ) (singles : List Made) : Type 0 where
+-- the rest of what was lent (`lists`); its answer counts them (`counts`); and the values behind the count, of a reach the notes of its
+-- rates, are those of each of them that is done (`notes`); a reach tells them also where none is. Of an attribute that is refused, whose
+-- own number and place its promise has, there are none, so that nothing is changed.
+pub record ActsAs (table lent : List ℕ) (told : Told) (left words : List ℕ) (singles : List Made) : Type 0 where
   pub leaves : left ≡ endOf table singles
   pub lists : words ≡ map numberOf singles ++ drop (length singles) lent
-  pub counts : appliedTold answer .values ≡ length singles ∷ []
+  pub counts : getD (told .values) 0 0 ≡ length singles
+  pub notes : Each (λ m. toldOf m .grants ≡ true → toldOf m .values ≡ drop 1 (told .values)) singles
 
 module _ (family : Family) where
   -- The promise of a call with a whole attribute, with a table at entry.
-  abbrev pub WholePromised : Attribute → List ℕ → List ℕ → Applied → List ℕ → List ℕ → Type 0
+  abbrev pub WholePromised : (attribute : Attribute) → List ℕ → List ℕ → AnswerToAll attribute → List ℕ → List ℕ → Type 0
   WholePromised (reach policy r) table lent answer left words =
       Reaches family policy r table lent answer left words (policy .routes ∷ r .attribute ∷ r .communities ∷ [])
   WholePromised (unreach attribute) table lent answer left words = Unreaches family attribute table lent answer left words (attribute ∷ [])
@@ -121,7 +134,7 @@ module _ (family : Family) where
   EventsHappened table (e ∷ es) = EventPromised table e × EventsHappened (leftBy e) es
 
   -- What a call with a whole attribute leaves.
-  abbrev pub leftOn : Attribute → List ℕ → List ℕ → Left
+  abbrev pub leftOn : (attribute : Attribute) → List ℕ → List ℕ → Left (AnswerToAll attribute)
   leftOn (reach policy r) table lent = reaching family policy r table lent
   leftOn (unreach attribute) table lent = unreaching family attribute table lent
 

@@ -55,9 +55,13 @@ pub record Made : Type 0 where
   pub answer : AnswerTo call
   pub left : List ℕ
 
+-- What its answer says.
+abbrev pub toldOf : Made → Told
+toldOf m = answerTold (m .call) (m .answer)
+
 -- The number that a call was answered with, 0 where it was done.
 abbrev pub numberOf : Made → ℕ
-numberOf m = answerTold (m .call) (m .answer) .number
+numberOf m = toldOf m .number
 
 -- What is asked of what a call is given, and holds by the types of what it is lent: an announced rule is octets, and an originator has 32
 -- bits.
@@ -69,8 +73,9 @@ CanBe (withdrawal rule) = Unit {0}
 abbrev pub EachCanBe : List Made → Type 0
 EachCanBe = Each (λ m. CanBe (m .call))
 
--- What two histories compare of a call: its kind and, of an announcement, its origin and the actions as read. The rule's spelling,
--- the communities' octets and the answer are not compared, and that both were lent one policy is a premise of its own (`SamePolicy`).
+-- What two histories compare of a call: its kind and, of an announcement, its origin and the actions as read, the notes of their rates among
+-- them. The rule's spelling, the communities' octets and the answer are not compared, and that both were lent one policy is a premise of
+-- its own (`SamePolicy`).
 pub data Deed : Type 0 where
   announced : Origin → ActionsReading → Deed
   withdrew : Deed

@@ -1,11 +1,12 @@
--- A scene of IPv4 (Worked.antt), in a buffer of 96 octets: mail and ping to one network.
+-- A scene of IPv4 (Worked.antt), in a buffer of 104 octets: mail and ping to one network.
 use Prim.Native.Nat.{ℕ}
 use mathlib.Core.Bool.{false}
 use mathlib.Core.List.{List, [], _∷_, _++_}
 use lib.ListN.{replicate}
 use Rattle.rule.specs.Family.{ipv4}
+use Rattle.rate.specs.Rate.{takenAsZero}
 use Rattle.request.specs.Input.{settingsOf, policyOf}
-use Rattle.history.specs.Worked.{Scene}
+use Rattle.history.specs.Worked.{Scene, headFor}
 
 -- Mail: destination 192.0.2.0/25, protocol 6, port 25.
 abbrev pub mailValue : List ℕ
@@ -21,11 +22,11 @@ pingValue = 0x01 ∷ 0x18 ∷ 0xc0 ∷ 0x00 ∷ 0x02 ∷ 0x03 ∷ 0x81 ∷ 0x01 
 
 -- The record of mail, which drops.
 abbrev pub mailRecord : List ℕ
-mailRecord = 0 ∷ 12 ∷ 0 ∷ 0 ∷ 0 ∷ 7 ∷ 1 ∷ 0 ∷ replicate 24 0 ++ mailValue
+mailRecord = headFor 12 1 0 takenAsZero ++ mailValue
 
--- The record of ping, with the flags and the DSCP of its actions.
-abbrev pub pingRecord : ℕ → ℕ → List ℕ
-pingRecord flags dscp = 0 ∷ 8 ∷ 0 ∷ 0 ∷ 0 ∷ 7 ∷ flags ∷ dscp ∷ replicate 24 0 ++ pingValue
+-- The record of ping, with the flags, the DSCP and the notes of its actions.
+abbrev pub pingRecord : ℕ → ℕ → ℕ → List ℕ
+pingRecord flags dscp notes = headFor 8 flags dscp notes ++ pingValue
 
 -- A TCP packet from 198.51.100.1, port 1024, to port 25 of a host in 192.0.2.0/24: 24 octets of 40.
 abbrev pub mailTo : ℕ → List ℕ
@@ -38,7 +39,7 @@ abbrev pub sceneFour : Scene
 sceneFour =
     record {
       family = ipv4;
-      size = 96;
+      size = 104;
       policy = policyOf (0xc0000200 ∷ 24 ∷ 7 ∷ 64500 ∷ []) (settingsOf false);
       value = mailValue;
       rule = 12 ∷ mailValue;
@@ -47,10 +48,10 @@ sceneFour =
       otherRule = 8 ∷ pingValue;
       reachedBoth = 0 ∷ 1 ∷ 133 ∷ 0 ∷ 0 ∷ (12 ∷ mailValue) ++ (8 ∷ pingValue);
       unreachedOther = 0 ∷ 1 ∷ 133 ∷ 8 ∷ pingValue;
-      one = mailRecord ++ replicate 52 0;
-      another = pingRecord 16 10 ++ replicate 56 0;
-      both = mailRecord ++ pingRecord 16 10 ++ replicate 12 0;
-      dropped = mailRecord ++ pingRecord 1 0 ++ replicate 12 0;
+      one = mailRecord ++ replicate 56 0;
+      another = pingRecord 16 10 0 ++ replicate 60 0;
+      both = mailRecord ++ pingRecord 16 10 0 ++ replicate 12 0;
+      dropped = mailRecord ++ pingRecord 1 0 takenAsZero ++ replicate 12 0;
       met = mailTo 5;
       missed = mailTo 200;
     }

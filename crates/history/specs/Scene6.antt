@@ -1,4 +1,4 @@
--- A scene of IPv6 (Worked.antt), in a buffer of 112 octets: two rules to one network whose sources differ in the
+-- A scene of IPv6 (Worked.antt), in a buffer of 120 octets: two rules to one network whose sources differ in the
 -- offset, which decides their order, and of which the first also asks for an upper layer; and, beside it, a rule whose destination has an
 -- offset, which is infeasible whatever the setting.
 use Prim.Native.Nat.{ℕ}
@@ -6,8 +6,9 @@ use mathlib.Core.Bool.{true, false}
 use mathlib.Core.List.{List, [], _∷_, _++_}
 use lib.ListN.{replicate}
 use Rattle.rule.specs.Family.{ipv6}
+use Rattle.rate.specs.Rate.{takenAsZero}
 use Rattle.request.specs.Input.{Announcement, Policy, settingsOf, announcementOf, policyOf}
-use Rattle.history.specs.Worked.{Scene, seven, dropping}
+use Rattle.history.specs.Worked.{Scene, seven, dropping, headFor}
 
 -- The words of the route 2001:db8::/32 to originator 7, over neighbour AS 64500.
 abbrev pub routeSix : List ℕ
@@ -28,11 +29,11 @@ lastValue = 0x01 ∷ 0x21 ∷ 0x00 ∷ 0x20 ∷ 0x01 ∷ 0x0d ∷ 0xb8 ∷ 0x00 
 
 -- The record of the first, which drops.
 abbrev pub hostRecord : List ℕ
-hostRecord = 0 ∷ 22 ∷ 0 ∷ 0 ∷ 0 ∷ 7 ∷ 1 ∷ 0 ∷ replicate 24 0 ++ hostValue
+hostRecord = headFor 22 1 0 takenAsZero ++ hostValue
 
--- The record of the second, with the flags and the DSCP of its actions.
-abbrev pub lastRecord : ℕ → ℕ → List ℕ
-lastRecord flags dscp = 0 ∷ 12 ∷ 0 ∷ 0 ∷ 0 ∷ 7 ∷ flags ∷ dscp ∷ replicate 24 0 ++ lastValue
+-- The record of the second, with the flags, the DSCP and the notes of its actions.
+abbrev pub lastRecord : ℕ → ℕ → ℕ → List ℕ
+lastRecord flags dscp notes = headFor 12 flags dscp notes ++ lastValue
 
 -- A packet from 2001:db8:1::HOST, port 1024, to port 25 of 2001:db8::5, behind a header of options: of its 20 octets of TCP four are lent.
 abbrev pub fromHost : ℕ → List ℕ
@@ -47,7 +48,7 @@ abbrev pub sceneSix : Scene
 sceneSix =
     record {
       family = ipv6;
-      size = 112;
+      size = 120;
       policy = policyOf routeSix (settingsOf false);
       value = hostValue;
       rule = 22 ∷ hostValue;
@@ -56,10 +57,10 @@ sceneSix =
       otherRule = 12 ∷ lastValue;
       reachedBoth = 0 ∷ 2 ∷ 133 ∷ 0 ∷ 0 ∷ (22 ∷ hostValue) ++ (12 ∷ lastValue);
       unreachedOther = 0 ∷ 2 ∷ 133 ∷ 12 ∷ lastValue;
-      one = hostRecord ++ replicate 58 0;
-      another = lastRecord 16 10 ++ replicate 68 0;
-      both = hostRecord ++ lastRecord 16 10 ++ replicate 14 0;
-      dropped = hostRecord ++ lastRecord 1 0 ++ replicate 14 0;
+      one = hostRecord ++ replicate 62 0;
+      another = lastRecord 16 10 0 ++ replicate 72 0;
+      both = hostRecord ++ lastRecord 16 10 0 ++ replicate 14 0;
+      dropped = hostRecord ++ lastRecord 1 0 takenAsZero ++ replicate 14 0;
       met = fromHost 1;
       missed = fromHost 2;
     }
@@ -78,4 +79,4 @@ allowing = policyOf routeSix (settingsOf true)
 
 -- A table of 64 octets with that rule, which no call leaves: it is made.
 abbrev pub shiftedTable : List ℕ
-shiftedTable = 0 ∷ 11 ∷ 0 ∷ 0 ∷ 0 ∷ 7 ∷ 1 ∷ 0 ∷ replicate 24 0 ++ shiftedValue ++ replicate 21 0
+shiftedTable = headFor 11 1 0 takenAsZero ++ shiftedValue ++ replicate 17 0

@@ -4,9 +4,11 @@
 -- when the one rule is announced again. Scene4.antt has a scene of IPv4, and Scene6.antt one of IPv6.
 use Prim.Native.Nat.{ℕ}
 use mathlib.Core.Bool.{false}
-use mathlib.Core.List.{List, [], _∷_}
+use mathlib.Core.List.{List, [], _∷_, _++_}
+use lib.ListN.{replicate}
 use Rattle.rule.specs.declared.Family.{Family}
 use Rattle.route.specs.declared.Origin.{Origin}
+use Rattle.rate.specs.Rate.{takenAsZero}
 use Rattle.action.specs.declared.Actions.{Actions}
 use Rattle.action.specs.Given.{given}
 use Rattle.action.specs.Limit.{limit}
@@ -16,7 +18,8 @@ use Rattle.entry.specs.Entry.{Entry}
 use Rattle.flowspec.specs.declared.Announced.the-variants.{Held, Refused as NotAnnounced}
 use Rattle.flowspec.specs.declared.Withdrawn.the-variants.{Done, Refused as NotWithdrawn}
 use Rattle.request.specs.Input.{Announcement, Policy, settingsOf, originOf, announcementOf, policyOf}
-use Rattle.update.specs.declared.Applied.the-variants.{Done as DoneAll}
+use Rattle.update.specs.declared.Reached.the-variants.{Done as AllAnnounced}
+use Rattle.update.specs.declared.Unreached.the-variants.{Done as AllWithdrawn}
 use Rattle.update.specs.Singles.{Reach, reachOf}
 use Rattle.history.specs.History.{Call, announcement, withdrawal, AnswerTo, Made, emptyTable}
 use Rattle.history.specs.Attributes.{reach, unreach, Event, whole}
@@ -58,25 +61,29 @@ seven = originOf 7
 abbrev pub eight : Origin
 eight = originOf 8
 
--- A byte rate of 0.
+-- A byte rate of minus 1, which is taken as zero.
 abbrev pub dropping : List ℕ
-dropping = 0x80 ∷ 0x06 ∷ 0 ∷ 0 ∷ 0 ∷ 0 ∷ 0 ∷ 0 ∷ []
+dropping = 0x80 ∷ 0x06 ∷ 0 ∷ 0 ∷ 0xbf ∷ 0x80 ∷ 0 ∷ 0 ∷ []
 
 -- A marking with DSCP 10.
 abbrev pub marking : List ℕ
 marking = 0x80 ∷ 0x09 ∷ 0 ∷ 0 ∷ 0 ∷ 0 ∷ 0 ∷ 10 ∷ []
 
--- The byte rate of 0 behind a route target, which is skipped.
+-- The same byte rate behind a route target, which is skipped.
 abbrev pub droppingSpelled : List ℕ
 droppingSpelled = 0x00 ∷ 0x02 ∷ 0xfd ∷ 0xe8 ∷ 0 ∷ 0 ∷ 0 ∷ 1 ∷ dropping
 
--- The byte rate of 0 as read.
+-- The byte rate as read.
 abbrev pub drops : Actions
-drops = withByteRate noActions (limit 0)
+drops = withByteRate noActions (limit 0 takenAsZero)
 
 -- The marking as read.
 abbrev pub marks : Actions
 marks = withMarking noActions (given 10)
+
+-- The head of a record of 7 whose rates and redirect stand as 0: so many octets of value, flags, DSCP, notes and three zeros.
+abbrev pub headFor : ℕ → ℕ → ℕ → ℕ → List ℕ
+headFor size flags dscp notes = 0 ∷ size ∷ 0 ∷ 0 ∷ 0 ∷ 7 ∷ flags ∷ dscp ∷ replicate 24 0 ++ notes ∷ 0 ∷ 0 ∷ 0 ∷ []
 
 -- A call with its answer and what it left.
 abbrev pub made : (call : Call) → AnswerTo call → List ℕ → Made
@@ -114,10 +121,10 @@ module _ (s : Scene) where
   -- The first history.
   abbrev pub worked : List Made
   worked =
-      made (announcement (s .policy) owned) Held (s .one)
-      ∷ made (announcement (s .policy) marked) Held (s .both)
+      made (announcement (s .policy) owned) (Held takenAsZero) (s .one)
+      ∷ made (announcement (s .policy) marked) (Held 0) (s .both)
       ∷ made (announcement (s .policy) foreign) (NotAnnounced 8 0) (s .another)
-      ∷ made (announcement (s .policy) owned) Held (s .both)
+      ∷ made (announcement (s .policy) owned) (Held takenAsZero) (s .both)
       ∷ made (withdrawal (s .otherRule)) Done (s .one)
       ∷ []
 
@@ -125,7 +132,7 @@ module _ (s : Scene) where
   abbrev pub other : List Made
   other =
       made (withdrawal (s .otherRule)) (NotWithdrawn 14 0) (emptyTable (s .size))
-      ∷ made (announcement (s .policy) respelled) Held (s .one)
+      ∷ made (announcement (s .policy) respelled) (Held takenAsZero) (s .one)
       ∷ []
 
   -- Both rules in one reach, both to be dropped.
@@ -135,15 +142,15 @@ module _ (s : Scene) where
   -- The third: both are announced by the reach, lent three answer words, and the other is withdrawn by the unreach.
   abbrev pub attributes : List Event
   attributes =
-      whole (record { attribute = reach (s .policy) bothReached; lent = 99 ∷ 99 ∷ 99 ∷ []; answer = DoneAll 2; words = 0 ∷ 0 ∷ 99 ∷ []; left = s .dropped })
-      ∷ whole (record { attribute = unreach (s .unreachedOther); lent = 99 ∷ []; answer = DoneAll 1; words = 0 ∷ []; left = s .one })
+      whole (record { attribute = reach (s .policy) bothReached; lent = 99 ∷ 99 ∷ 99 ∷ []; answer = AllAnnounced 2 takenAsZero; words = 0 ∷ 0 ∷ 99 ∷ []; left = s .dropped })
+      ∷ whole (record { attribute = unreach (s .unreachedOther); lent = 99 ∷ []; answer = AllWithdrawn 1; words = 0 ∷ []; left = s .one })
       ∷ []
 
   -- The single calls that the attributes stand for.
   abbrev pub standing : List Made
   standing =
-      made (announcement (s .policy) owned) Held (s .one)
-      ∷ made (announcement (s .policy) otherDropped) Held (s .dropped)
+      made (announcement (s .policy) owned) (Held takenAsZero) (s .one)
+      ∷ made (announcement (s .policy) otherDropped) (Held takenAsZero) (s .dropped)
       ∷ made (withdrawal (s .otherRule)) Done (s .one)
       ∷ []
 
@@ -151,7 +158,7 @@ module _ (s : Scene) where
   -- by the routes of its own, stays.
   abbrev pub rerouted : List Made
   rerouted =
-      made (announcement (s .policy) owned) Held (s .one)
-      ∷ made (announcement (s .policy) marked) Held (s .both)
+      made (announcement (s .policy) owned) (Held takenAsZero) (s .one)
+      ∷ made (announcement (s .policy) marked) (Held 0) (s .both)
       ∷ made (announcement unrouted owned) (NotAnnounced 8 0) (s .another)
       ∷ []

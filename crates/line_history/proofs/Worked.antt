@@ -21,10 +21,10 @@ use Rattle.order.specs.Precedence.{bodyOrder, componentOrder, componentsOrder, 
 use Rattle.route.specs.Destination.{destinationFor, destinationAmong, destinationOf}
 use Rattle.route.specs.Feasible.{coveredBy, moreSpecific, longer, matched, bestMatch, undisputed, judged, feasible, originates}
 use Rattle.route.specs.Route.{numberInWords, routeAt, routesFrom, routesOf, plainPrefix, rises, rising, soundRoutes}
-use Rattle.rate.specs.Rate.{scaled, numberFor, numberOfParts, rateOfParts, rateOf, fitsSignificand, rateGiven}
-use Rattle.action.specs.Actions.{ofType, smallest, first, ruleActions, communitiesAt, actionsOf, flagsOf}
+use Rattle.rate.specs.Rate.{scaled, valueRate, rateOfParts, rateOf, fitsSignificand, isSingle, rateGiven}
+use Rattle.action.specs.Actions.{ofType, smallest, first, ruleActions, communitiesAt, actionsOf, flagsOf, notesOf}
 use Rattle.action.specs.Given.{firstOf, allowed}
-use Rattle.action.specs.Limit.{smallerOf}
+use Rattle.action.specs.Limit.{smallerOf, couldBeLimit}
 use Rattle.action.specs.Merging.{merged}
 use Rattle.action.specs.Possible.{couldBe}
 use Rattle.entry.specs.Entry.{plainValue, possible}
@@ -60,8 +60,8 @@ unfolding
     checkValue expectedAtStart bodyOf patternAfter operandAfter after withoutReserved plainOperator plainOperand plainPattern clearedOctet
     plainFrom plain bodyKey keyOf keysOf bodyOrder componentOrder componentsOrder plainOrder precedence destinationFor destinationAmong
     destinationOf coveredBy moreSpecific longer matched bestMatch undisputed judged feasible numberInWords routeAt routesFrom routesOf
-    plainPrefix rises rising soundRoutes scaled numberFor numberOfParts rateOfParts rateOf fitsSignificand rateGiven ofType smallest first
-    ruleActions communitiesAt actionsOf flagsOf firstOf smallerOf allowed merged couldBe plainValue possible writtenFields readFields
+    plainPrefix rises rising soundRoutes scaled valueRate rateOfParts rateOf fitsSignificand isSingle rateGiven ofType smallest first
+    ruleActions communitiesAt actionsOf flagsOf notesOf firstOf smallerOf couldBeLimit allowed merged couldBe plainValue possible writtenFields readFields
     headNumbers recordOf actionsIn entryOf goodRecord recordsOf tableOf soundTable soundness recordAt recordsFrom records entries
     readWithRoutes isFeasible requestOf announcing withdrawing numberFrom numberIn startsWell isNumber digitsOf decimalOf fields placeOf
     isHexDigit hexValue hexDigit areOctets octetsIn hexOf areOf said lineOf placeText answerText ruleText rulesText countText listText

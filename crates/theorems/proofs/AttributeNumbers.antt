@@ -23,10 +23,11 @@ use Rattle.attribute.specs.Head.{reachHead, unreachHead}
 use Rattle.attribute.specs.Rules.{rulesFrom}
 use Rattle.attribute.specs.Refusals.{RulesAccepted}
 use Rattle.attribute.proofs.RefusalsLaws.{refused-rules, accepted-rules, rules-numbered}
-use Rattle.update.specs.declared.Applied.{Applied}
+use Rattle.update.specs.declared.Reached.{Reached}
+use Rattle.update.specs.declared.Unreached.{Unreached}
 use Rattle.update.specs.Singles.{Reach}
 use Rattle.update.specs.Checks.{reachChecks, unreachChecks}
-use Rattle.update.specs.Apply.{appliedTold}
+use Rattle.update.specs.Apply.{reachedTold, unreachedTold}
 use Rattle.theorems.specs.AttributeNumbers.{ReachNumber, UnreachNumber, ReachNumbers, UnreachNumbers}
 use Rattle.update.specs.Promise.{Reaches, Unreaches}
 use Rattle.update.proofs.ApplyLaws.{told-of, decided-ind, accepted-holds}
@@ -65,8 +66,8 @@ module _ (family : Family) (a : List ℕ) (head : ℕ) where
 
 -- ---- announcing ----
 
-pub reach-numbers : {family : Family} {policy : Policy} {reach : Reach} {table answers : List ℕ} {answer : Applied} {exit words : List ℕ} {kept : List (List ℕ)}
-    → Reaches family policy reach table answers answer exit words kept → ReachNumbers family policy reach table answers (appliedTold answer)
+pub reach-numbers : {family : Family} {policy : Policy} {reach : Reach} {table answers : List ℕ} {answer : Reached} {exit words : List ℕ} {kept : List (List ℕ)}
+    → Reaches family policy reach table answers answer exit words kept → ReachNumbers family policy reach table answers (reachedTold answer)
 reach-numbers {family} {policy} {reach} {table} {answers} p =
     let a = reach .attribute in
     let cs = reachChecks family policy reach table answers in
@@ -105,8 +106,8 @@ reach-numbers {family} {policy} {reach} {table} {answers} p =
 
 -- ---- withdrawing ----
 
-pub unreach-numbers : {family : Family} {attribute table answers : List ℕ} {answer : Applied} {exit words : List ℕ} {kept : List (List ℕ)}
-    → Unreaches family attribute table answers answer exit words kept → UnreachNumbers family attribute table answers (appliedTold answer)
+pub unreach-numbers : {family : Family} {attribute table answers : List ℕ} {answer : Unreached} {exit words : List ℕ} {kept : List (List ℕ)}
+    → Unreaches family attribute table answers answer exit words kept → UnreachNumbers family attribute table answers (unreachedTold answer)
 unreach-numbers {family} {attribute} {table} {answers} p =
     let cs = unreachChecks family attribute table answers in
     let not-of-rules = apart-from family attribute unreachHead in

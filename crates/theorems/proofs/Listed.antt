@@ -1,6 +1,6 @@
 -- **Which numbers the answer words list**: where a reach is done, 0, 8 or 11 for each of its rules, and where an unreach is, 0 or 14; every other
 -- refusal of a single call would have refused the whole attribute. Assumes nothing.
-use mathlib.Core.Path.{_≡_, refl, sym, ap, _∙_}
+use mathlib.Core.Path.{_≡_, refl, ap, _∙_}
 use mathlib.Core.Bool.{Bool, true, false}
 use mathlib.Core.List.{List, []}
 use mathlib.Core.Logic.{inl, inr}
@@ -26,11 +26,11 @@ use Rattle.request.specs.Judging.{isFeasible}
 use Rattle.flowspec.specs.Checks.{Check, AllHold, actionsRead}
 use Rattle.attribute.specs.Head.{reachHead, unreachHead}
 use Rattle.attribute.specs.Rules.{rulesFrom}
-use Rattle.update.specs.declared.Applied.{Applied}
-use Rattle.update.specs.declared.Applied.the-variants.{Done, Refused}
+use Rattle.update.specs.declared.Reached.the-variants.{Done as AllAnnounced, Refused as NotReached}
+use Rattle.update.specs.declared.Unreached.the-variants.{Done as AllWithdrawn, Refused as NotUnreached}
 use Rattle.update.specs.declared.Task.the-variants.{Announce, Withdraw}
 use Rattle.update.specs.Singles.{Reach, Singles, announcingEach, withdrawingEach}
-use Rattle.update.specs.Checks.{reachChecks, unreachChecks}
+use Rattle.update.specs.Checks.{reachNotes, reachChecks, unreachChecks}
 use Rattle.update.specs.Apply.{decided, Left, appliedAll, refusedWhole, reaching, unreaching}
 use Rattle.update.specs.Promise.{Reaches, Unreaches}
 use Rattle.theorems.specs.AttributeNumbers.{AnnouncedNumber, WithdrawnNumber}
@@ -59,15 +59,16 @@ record Granted (cs : List Check) (singles : Singles) (count : ℕ) (words : List
   pub hold : AllHold cs
   pub front : take count words ≡ singles .numbers
 
-granted : (cs : List Check) (singles : Singles) (t answers : List ℕ) (left : Left) (count : ℕ)
-    → left ≡ decided cs (appliedAll singles answers) (refusedWhole t answers) → left .answer ≡ Done count → Granted cs singles count (left .words)
-granted cs singles t answers left count is e =
-    let came = was-granted cs (appliedAll singles answers) (refusedWhole t answers) left is
-    (λ number place g. let z : Done count ≡ Refused number place = sym e ∙ ap (λ (l : Left). l .answer) g in apart (cc)) in
-    let z = sym e ∙ ap (λ (l : Left). l .answer) (came .1) in
-    let counts : length (singles .numbers) ≡ count = cc in
+granted : {A : Type 0} (answerFor : ℕ → A) (refuse : ℕ → ℕ → A) (cs : List Check) (singles : Singles) (t answers : List ℕ) (left : Left A) (count : ℕ)
+    → left ≡ decided cs (appliedAll answerFor singles answers) (refusedWhole refuse t answers)
+    → ((number place : ℕ) → left .answer ≡ refuse number place → ⊥) → ((n : ℕ) → left .answer ≡ answerFor n → n ≡ count)
+    → Granted cs singles count (left .words)
+granted {A} answerFor refuse cs singles t answers left count is never only =
+    let came = was-granted cs (appliedAll answerFor singles answers) (refusedWhole refuse t answers) left is
+    (λ number place g. never number place (ap (λ (l : Left A). l .answer) g)) in
+    let counts = only (length (singles .numbers)) (ap (λ (l : Left A). l .answer) (came .1)) in
     let rest = drop (length (singles .numbers)) answers in
-    record { hold = came .0; front = ap (λ (l : Left). take count (l .words)) (came .1) ∙ take-at (singles .numbers) rest count counts }
+    record { hold = came .0; front = ap (λ (l : Left A). take count (l .words)) (came .1) ∙ take-at (singles .numbers) rest count counts }
 
 module _ (family : Family) (t : List ℕ) where
   -- **the numbers of a reach**
@@ -86,20 +87,24 @@ module _ (family : Family) (t : List ℕ) where
       rw (withdraws-are family t (hold .0) [] attribute o)
       (each-listed WithdrawnNumber (ruleCall family [] Withdraw) (withdrawn-number family []) (rulesFrom family attribute unreachHead .items) t)
 
-  module _ (answers : List ℕ) (answer : Applied) (exit words : List ℕ) (kept : List (List ℕ)) (count : ℕ) (done : answer ≡ Done count) where
+  module _ (answers exit words : List ℕ) (kept : List (List ℕ)) (count : ℕ) where
     -- the same of the words at the front of the buffer, by the promises
-    pub reach-listed : (policy : Policy) (reach : Reach) → Octets (reach .attribute) → reach .origin .originator < 2 ^ 32
-        → Reaches family policy reach t answers answer exit words kept → Each AnnouncedNumber (take count words)
+    pub reach-listed : (policy : Policy) (reach : Reach) (notes : ℕ) → Octets (reach .attribute) → reach .origin .originator < 2 ^ 32
+        → Reaches family policy reach t answers (AllAnnounced count notes) exit words kept → Each AnnouncedNumber (take count words)
     unfolding reaching
-    reach-listed policy reach o small p =
-        let g = granted (reachChecks family policy reach t answers) (announcingEach family policy reach t) t answers
-        (reaching family policy reach t answers) count refl (sym (p .is) ∙ done) in
+    reach-listed policy reach notes o small p =
+        let g = granted (λ n. AllAnnounced n (reachNotes reach)) NotReached (reachChecks family policy reach t answers) (announcingEach family policy reach t) t answers
+        (reaching family policy reach t answers) count refl
+        (λ number place e. let z : AllAnnounced count notes ≡ NotReached number place = p .is ∙ e in apart (cc))
+        (λ n e. let z : AllAnnounced count notes ≡ AllAnnounced n (reachNotes reach) = p .is ∙ e in cc) in
         rw (p .lists, g .front) (announces-listed policy reach answers o small (g .hold))
 
-    pub unreach-listed : (attribute : List ℕ) → Octets attribute → Unreaches family attribute t answers answer exit words kept
+    pub unreach-listed : (attribute : List ℕ) → Octets attribute → Unreaches family attribute t answers (AllWithdrawn count) exit words kept
         → Each WithdrawnNumber (take count words)
     unfolding unreaching
     unreach-listed attribute o p =
-        let g = granted (unreachChecks family attribute t answers) (withdrawingEach family attribute t) t answers
-        (unreaching family attribute t answers) count refl (sym (p .is) ∙ done) in
+        let g = granted AllWithdrawn NotUnreached (unreachChecks family attribute t answers) (withdrawingEach family attribute t) t answers
+        (unreaching family attribute t answers) count refl
+        (λ number place e. let z : AllWithdrawn count ≡ NotUnreached number place = p .is ∙ e in apart (cc))
+        (λ n e. let z : AllWithdrawn count ≡ AllWithdrawn n = p .is ∙ e in cc) in
         rw (p .lists, g .front) (withdraws-listed attribute answers o (g .hold))

@@ -27,9 +27,10 @@ use Rattle.spelling.proofs.SpellingLaws.{check-plain}
 use Rattle.rule.proofs.ReadingLaws.{one-read, one-refused}
 use Rattle.order.specs.Key.{RuleKey, keysOf, keyOrder}
 use Rattle.order.proofs.KeyLaws.{key-order, keys-only}
+use Rattle.action.specs.declared.Actions.{Actions}
 use Rattle.action.specs.declared.Reading.{Reading as ActionsReading}
 use Rattle.action.specs.declared.Reading.the-variants.{Read, Unsound}
-use Rattle.action.specs.Actions.{actionsOf}
+use Rattle.action.specs.Actions.{actionsOf, notesOf}
 use Rattle.entry.specs.Entry.{Entry, entryKey, possible}
 use Rattle.entry.proofs.ValueLaws.{is-possible}
 use Rattle.table.specs.Walk.{entries}
@@ -64,12 +65,12 @@ abbrev KeepsButAt8 : List ℕ → Outcome Announced → Type 0
 KeepsButAt8 t o = (number place : ℕ) → o .answer ≡ NotAnnounced number place → (number ≡ 8 → ⊥) → o .table ≡ t
 
 module _ (family : Family) (t : List ℕ) (sound : soundTable family t ≡ true) where
-  announced : (e : Entry) (feasible : Bool) → KeepsButAt8 t (outcome announcedOf (changed family t (announce e feasible)))
+  announced : (actions : Actions) (e : Entry) (feasible : Bool) → KeepsButAt8 t (outcome (announcedOf actions) (changed family t (announce e feasible)))
   unfolding announcedOf
-  announced e true number place h n =
-      by-test (hasRoom family t e) (λ r. let z : Held ≡ NotAnnounced number place = rw (changed-room family t e r) at h in apart (cc))
+  announced actions e true number place h n =
+      by-test (hasRoom family t e) (λ r. let z : Held (notesOf actions) ≡ NotAnnounced number place = rw (changed-room family t e r) at h in apart (cc))
       (λ r. rw (changed-no-room family t e r) (sym (sound-encodes family t sound .is)))
-  announced e false number place h n =
+  announced actions e false number place h n =
       let z : NotAnnounced 8 0 ≡ NotAnnounced number place = rw (changed-infeasible family t e) at h in
       let eight : number ≡ 8 = cc in
       absurd (n eight)
@@ -86,7 +87,7 @@ announce-keeps family policy a t =
     by-test (soundTable family t) (λ s. rw s (go s (requestOf family policy a))) (λ s. rw s (λ number place h n. refl))
   where
     go : soundTable family t ≡ true → (r : Request) → KeepsButAt8 t (announcedBy family a t r)
-    go s (Announce start size actions feasible) = announced family t s (announcedEntry family a start size actions) feasible
+    go s (Announce start size actions feasible) = announced family t s actions (announcedEntry family a start size actions) feasible
     go s (NoRequest number place) = λ m p h n. refl
 
 withdraw-keeps : (family : Family) (rule t : List ℕ) → Keeps t (withdrawing family rule t)

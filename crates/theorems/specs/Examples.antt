@@ -1,6 +1,6 @@
--- 01's examples marked P, in one list: each asks a definition something and expects numbers of it. proofs/Examples.antt has the one
--- claim about all of them.
-use Prim.Native.Nat.{ℕ}
+-- 01's examples marked P, in one list, and rates with the notes of 2026-05 in another: each asks a definition something and expects numbers
+-- of it. proofs/Examples.antt has one claim about each list.
+use Prim.Native.Nat.{ℕ, _^_}
 use mathlib.Core.Bool.{Bool, true, false}
 use mathlib.Core.List.{List, [], _∷_}
 use Rattle.octets.specs.Order.{ordered}
@@ -36,9 +36,9 @@ abbrev pub checkedAs : Checked → List ℕ
 checkedAs Accepted = 0 ∷ 0 ∷ []
 checkedAs (Refused number place) = number ∷ place ∷ []
 
--- 0 and the number that a rate gives, or 13.
+-- 0, the number that a rate gives and its note, or 13.
 abbrev pub ratedAs : Rate → List ℕ
-ratedAs (Number n) = 0 ∷ n ∷ []
+ratedAs (Number number note) = 0 ∷ number ∷ note ∷ []
 ratedAs NotANumber = 13 ∷ []
 
 -- 1 where the packet matches, 0 where it does not, 12 where it is unusable.
@@ -90,10 +90,23 @@ examples =
     ∷ is (order (0x01 ∷ 0x18 ∷ 0xc0 ∷ 0x00 ∷ 0x02 ∷ []) (0x01 ∷ 0x18 ∷ 0xc6 ∷ 0x33 ∷ 0x64 ∷ [])) (1 ∷ [])
     ∷ is (order (0x01 ∷ 0x00 ∷ []) (0x03 ∷ 0x81 ∷ 0x06 ∷ [])) (1 ∷ [])
     ∷ is (order (0x01 ∷ 0x10 ∷ 0x09 ∷ 0xff ∷ []) (0x01 ∷ 0x08 ∷ 0x0a ∷ [])) (1 ∷ [])
-    ∷ is (rate 0xbf800000) (0 ∷ 0 ∷ [])
-    ∷ is (rate 0x80000000) (0 ∷ 0 ∷ [])
-    ∷ is (rate 0x00000001) (0 ∷ 1 ∷ [])
-    ∷ is (rate 0x4b7fffff) (0 ∷ 16777215 ∷ [])
+    ∷ is (rate 0xbf800000) (0 ∷ 0 ∷ 4 ∷ [])
+    ∷ is (rate 0x80000000) (0 ∷ 0 ∷ 0 ∷ [])
+    ∷ is (rate 0x00000001) (0 ∷ 1 ∷ 2 ∷ [])
+    ∷ is (rate 0x4b7fffff) (0 ∷ 16777215 ∷ 0 ∷ [])
     ∷ is (match (0x04 ∷ 0x03 ∷ 0x89 ∷ 0xc5 ∷ 0x8b ∷ []) (udp 100 200)) (0 ∷ [])
     ∷ is (match (0x04 ∷ 0x03 ∷ 0x89 ∷ 0xc5 ∷ 0x8b ∷ []) (udp 138 200)) (1 ∷ [])
+    ∷ []
+
+-- 2026-05: "exact, rounded down, raised to 1, or capped; minus zero is exact, negative numbers are "taken as zero"": 1 and 1.5, 0.5, 2^63 and
+-- plus infinity, plus zero and minus infinity.
+abbrev pub notes : List Example
+notes =
+    is (rate 0x3f800000) (0 ∷ 1 ∷ 0 ∷ [])
+    ∷ is (rate 0x3fc00000) (0 ∷ 1 ∷ 1 ∷ [])
+    ∷ is (rate 0x3f000000) (0 ∷ 1 ∷ 2 ∷ [])
+    ∷ is (rate 0x5f000000) (0 ∷ (2 ^ 63) ∷ 0 ∷ [])
+    ∷ is (rate 0x7f800000) (0 ∷ (2 ^ 63) ∷ 3 ∷ [])
+    ∷ is (rate 0x00000000) (0 ∷ 0 ∷ 0 ∷ [])
+    ∷ is (rate 0xff800000) (0 ∷ 0 ∷ 4 ∷ [])
     ∷ []

@@ -1,7 +1,7 @@
--- A worked attribute of each kind, on a table of 96 octets and one route. A reach has five rules: web is announced; a rule to a prefix that
--- no route covers is not feasible; echo is announced; for a third feasible rule there is no room; and web is announced again. An unreach
--- then withdraws echo twice. A reach whose reserved octet is not 0 is done; other attributes, each of which breaks one rule of the whole, are
--- refused.
+-- A worked attribute of each kind, on a table of 136 octets and one route. A reach has five rules: web is announced; a rule to a prefix that
+-- no route covers is not feasible; echo is announced; for a third feasible rule the room is one octet too small; and web is announced
+-- again. An unreach then withdraws echo twice. A reach with the rule alone that is not feasible is done, and so is one whose reserved octet
+-- is not 0; other attributes, each of which breaks one rule of the whole, are refused. Both rates of a reach are changed as they are read.
 use Prim.Native.Nat.{ℕ}
 use mathlib.Core.Bool.{false}
 use mathlib.Core.List.{List, [], _∷_, _++_}
@@ -54,6 +54,10 @@ fiveRules = reachStart ++ web ++ elsewhere ++ echo ++ third ++ web
 abbrev pub fiveCut : List ℕ
 fiveCut = take 55 fiveRules
 
+-- A reach with the rule to the prefix that no route covers.
+abbrev pub elsewhereAlone : List ℕ
+elsewhereAlone = reachStart ++ elsewhere
+
 -- The unreach with echo twice.
 abbrev pub echoTwice : List ℕ
 echoTwice = unreachStart ++ echo ++ echo
@@ -78,9 +82,13 @@ ofVpn = 0x00 ∷ 0x01 ∷ 0x86 ∷ 0x00 ∷ 0x00 ∷ web
 abbrev pub echoOfAnother : List ℕ
 echoOfAnother = 0x00 ∷ 0x02 ∷ 0x85 ∷ echo
 
--- A byte rate of 0.
-abbrev pub discarding : List ℕ
-discarding = 0x80 ∷ 0x06 ∷ 0 ∷ 0 ∷ 0 ∷ 0 ∷ 0 ∷ 0 ∷ []
+-- A byte rate of 1.5, which is rounded down to 1, and a packet rate of minus 1, which is taken as zero.
+abbrev pub limiting : List ℕ
+limiting = 0x80 ∷ 0x06 ∷ 0 ∷ 0 ∷ 0x3f ∷ 0xc0 ∷ 0 ∷ 0 ∷ 0x80 ∷ 0x0c ∷ 0 ∷ 0 ∷ 0xbf ∷ 0x80 ∷ 0 ∷ 0 ∷ []
+
+-- Their notes in one octet: 1 for the byte rate in the low three bits, 4 for the packet rate in the next three.
+abbrev pub theirNotes : ℕ
+theirNotes = 0x21
 
 -- A byte rate that is not a number.
 abbrev pub unsoundRate : List ℕ
@@ -90,25 +98,25 @@ unsoundRate = 0x80 ∷ 0x06 ∷ 0 ∷ 0 ∷ 0x7f ∷ 0xc0 ∷ 0 ∷ 0 ∷ []
 abbrev pub seven : Origin
 seven = record { originator = 7 }
 
--- A reach from originator 7, with byte rate 0.
+-- A reach from originator 7, with the two rates.
 abbrev pub fromSeven : List ℕ → Reach
-fromSeven attribute = reachOf attribute seven discarding
+fromSeven attribute = reachOf attribute seven limiting
 
--- A record's head: so many octets of value, originator 7, byte rate 0.
+-- A record's head: so many octets of value, originator 7, the flags of both rates, byte rate 1, packet rate 0, their notes, three zeros.
 abbrev pub headFor : ℕ → List ℕ
-headFor size = 0 ∷ size ∷ 0 ∷ 0 ∷ 0 ∷ 7 ∷ 1 ∷ 0 ∷ replicate 24 0
+headFor size = 0 ∷ size ∷ 0 ∷ 0 ∷ 0 ∷ 7 ∷ 3 ∷ 0 ∷ replicate 7 0 ++ 1 ∷ replicate 16 0 ++ theirNotes ∷ 0 ∷ 0 ∷ 0 ∷ []
 
 -- The table with no rule.
 abbrev pub noneHeld : List ℕ
-noneHeld = replicate 96 0
+noneHeld = replicate 136 0
 
 -- The table with web.
 abbrev pub webHeld : List ℕ
-webHeld = headFor 12 ++ webValue ++ replicate 52 0
+webHeld = headFor 12 ++ webValue ++ replicate 88 0
 
 -- The table with web and echo.
 abbrev pub bothHeld : List ℕ
-bothHeld = headFor 12 ++ webValue ++ headFor 11 ++ echoValue ++ replicate 9 0
+bothHeld = headFor 12 ++ webValue ++ headFor 11 ++ echoValue ++ replicate 41 0
 
 -- So many answer words, each of which holds 9 before the call.
 abbrev pub wordsLent : ℕ → List ℕ
