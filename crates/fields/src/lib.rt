@@ -229,6 +229,7 @@ pub fn print_actions(actions: Actions) {
     print_number(values[2]);
     print_number(values[3]);
     print_number(values[4]);
+    print_number(values[5]);
 }
 
 // Ends an answer.

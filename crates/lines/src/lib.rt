@@ -129,7 +129,7 @@ fn serve_announce(
         origin,
         &actions[..count],
     ) {
-        Announced::Held => answers::put_answer(out, 0, 0),
+        Announced::Held { notes: _ } => answers::put_answer(out, 0, 0),
         Announced::Refused { number, place } => answers::put_answer(out, number, place),
     }
 }

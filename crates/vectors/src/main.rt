@@ -205,9 +205,17 @@ fn print_table(table: &[u8]) {
     print_octets(&table[..openingOf]);
 }
 
-// Prints the number and the place of a change's answer, and the table at exit.
-fn print_change(number: u8, place: usize, table: &[u8]) {
+// Prints the number and the place of a withdrawal's answer, and the table at exit.
+fn print_withdrawn(number: u8, place: usize, table: &[u8]) {
     print_refusal(number, place);
+    print_table(table);
+    print_end();
+}
+
+// Prints the number, the place and the notes of an announcement's answer, and the table at exit.
+fn print_announced(number: u8, place: usize, notes: u64, table: &[u8]) {
+    print_refusal(number, place);
+    print_number(notes);
     print_table(table);
     print_end();
 }
@@ -256,8 +264,8 @@ fn announce(
         origin,
         &octets[middle..end],
     ) {
-        Announced::Held => print_change(0, 0, table),
-        Announced::Refused { number, place } => print_change(number, place, table),
+        Announced::Held { notes } => print_announced(0, 0, notes, table),
+        Announced::Refused { number, place } => print_announced(number, place, 0, table),
     }
 }
 
@@ -265,8 +273,8 @@ fn announce(
 fn answer_withdraw(family: AddressFamily, line: &[u8], octets: &mut [u8], table: &mut [u8]) {
     let end = put_octets(line, 1, octets);
     match flowspec::withdraw(family, table, &octets[..end]) {
-        Withdrawn::Done => print_change(0, 0, table),
-        Withdrawn::Refused { number, place } => print_change(number, place, table),
+        Withdrawn::Done => print_withdrawn(0, 0, table),
+        Withdrawn::Refused { number, place } => print_withdrawn(number, place, table),
     }
 }
 

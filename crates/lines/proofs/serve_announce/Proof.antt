@@ -25,7 +25,7 @@ start c = c .before .before .before .before .before .before .before .before .bef
 returns : tie.Need-returns
 returns c =
     let told = c .before .before .before .before .before .before .before .before in
-    announce-printed Held (read-is _ _ _ _ (told .before .before .before .before .before .before .before .before .read-octets .ensures) (omega (arith, start told .pre)))
+    announce-printed (Held _) (read-is _ _ _ _ (told .before .before .before .before .before .before .before .before .read-octets .ensures) (omega (arith, start told .pre)))
     (read-is _ _ _ _ (told .before .before .before .before .before .read-octets2 .ensures) (omega (arith, start told .pre)))
     (told .announce .ensures) (c .before .before .before .before .enum-told .given .1) (c .before .before .put-answer .ensures)
 
