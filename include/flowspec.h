@@ -9,8 +9,9 @@
  * one call writes is lent to another call at the same time. Of the C library they use memcpy and
  * memset alone.
  *
- * THE ANSWER of every function is one uint64_t: the refusal's number in the low 32 bits, 0 if there
- * is none, and its place in the high 32. flowspec4_number and flowspec4_place take it apart.
+ * THE ANSWER of every function but flowspec_interface is one uint64_t: the refusal's number in the
+ * low 32 bits, 0 if there is none, and its place in the high 32. flowspec4_number and
+ * flowspec4_place take it apart.
  *
  *    0  done, no refusal
  *    1  length field or value runs past the bytes; writer: value over 4,095
@@ -54,11 +55,22 @@
  * (there is no DF), and type 13, numeric, is the flow label.
  *
  * THE TABLE is a lent buffer of 0 to 65,536 octets for the rules of one family; all zero is an
- * empty table. Nothing in it tells the family: lend it to the calls of one family alone. Records stand from octet 0 in precedence order and all after is zero. A record is:
- * value length (2 octets), originator (4), flags (1), DSCP (1), byte rate (8), packet rate (8),
- * redirect community (8), then the value in its plain spelling; numbers are big-endian and absent
- * fields zero. A rule costs 32 plus the length of its value. Flags: 1 byte rate, 2 packet rate, 4
- * sample (S), 8 go on to later rules (T), 16 marking, 32 redirect.
+ * empty table. Nothing in it tells the family: lend it to the calls of one family alone. Records
+ * stand from octet 0 in precedence order and all after is zero. A record is: value length (2
+ * octets), originator (4), flags (1), DSCP (1), byte rate (8), packet rate (8), redirect community
+ * (8), notes (1), three octets that are 0, then the value in its plain spelling; numbers are
+ * big-endian and absent fields zero. A rule costs 36 plus the length of its value. Flags: 1 byte
+ * rate, 2 packet rate, 4 sample (S), 8 go on to later rules (T), 16 marking, 32 redirect.
+ *
+ * NOTES say what was done to rates, which are sent as singles (IEEE 754), to make numbers of them.
+ * A note is 0 if the number is exact or there is no such rate, which the flags tell; 1 rounded
+ * down; 2 raised to 1, since the rate was above 0 and below 1; 3 capped, since it was above 2^63; 4
+ * taken as zero, since it was below 0. Minus zero is exact. The notes of both rates are one octet,
+ * three bits each: `notes & 7` is that of the byte rate, `notes >> 3` that of the packet rate. Of
+ * several rates of a kind the smallest number counts, with the note of the first community, or of
+ * the first matching rule, that gives it. A table is unsound where a note is above 4, is one that
+ * no single gives with its number, or is of a rate that is absent, where the top two bits of the
+ * octet are not 0, and where the three octets behind it are not.
  *
  * A PACKET is lent from its IP header on, as far as it is at hand. Ports, ICMP type and code, and
  * TCP flags are looked for in the transport octets, and not in a later fragment; ports need 4
@@ -96,6 +108,14 @@
 #ifdef __cplusplus
 extern "C" {
 #endif
+
+/*
+ * The number of the request that last changed a parameter or an `out`, here 2026-05, as this header
+ * has it and as the linked library does. A program compares both at its start and stops where they
+ * differ: one that was compiled by an older header lends too few words for `out`.
+ */
+#define FLOWSPEC_INTERFACE 5
+uint64_t flowspec_interface(void);
 
 /* The refusal's number in an answer; 0 means done. */
 static inline uint32_t flowspec4_number(uint64_t answer)
@@ -151,19 +171,20 @@ uint64_t flowspec6_feasible(const uint32_t *routes, size_t words, uint32_t allow
 /*
  * Reads filtering actions (section 7) from at most 64 extended communities of 8 octets.
  * Refused with 13.
- * out: flags as in a record, DSCP, byte rate, packet rate, redirect community; what the flags do
- * not name is 0. A rate of 0 means drop.
+ * out: flags as in a record, DSCP, byte rate, packet rate, redirect community, notes; what the
+ * flags do not name is 0. A rate of 0 means drop.
  */
-uint64_t flowspec4_actions(const uint8_t *communities, size_t len, uint64_t out[5]);
+uint64_t flowspec4_actions(const uint8_t *communities, size_t len, uint64_t out[6]);
 
 /*
  * Announces a rule with its actions: the table then holds it, in the place of a held equal rule.
  * Refused with 10, 9, 1 to 7, 15, 13, 8 or 11, checked in this order. 8 removes a held equal rule;
  * every other refusal leaves the table as it was. 11 means exactly that the costs of the rules
  * after the call would pass `table_len`.
+ * out: the notes of its rates, as the record has them.
  */
-uint64_t flowspec4_announce(uint8_t *table, size_t table_len, const uint32_t *routes, size_t words, uint32_t allow_no_destination, const uint8_t *rule, size_t rule_len, uint32_t originator, const uint8_t *communities, size_t len);
-uint64_t flowspec6_announce(uint8_t *table, size_t table_len, const uint32_t *routes, size_t words, uint32_t allow_no_destination, const uint8_t *rule, size_t rule_len, uint32_t originator, const uint8_t *communities, size_t len);
+uint64_t flowspec4_announce(uint8_t *table, size_t table_len, const uint32_t *routes, size_t words, uint32_t allow_no_destination, const uint8_t *rule, size_t rule_len, uint32_t originator, const uint8_t *communities, size_t len, uint64_t out[1]);
+uint64_t flowspec6_announce(uint8_t *table, size_t table_len, const uint32_t *routes, size_t words, uint32_t allow_no_destination, const uint8_t *rule, size_t rule_len, uint32_t originator, const uint8_t *communities, size_t len, uint64_t out[1]);
 
 /*
  * Withdraws a rule: the table then no longer holds it.
@@ -178,11 +199,12 @@ uint64_t flowspec6_withdraw(uint8_t *table, size_t table_len, const uint8_t *rul
  * reserved octet that may be anything, then one or more rules to the end.
  * Refused with 10, 9, 19, 1 to 7, 13 or 16, checked in this order, 1 to 7 rule by rule; a refusal
  * leaves the table as it was.
- * out: how many rules the attribute has. `answers` then lists for each 0, 8 (infeasible: a held
- * equal rule is removed) or 11 (no room). 11 for one rule undoes none before it.
+ * out: how many rules the attribute has, and the notes of the rates, which all of them share; both
+ * whatever the rules are answered. `answers` then lists for each 0, 8 (infeasible: a held equal
+ * rule is removed) or 11 (no room). 11 for one rule undoes none before it.
  */
-uint64_t flowspec4_reach(uint8_t *table, size_t table_len, const uint32_t *routes, size_t words, uint32_t allow_no_destination, const uint8_t *attribute, size_t attribute_len, uint32_t originator, const uint8_t *communities, size_t len, uint32_t *answers, size_t answers_len, uint64_t out[1]);
-uint64_t flowspec6_reach(uint8_t *table, size_t table_len, const uint32_t *routes, size_t words, uint32_t allow_no_destination, const uint8_t *attribute, size_t attribute_len, uint32_t originator, const uint8_t *communities, size_t len, uint32_t *answers, size_t answers_len, uint64_t out[1]);
+uint64_t flowspec4_reach(uint8_t *table, size_t table_len, const uint32_t *routes, size_t words, uint32_t allow_no_destination, const uint8_t *attribute, size_t attribute_len, uint32_t originator, const uint8_t *communities, size_t len, uint32_t *answers, size_t answers_len, uint64_t out[2]);
+uint64_t flowspec6_reach(uint8_t *table, size_t table_len, const uint32_t *routes, size_t words, uint32_t allow_no_destination, const uint8_t *attribute, size_t attribute_len, uint32_t originator, const uint8_t *communities, size_t len, uint32_t *answers, size_t answers_len, uint64_t out[2]);
 
 /*
  * Withdraws each rule of MP_UNREACH_NLRI as flowspec4_withdraw does. The attribute is AFI 1, for
@@ -200,10 +222,10 @@ uint64_t flowspec6_unreach(uint8_t *table, size_t table_len, const uint8_t *attr
  * without T.
  * Refused with 10 or 12, checked in this order.
  * out: how many rules were collected, then their merged actions: flags (T is never set), DSCP, byte
- * rate, packet rate, redirect community. If no rule matches all six words are 0.
+ * rate, packet rate, redirect community, notes. If no rule matches all seven words are 0.
  */
-uint64_t flowspec4_lookup(const uint8_t *table, size_t table_len, const uint8_t *packet, size_t packet_len, uint64_t out[6]);
-uint64_t flowspec6_lookup(const uint8_t *table, size_t table_len, const uint8_t *packet, size_t packet_len, uint64_t out[6]);
+uint64_t flowspec4_lookup(const uint8_t *table, size_t table_len, const uint8_t *packet, size_t packet_len, uint64_t out[7]);
+uint64_t flowspec6_lookup(const uint8_t *table, size_t table_len, const uint8_t *packet, size_t packet_len, uint64_t out[7]);
 
 /*
  * Finds the record of the first rule that matches a packet.

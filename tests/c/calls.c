@@ -1,8 +1,9 @@
 /*
  * Calls every function of flowspec.h from C and holds the answers to literal values, which are
  * those of the examples in the paper of requirements (01), and for whole attributes, for packets
- * with options and for IPv6 those that the words of the requests 2026-01, 2026-02 and 2026-04 and of
- * RFC 8956 give. What both families do alike is one check, over the functions of each.
+ * with options, for IPv6 and for the notes on rates those that the words of the requests 2026-01,
+ * 2026-02, 2026-04 and 2026-05 and of RFC 8956 give. What both families do alike is one check, over
+ * the functions of each.
  *
  *     cc -Wall -Wextra -Werror -I include tests/c/calls.c target/staticlib/libc_api.a -o calls && ./calls
  */
@@ -22,12 +23,27 @@
 /* The longest value and its length field. */
 #define LONGEST 4097
 
+/* The octets of a record before its value, and where its notes stand. */
+#define HEAD 36
+#define NOTES_AT 32
+
 /* The most routes, and the most words of one. */
 #define MOST_ROUTES 4096
 #define ROUTE_WORDS 7
 
 /* A value octet by octet, with its length. */
 #define OCTETS(...) (const uint8_t[]){__VA_ARGS__}, sizeof((const uint8_t[]){__VA_ARGS__})
+
+/* A rate as a community: of octets a second, and of packets. */
+#define BYTE_RATE(single) 0x80, 0x06, 0, 0, SINGLE(single)
+#define PACKET_RATE(single) 0x80, 0x0c, 0, 0, SINGLE(single)
+#define SINGLE(bits) (uint8_t)((bits) >> 24), (uint8_t)((bits) >> 16), (uint8_t)((bits) >> 8), (uint8_t)(bits)
+
+/* T: go on to later rules. */
+#define GO_ON 0x80, 0x07, 0, 0, 0, 0, 0, 1
+
+/* The notes on a rate. */
+enum { EXACT, ROUNDED_DOWN, RAISED_TO_1, CAPPED, TAKEN_AS_ZERO };
 
 /* Octets that a family's functions are lent. */
 struct octets {
@@ -42,12 +58,13 @@ struct family {
     uint64_t (*write)(const uint8_t *, size_t, uint8_t *, size_t, uint64_t[1]);
     uint64_t (*compare)(const uint8_t *, size_t, const uint8_t *, size_t, uint64_t[1]);
     uint64_t (*feasible)(const uint32_t *, size_t, uint32_t, const uint8_t *, size_t, uint32_t);
-    uint64_t (*announce)(uint8_t *, size_t, const uint32_t *, size_t, uint32_t, const uint8_t *, size_t, uint32_t, const uint8_t *, size_t);
+    uint64_t (*announce)(uint8_t *, size_t, const uint32_t *, size_t, uint32_t, const uint8_t *, size_t, uint32_t, const uint8_t *, size_t,
+        uint64_t[1]);
     uint64_t (*withdraw)(uint8_t *, size_t, const uint8_t *, size_t);
     uint64_t (*reach)(uint8_t *, size_t, const uint32_t *, size_t, uint32_t, const uint8_t *, size_t, uint32_t, const uint8_t *, size_t, uint32_t *,
-        size_t, uint64_t[1]);
+        size_t, uint64_t[2]);
     uint64_t (*unreach)(uint8_t *, size_t, const uint8_t *, size_t, uint32_t *, size_t, uint64_t[1]);
-    uint64_t (*lookup)(const uint8_t *, size_t, const uint8_t *, size_t, uint64_t[6]);
+    uint64_t (*lookup)(const uint8_t *, size_t, const uint8_t *, size_t, uint64_t[7]);
     uint64_t (*first_match)(const uint8_t *, size_t, const uint8_t *, size_t, uint64_t[2]);
     uint8_t afi, highest;           /* and the highest type */
     size_t words;                   /* of a route */
@@ -481,45 +498,127 @@ static void ordering_routes(const struct family *family)
     check_routes("first route twice", family, many, most, 9);
 }
 
-/* Holds the byte rate that a single gives to a number. */
-static void check_rate(uint32_t single, uint64_t expected)
+/* Holds words to what they must be. */
+static void check_out(const char *what, const uint64_t *found, const uint64_t *expected, int words)
 {
-    const uint8_t community[] = {0x80, 0x06, 0, 0, (uint8_t)(single >> 24), (uint8_t)(single >> 16), (uint8_t)(single >> 8), (uint8_t)single};
-    uint64_t out[5] = {UNTOUCHED, UNTOUCHED, UNTOUCHED, UNTOUCHED, UNTOUCHED};
-    check_answer("actions", flowspec4_actions(community, sizeof community, out), 0, 0);
-    check("actions: flags", out[0], 1);
-    check("actions: byte rate", out[2], expected);
+    int word;
+    for (word = 0; word < words; word++)
+        check(what, found[word], expected[word]);
 }
 
-/* 01's examples of rates, and one community of each other kind. */
+/* Words of `out` before a call. */
+static const uint64_t untouched[7] = {UNTOUCHED, UNTOUCHED, UNTOUCHED, UNTOUCHED, UNTOUCHED, UNTOUCHED, UNTOUCHED};
+
+/* Holds the actions of communities to six words, which stay as they were where the communities are refused. */
+static void check_actions(const uint8_t *communities, size_t length, uint32_t number, const uint64_t expected[6])
+{
+    uint64_t out[7];
+    memcpy(out, untouched, sizeof out);
+    check_answer("actions", flowspec4_actions(communities, length, out), number, 0);
+    check_out("actions: out", out, number == 0 ? expected : untouched, 6);
+    check("actions: behind out", out[6], UNTOUCHED);
+}
+
+/* One community of each kind that is no byte rate; then seven octets, and communities up to one too many. */
 static void acting(void)
 {
     static const uint8_t all[] = {
-        0x80, 0x0c, 0, 0, 0x3f, 0x80, 0, 0, 0x80, 0x07, 0, 0, 0, 0, 0, 3, 0x80, 0x09, 0, 0, 0, 0, 0, 0xee, 0x81, 0x08, 1, 2, 3, 4, 5, 6,
+        PACKET_RATE(0x3f800000), 0x80, 0x07, 0, 0, 0, 0, 0, 3, 0x80, 0x09, 0, 0, 0, 0, 0, 0xee, 0x81, 0x08, 1, 2, 3, 4, 5, 6,
     };
-    static const uint64_t expected[5] = {2 + 4 + 8 + 16 + 32, 0x2e, 0, 1, UINT64_C(0x8108010203040506)};
-    static const uint8_t no_number[] = {0x80, 0x06, 0, 0, 0x7f, 0xc0, 0, 0};
-    uint64_t out[5];
-    int word;
-    check_rate(0xbf800000, 0);
-    check_rate(0x80000000, 0);
-    check_rate(0x00000001, 1);
-    check_rate(0x4b7fffff, 16777215);
-    check_rate(0x5effffff, UINT64_C(9223371487098961920));
-    check_rate(0x5f000000, UINT64_C(1) << 63);
-    check_answer("actions of every kind", flowspec4_actions(all, sizeof all, out), 0, 0);
-    for (word = 0; word < 5; word++)
-        check("actions of every kind: out", out[word], expected[word]);
-    check_answer("actions, not a number", flowspec4_actions(no_number, sizeof no_number, out), 13, 0);
-    check("actions, not a number: out", out[4], expected[4]);
-    check_answer("actions of seven octets", flowspec4_actions(all, 7, out), 13, 0);
+    static const uint64_t expected[6] = {2 + 4 + 8 + 16 + 32, 0x2e, 0, 1, UINT64_C(0x8108010203040506), 0}, none[6];
+    static const uint8_t skipped[65 * 8];
+    check_actions(all, sizeof all, 0, expected);
+    check_actions(all, 7, 13, NULL);
+    check_actions(skipped, 0, 0, none);
+    check_actions(skipped, 64 * 8, 0, none);
+    check_actions(skipped, 65 * 8, 13, NULL);
 }
 
-/* Announces the example to a table. */
+/* A single, and the number and the note that it gives. */
+struct reading {
+    uint32_t single;
+    uint64_t number, note;
+};
+
+/* 01's examples of rates and every edge of the ladder: both zeros; the negative ones from the greatest to minus infinity; those below 1 from the
+ * least; whole and broken ones up to 2^23, from where on all are whole; 2^63 with its neighbours, and what lies above. */
+static const struct reading readings[] = {
+    {0x00000000, 0, EXACT}, {0x80000000, 0, EXACT},
+    {0x80000001, 0, TAKEN_AS_ZERO}, {0xbf000000, 0, TAKEN_AS_ZERO}, {0xbf800000, 0, TAKEN_AS_ZERO}, {0xff7fffff, 0, TAKEN_AS_ZERO},
+    {0xff800000, 0, TAKEN_AS_ZERO},
+    {0x00000001, 1, RAISED_TO_1}, {0x007fffff, 1, RAISED_TO_1}, {0x00800000, 1, RAISED_TO_1}, {0x3f000000, 1, RAISED_TO_1},
+    {0x3f7fffff, 1, RAISED_TO_1},
+    {0x3f800000, 1, EXACT}, {0x3f800001, 1, ROUNDED_DOWN}, {0x3fc00000, 1, ROUNDED_DOWN}, {0x3fffffff, 1, ROUNDED_DOWN},
+    {0x40000000, 2, EXACT}, {0x40200000, 2, ROUNDED_DOWN},
+    {0x4afffffd, 8388606, ROUNDED_DOWN}, {0x4afffffe, 8388607, EXACT}, {0x4affffff, 8388607, ROUNDED_DOWN}, {0x4b000000, 8388608, EXACT},
+    {0x4b000001, 8388609, EXACT}, {0x4b7fffff, 16777215, EXACT}, {0x4b800000, 16777216, EXACT}, {0x4b800001, 16777218, EXACT},
+    {0x5effffff, UINT64_C(9223371487098961920), EXACT}, {0x5f000000, UINT64_C(1) << 63, EXACT}, {0x5f000001, UINT64_C(1) << 63, CAPPED},
+    {0x7f7fffff, UINT64_C(1) << 63, CAPPED}, {0x7f800000, UINT64_C(1) << 63, CAPPED},
+};
+
+/* Singles that are not numbers, of either sign. */
+static const uint32_t no_numbers[] = {0x7f800001, 0x7fc00000, 0x7fffffff, 0xff800001, 0xffc00000, 0xffffffff};
+
+/* 2026-05: each single as a rate of either kind, with its note; one that is not a number is 13, even behind a rate. */
+static void noting(void)
+{
+    size_t at;
+    for (at = 0; at < sizeof readings / sizeof *readings; at++) {
+        const struct reading one = readings[at];
+        const uint64_t bytes[6] = {1, 0, one.number, 0, 0, one.note}, packets[6] = {2, 0, 0, one.number, 0, 8 * one.note};
+        check_actions(OCTETS(BYTE_RATE(one.single)), 0, bytes);
+        check_actions(OCTETS(PACKET_RATE(one.single)), 0, packets);
+    }
+    for (at = 0; at < sizeof no_numbers / sizeof *no_numbers; at++) {
+        check_actions(OCTETS(BYTE_RATE(no_numbers[at])), 13, NULL);
+        check_actions(OCTETS(PACKET_RATE(no_numbers[at])), 13, NULL);
+        check_actions(OCTETS(BYTE_RATE(0xbf800000), PACKET_RATE(no_numbers[at])), 13, NULL);
+    }
+}
+
+/* Two readings of one number with different notes. */
+struct pair {
+    struct reading one, other;
+};
+
+static const struct pair alike[] = {
+    {{0x00000000, 0, EXACT}, {0xbf800000, 0, TAKEN_AS_ZERO}}, {{0x80000000, 0, EXACT}, {0xff800000, 0, TAKEN_AS_ZERO}},
+    {{0x3f800000, 1, EXACT}, {0x3fc00000, 1, ROUNDED_DOWN}}, {{0x3f800000, 1, EXACT}, {0x3f000000, 1, RAISED_TO_1}},
+    {{0x3fc00000, 1, ROUNDED_DOWN}, {0x3f000000, 1, RAISED_TO_1}}, {{0x4afffffe, 8388607, EXACT}, {0x4affffff, 8388607, ROUNDED_DOWN}},
+    {{0x5f000000, UINT64_C(1) << 63, EXACT}, {0x7f800000, UINT64_C(1) << 63, CAPPED}},
+};
+
+/* Holds two rates of each kind in one rule, the byte rates in this order and the packet rates in the other, to the notes of the first. */
+static void check_first_noted(struct reading one, struct reading other)
+{
+    const uint64_t expected[6] = {3, 0, one.number, one.number, 0, one.note + 8 * other.note};
+    check_actions(OCTETS(BYTE_RATE(one.single), PACKET_RATE(other.single), BYTE_RATE(other.single), PACKET_RATE(one.single)), 0, expected);
+}
+
+/* Of several rates of a kind the note is that of the first community that gives the smallest number, wherever larger ones stand. */
+static void choosing_notes(void)
+{
+    static const uint64_t rounded[6] = {1, 0, 1, 0, 0, ROUNDED_DOWN}, raised[6] = {2, 0, 0, 1, 0, 8 * RAISED_TO_1},
+                          zero[6] = {1, 0, 0, 0, 0, TAKEN_AS_ZERO}, exact[6] = {1, 0, 0, 0, 0, EXACT};
+    size_t at;
+    for (at = 0; at < sizeof alike / sizeof *alike; at++) {
+        check_first_noted(alike[at].one, alike[at].other);
+        check_first_noted(alike[at].other, alike[at].one);
+    }
+    check_actions(OCTETS(BYTE_RATE(0x40200000), BYTE_RATE(0x3fc00000), BYTE_RATE(0x3f800000), BYTE_RATE(0x7f800000)), 0, rounded);
+    check_actions(OCTETS(PACKET_RATE(0x7f800000), PACKET_RATE(0x3f000000), PACKET_RATE(0x40000000), PACKET_RATE(0x3f800000)), 0, raised);
+    check_actions(OCTETS(BYTE_RATE(0x3f800000), BYTE_RATE(0xbf800000), BYTE_RATE(0x00000000)), 0, zero);
+    check_actions(OCTETS(BYTE_RATE(0x3f000000), BYTE_RATE(0x80000000), BYTE_RATE(0xbf800000)), 0, exact);
+}
+
+/* Announces the example to a table; its rate is exact, and `out` is set exactly where the answer is 0. */
 static uint64_t announced(const struct family *family, uint8_t *table, size_t length, uint32_t originator)
 {
     const struct octets rule = family->example;
-    return family->announce(table, length, family->routes, family->words, 0, rule.at, rule.length, originator, drop, sizeof drop);
+    uint64_t answer, out[1] = {UNTOUCHED};
+    answer = family->announce(table, length, family->routes, family->words, 0, rule.at, rule.length, originator, drop, sizeof drop, out);
+    check("announce: notes", out[0], answer == 0 ? EXACT : UNTOUCHED);
+    return answer;
 }
 
 /* Withdraws the example from a table of 64 octets. */
@@ -531,14 +630,32 @@ static uint64_t withdrawn(const struct family *family, uint8_t *table)
 /* What the example costs. */
 static size_t cost(const struct family *family)
 {
-    return 32 + family->example.length - 1;
+    return HEAD + family->example.length - 1;
 }
 
-/* Holds a table of 64 octets to the record of the example alone, which is 01's of 43 octets: 50 zero digits stand between 0701 and 0118. */
+/* Fills a table of 64 octets with one record, that of the example from 7: flags, the two rates and their notes. */
+static void fill_record(
+    uint8_t table[64], const struct family *family, uint8_t flags, uint64_t byte_rate, uint64_t packet_rate, uint8_t notes)
+{
+    int octet;
+    memset(table, 0, 64);
+    table[1] = (uint8_t)(family->example.length - 1);
+    table[5] = 7;
+    table[6] = flags;
+    for (octet = 0; octet < 8; octet++) {
+        table[8 + octet] = (uint8_t)(byte_rate >> (56 - 8 * octet));
+        table[16 + octet] = (uint8_t)(packet_rate >> (56 - 8 * octet));
+    }
+    table[NOTES_AT] = notes;
+    memcpy(table + HEAD, family->example.at + 1, family->example.length - 1);
+}
+
+/* Holds a table of 64 octets to the record of the example alone, which is 01's, of 47 octets since 2026-05: 58 zero digits stand between 0701
+ * and 0118. */
 static void check_record(const char *what, const struct family *family, const uint8_t *table)
 {
-    uint8_t record[64] = {0x00, (uint8_t)(family->example.length - 1), 0x00, 0x00, 0x00, 0x07, 0x01};
-    memcpy(record + 32, family->example.at + 1, family->example.length - 1);
+    uint8_t record[64];
+    fill_record(record, family, 1, 0, 0, 0);
     check_octets(what, table, record, sizeof record);
 }
 
@@ -566,7 +683,7 @@ static void check_unsound(const char *what, const struct family *family, const u
 {
     const struct octets packet = family->packet;
     uint8_t table[64];
-    uint64_t out[6] = {UNTOUCHED}, found[2] = {UNTOUCHED};
+    uint64_t out[7] = {UNTOUCHED}, found[2] = {UNTOUCHED};
     memcpy(table, unsound, sizeof table);
     check_answer(what, announced(family, table, sizeof table, 7), 10, 0);
     check_answer(what, withdrawn(family, table), 10, 0);
@@ -598,41 +715,179 @@ static void refusing_tables(const struct family *family, const struct family *ot
     check_answer("the longest table", announced(family, long_table, sizeof long_table - 1, 7), 0, 0);
 }
 
-/* Holds the words of a lookup to so many of 1, and the rest to 0. */
-static void check_words(const char *what, const uint64_t out[6], int ones)
+/* Holds a table with the record of the example to whether it is sound: then the packet meets its rates and notes, and else all calls answer 10. */
+static void check_noted(
+    const struct family *family, uint8_t flags, uint64_t byte_rate, uint64_t packet_rate, unsigned notes, int is_sound)
 {
-    int word;
-    for (word = 0; word < 6; word++)
-        check(what, out[word], word < ones ? 1 : 0);
+    const uint64_t expected[7] = {1, flags, 0, byte_rate, packet_rate, 0, notes};
+    uint64_t out[7];
+    uint8_t table[64];
+    fill_record(table, family, flags, byte_rate, packet_rate, (uint8_t)notes);
+    if (is_sound) {
+        check_answer("sound notes", family->lookup(table, sizeof table, family->packet.at, family->packet.length, out), 0, 0);
+        check_out("sound notes: out", out, expected, 7);
+    } else {
+        check_unsound("unsound notes", family, table);
+    }
+}
+
+/* A number, and the notes with which some single gives it, a bit for each. */
+struct noted {
+    uint64_t number;
+    unsigned notes;
+};
+
+#define WITH(note) (1u << (note))
+
+static const struct noted numbers_noted[] = {
+    {0, WITH(EXACT) | WITH(TAKEN_AS_ZERO)}, {1, WITH(EXACT) | WITH(ROUNDED_DOWN) | WITH(RAISED_TO_1)},
+    {2, WITH(EXACT) | WITH(ROUNDED_DOWN)}, {8388607, WITH(EXACT) | WITH(ROUNDED_DOWN)}, {8388608, WITH(EXACT)}, {16777215, WITH(EXACT)},
+    {16777216, WITH(EXACT)}, {16777217, 0}, {16777218, WITH(EXACT)}, {UINT64_C(9223371487098961920), WITH(EXACT)},
+    {(UINT64_C(1) << 63) - 1, 0}, {UINT64_C(1) << 63, WITH(EXACT) | WITH(CAPPED)}, {(UINT64_C(1) << 63) + 1, 0}, {UINT64_MAX, 0},
+};
+
+/* A record is sound exactly with a pair that some single gives, of either kind of rate; 5 to 7 are no notes. */
+static void pairing_notes(const struct family *family)
+{
+    unsigned note;
+    size_t at;
+    for (at = 0; at < sizeof numbers_noted / sizeof *numbers_noted; at++)
+        for (note = 0; note < 8; note++) {
+            const struct noted noted = numbers_noted[at];
+            int is_sound = (noted.notes & WITH(note)) != 0;
+            check_noted(family, 1, noted.number, 0, note, is_sound);
+            check_noted(family, 2, 0, noted.number, 8 * note, is_sound);
+        }
+}
+
+/* Every notes octet, with each rate there or not: that of an absent rate is 0, and the top two bits are. The byte rate is 1, which is exact,
+ * rounded down or raised, and the packet rate 0, which is exact or taken as zero. */
+static void spoiling_notes(const struct family *family)
+{
+    uint8_t flags;
+    unsigned notes;
+    for (flags = 0; flags < 4; flags++)
+        for (notes = 0; notes < 256; notes++) {
+            const unsigned byte_note = notes & 7, packet_note = notes >> 3;
+            int byte_sound = byte_note == 0 || ((flags & 1) != 0 && byte_note <= RAISED_TO_1);
+            int packet_sound = packet_note == 0 || ((flags & 2) != 0 && packet_note == TAKEN_AS_ZERO);
+            check_noted(family, flags, flags & 1, 0, notes, byte_sound && packet_sound);
+        }
+}
+
+/* The three octets behind the notes are 0. */
+static void spoiling_zeros(const struct family *family)
+{
+    uint8_t table[64];
+    size_t place;
+    int bit;
+    fill_record(table, family, 3, 1, 0, ROUNDED_DOWN + 8 * TAKEN_AS_ZERO);
+    for (place = NOTES_AT + 1; place < HEAD; place++)
+        for (bit = 0; bit < 8; bit++) {
+            table[place] = (uint8_t)(1 << bit);
+            check_unsound("an octet behind the notes", family, table);
+            table[place] = 0;
+        }
 }
 
 /* A packet that the example matches, and one that it does not. */
 static void looking(const struct family *family)
 {
+    static const uint64_t dropped[7] = {1, 1}, unmatched[7];
     const struct octets packet = family->packet;
     uint8_t table[64] = {0}, other[60];
-    uint64_t out[6] = {UNTOUCHED, UNTOUCHED, UNTOUCHED, UNTOUCHED, UNTOUCHED, UNTOUCHED};
-    uint64_t found[2] = {UNTOUCHED, UNTOUCHED};
+    uint64_t out[7], found[2] = {UNTOUCHED, UNTOUCHED};
+    memcpy(out, untouched, sizeof out);
     memcpy(other, packet.at, packet.length);
     other[family->protocol_at] = 17;
     check_answer("announce", announced(family, table, sizeof table, 7), 0, 0);
     check_answer("lookup", family->lookup(table, sizeof table, packet.at, packet.length, out), 0, 0);
-    check_words("lookup: out", out, 2);
+    check_out("lookup: out", out, dropped, 7);
     check_answer("first match", family->first_match(table, sizeof table, packet.at, packet.length, found), 0, 0);
     check("first match: start", found[0], 0);
     check("first match: length", found[1], cost(family));
     check_answer("lookup, UDP", family->lookup(table, sizeof table, other, packet.length, out), 0, 0);
-    check_words("lookup, UDP: out", out, 0);
+    check_out("lookup, UDP: out", out, unmatched, 7);
     check_answer("first match, UDP", family->first_match(table, sizeof table, other, packet.length, found), 0, 0);
     check("first match, UDP: start", found[0], 0);
     check("first match, UDP: length", found[1], 0);
+}
+
+/* Announces a rule of 7 to a table of 128 octets with communities, and holds its notes. */
+static void announce_noted(
+    const struct family *family, uint8_t table[128], struct octets rule, const uint8_t *communities, size_t length, uint64_t notes)
+{
+    uint64_t out[2] = {UNTOUCHED, UNTOUCHED};
+    check_answer("announce, notes",
+        family->announce(table, 128, family->routes, family->words, 0, rule.at, rule.length, 7, communities, length, out), 0, 0);
+    check("announce, notes: out", out[0], notes);
+    check("announce, notes: behind out", out[1], UNTOUCHED);
+}
+
+/* Looks the packet up in a table of 128 octets, and holds all words to what they must be. */
+static void check_verdict(const struct family *family, const uint8_t table[128], const uint64_t expected[7])
+{
+    uint64_t out[7];
+    memcpy(out, untouched, sizeof out);
+    check_answer("lookup, notes", family->lookup(table, 128, family->packet.at, family->packet.length, out), 0, 0);
+    check_out("lookup, notes: out", out, expected, 7);
+}
+
+/* An announcement of 1.5 octets and -1 packets a second answers both notes, keeps them in the record, and a lookup tells them; announced again
+ * with others, these take their place; a packet that it does not match meets none. */
+static void storing_notes(const struct family *family)
+{
+    static const uint64_t verdict[7] = {1, 3, 0, 1, 0, 0, ROUNDED_DOWN + 8 * TAKEN_AS_ZERO}, unmatched[7];
+    uint8_t table[128] = {0}, record[128] = {0};
+    announce_noted(family, table, family->example, OCTETS(BYTE_RATE(0x3fc00000), PACKET_RATE(0xbf800000)), ROUNDED_DOWN + 8 * TAKEN_AS_ZERO);
+    fill_record(record, family, 3, 1, 0, ROUNDED_DOWN + 8 * TAKEN_AS_ZERO);
+    check_octets("announce, notes: table", table, record, sizeof record);
+    check_verdict(family, table, verdict);
+    announce_noted(family, table, family->other_spelling, OCTETS(BYTE_RATE(0x3f000000), PACKET_RATE(0x7f800000)), RAISED_TO_1 + 8 * CAPPED);
+    fill_record(record, family, 3, 1, UINT64_C(1) << 63, RAISED_TO_1 + 8 * CAPPED);
+    check_octets("announce again, notes: table", table, record, sizeof record);
+    table[HEAD + family->example.length - 2] ^= 1;
+    check_verdict(family, table, unmatched);
+}
+
+/* Holds the merged notes of two rules, the first of which goes on, to those of the first that gives the smaller number: the byte rates are in
+ * this order and the packet rates in the other. */
+static void check_merged(const struct family *family, struct reading one, struct reading other)
+{
+    const uint64_t verdict[7] = {2, 3, 0, one.number, one.number, 0, one.note + 8 * other.note};
+    uint8_t table[128] = {0};
+    announce_noted(
+        family, table, family->wide, OCTETS(BYTE_RATE(other.single), PACKET_RATE(one.single)), other.note + 8 * one.note);
+    announce_noted(
+        family, table, family->example, OCTETS(PACKET_RATE(other.single), BYTE_RATE(one.single), GO_ON), one.note + 8 * other.note);
+    check_verdict(family, table, verdict);
+}
+
+/* Over matching rules: of equal numbers the first rule's note, in either order; of others that of the smaller, be it the second rule's; and each
+ * kind from the one rule that has it. */
+static void merging_notes(const struct family *family)
+{
+    static const uint64_t smaller[7] = {2, 3, 0, 1, 1, 0, RAISED_TO_1 + 8 * ROUNDED_DOWN};
+    static const uint64_t apart[7] = {2, 3, 0, 0, 1, 0, TAKEN_AS_ZERO + 8 * RAISED_TO_1};
+    uint8_t table[128] = {0};
+    size_t at;
+    for (at = 0; at < sizeof alike / sizeof *alike; at++) {
+        check_merged(family, alike[at].one, alike[at].other);
+        check_merged(family, alike[at].other, alike[at].one);
+    }
+    announce_noted(family, table, family->example, OCTETS(GO_ON, BYTE_RATE(0x40200000), PACKET_RATE(0x3fc00000)), 9 * ROUNDED_DOWN);
+    announce_noted(family, table, family->wide, OCTETS(BYTE_RATE(0x3f000000), PACKET_RATE(0x7f800000)), RAISED_TO_1 + 8 * CAPPED);
+    check_verdict(family, table, smaller);
+    announce_noted(family, table, family->example, OCTETS(GO_ON, PACKET_RATE(0x3f000000)), 8 * RAISED_TO_1);
+    announce_noted(family, table, family->wide, OCTETS(BYTE_RATE(0xbf800000)), TAKEN_AS_ZERO);
+    check_verdict(family, table, apart);
 }
 
 /* A packet that is cut anywhere in its header. */
 static void refusing_packets(const struct family *family)
 {
     uint8_t table[64] = {0};
-    uint64_t out[6] = {UNTOUCHED}, found[2] = {UNTOUCHED};
+    uint64_t out[7] = {UNTOUCHED}, found[2] = {UNTOUCHED};
     size_t lent;
     check_answer("announce", announced(family, table, sizeof table, 7), 0, 0);
     for (lent = 0; lent < family->header; lent++) {
@@ -647,7 +902,7 @@ static void refusing_packets(const struct family *family)
 static void check_hit(
     const char *what, const struct family *family, const uint8_t *table, const uint8_t *packet, size_t lent, uint32_t number, uint64_t hit)
 {
-    uint64_t out[6] = {UNTOUCHED};
+    uint64_t out[7] = {UNTOUCHED};
     check_answer(what, family->lookup(table, 64, packet, lent, out), number, 0);
     check(what, out[0], number == 0 ? hit : UNTOUCHED);
 }
@@ -780,8 +1035,9 @@ static void chained(uint8_t packet[60], const struct chain *chain)
 /* A table of 64 octets that holds one rule with no destination. */
 static void hold(uint8_t table[64], struct octets rule)
 {
+    uint64_t out[1];
     memset(table, 0, 64);
-    check_answer("announce", flowspec6_announce(table, 64, routes6, 0, 1, rule.at, rule.length, 7, drop, sizeof drop), 0, 0);
+    check_answer("announce", flowspec6_announce(table, 64, routes6, 0, 1, rule.at, rule.length, 7, drop, sizeof drop, out), 0, 0);
 }
 
 /* Holds a lookup to whether its rule is collected, with the packet cut at every length by the octets lent. */
@@ -897,8 +1153,9 @@ static void looking_past_offsets(void)
     static const uint8_t rule[] = {8, 1, 104, 65, 0x24, 0x68, 0xac, 0xf1, 0x34}, empty[64];
     static const uint8_t pattern[] = {0x12, 0x34, 0x56, 0x78, 0x9a};
     uint8_t table[64] = {0, 8, 0, 0, 0, 7}, made[64], packet[60];
+    uint64_t out[1] = {UNTOUCHED};
     size_t bit;
-    memcpy(table + 32, rule + 1, 8);
+    memcpy(table + HEAD, rule + 1, 8);
     memcpy(made, table, sizeof made);
     memcpy(packet, ipv6.packet.at, sizeof packet);
     memcpy(packet + 24 + 8, pattern, sizeof pattern);
@@ -909,8 +1166,9 @@ static void looking_past_offsets(void)
     }
     check_answer("withdraw, offset", flowspec6_withdraw(table, sizeof table, rule, sizeof rule), 0, 0);
     check_octets("withdraw, offset: table", table, empty, sizeof table);
-    check_answer("announce, offset", flowspec6_announce(made, sizeof made, routes6, 7, 1, rule, sizeof rule, 7, drop, sizeof drop), 8, 0);
+    check_answer("announce, offset", flowspec6_announce(made, sizeof made, routes6, 7, 1, rule, sizeof rule, 7, drop, sizeof drop, out), 8, 0);
     check_octets("announce, offset: table", made, empty, sizeof made);
+    check("announce, offset: out", out[0], UNTOUCHED);
 }
 
 /* What a call may write, and the table before it. */
@@ -995,6 +1253,35 @@ static uint64_t unreached(const struct family *family, struct lent *lent, const 
 {
     return family->unreach(
         lent->table, sizeof lent->table, attribute->octets, attribute->length, lent->answers, answers_len, lent->out);
+}
+
+/* An announcement that is refused: the table's last octet, how many words of the route and octets of communities are lent, the rule and the
+ * originator may each be a fault. */
+static void refuse_announcement(
+    const struct family *family, uint8_t last, size_t words, size_t len, struct octets rule, uint32_t originator, uint32_t number)
+{
+    struct lent lent = lend(family, last);
+    check_answer("announce refused",
+        family->announce(
+            lent.table, sizeof lent.table, family->routes, words, 0, rule.at, rule.length, originator, drop, len, lent.out), number, 0);
+    check_kept("announce refused: lent", &lent);
+}
+
+/* "Announce checks 10, 9, 1 to 7, 15, 13, 8, 11": each beside faults of all after it, with a rule that is not held. */
+static void refusing_announcements(const struct family *family)
+{
+    const size_t words = family->words;
+    const struct octets none = {OCTETS(0, 0)}, wide = family->wide;
+    uint8_t longer[16] = {0};
+    const struct octets followed_by_one = {longer, wide.length + 1};
+    memcpy(longer, wide.at, wide.length);
+    refuse_announcement(family, 1, words - 1, 7, none, 8, 10);
+    refuse_announcement(family, 0, words - 1, 7, none, 8, 9);
+    refuse_announcement(family, 0, words, 7, none, 8, 2);
+    refuse_announcement(family, 0, words, 7, followed_by_one, 8, 15);
+    refuse_announcement(family, 0, words, 7, wide, 8, 13);
+    refuse_announcement(family, 0, words, 8, wide, 8, 8);
+    refuse_announcement(family, 0, words, 8, wide, 7, 11);
 }
 
 /* A reach that is refused: the table's last octet, how many words of the route, octets of communities and answer words are lent, and the
@@ -1083,8 +1370,8 @@ static void refuse_rule(const struct family *family, const uint8_t *rule, size_t
     check_answer("compare", family->compare(rule, length, OCTETS(0), out), number, place);
     check_answer("compare", family->compare(example.at, example.length, rule, length, out), number, place);
     check_answer("feasible", family->feasible(family->routes, family->words, 1, rule, length, 8), number, place);
-    check_answer(
-        "announce", family->announce(lent.table, sizeof lent.table, family->routes, family->words, 1, rule, length, 8, drop, 7), number, place);
+    check_answer("announce", family->announce(lent.table, sizeof lent.table, family->routes, family->words, 1, rule, length, 8, drop, 7, out),
+        number, place);
     check_answer("withdraw", family->withdraw(lent.table, sizeof lent.table, rule, length), number, place);
     check_kept("a malformed rule: lent", &lent);
 }
@@ -1129,12 +1416,33 @@ static void reaching(const struct family *family)
     attribute.octets[4] = 255;
     check_answer("reach from 8", reached(family, &lent, family->words, &attribute, 8, sizeof drop, 4), 0, 0);
     check("reach from 8: count", lent.out[0], 4);
+    check("reach from 8: notes", lent.out[1], EXACT);
     check_listed("reach from 8: answers", &lent, infeasible, 4);
     check_octets("reach from 8: table", lent.table, empty, sizeof empty);
     check_answer("reach", reached(family, &lent, family->words, &attribute, 7, sizeof drop, WORDS), 0, 0);
     check("reach: count", lent.out[0], 4);
+    check("reach: notes", lent.out[1], EXACT);
     check_listed("reach: answers", &lent, numbers, 4);
     check_record("reach: table", family, lent.table);
+}
+
+/* The notes of an attribute's rates are answered where each of its rules is infeasible as well, and stand in the record of one that is not. */
+static void reaching_notes(const struct family *family)
+{
+    static const uint8_t rates[] = {PACKET_RATE(0x7f800000), BYTE_RATE(0x3f000000)}, empty[64];
+    static const uint64_t out[2] = {4, RAISED_TO_1 + 8 * CAPPED};
+    const struct attribute attribute = four_rules(family, reach_head(family->afi));
+    uint32_t originator;
+    uint8_t record[64];
+    fill_record(record, family, 3, 1, UINT64_C(1) << 63, RAISED_TO_1 + 8 * CAPPED);
+    for (originator = 7; originator <= 8; originator++) {
+        struct lent lent = lend(family, 0);
+        uint64_t answer = family->reach(lent.table, sizeof lent.table, family->routes, family->words, 0, attribute.octets, attribute.length,
+            originator, rates, sizeof rates, lent.answers, WORDS, lent.out);
+        check_answer("reach, notes", answer, 0, 0);
+        check_out("reach, notes: out", lent.out, out, 2);
+        check_octets("reach, notes: table", lent.table, originator == 7 ? record : empty, sizeof lent.table);
+    }
 }
 
 /* A rule with no destination, "protocol 6", in an attribute: infeasible with the setting off, and taken with any other number. */
@@ -1168,6 +1476,7 @@ static void unreaching(const struct family *family)
     check_kept("unreach, no rule: lent", &lent);
     check_answer("unreach", unreached(family, &lent, &four, WORDS), 0, 0);
     check("unreach: count", lent.out[0], 4);
+    check("unreach: behind out", lent.out[1], UNTOUCHED);
     check_listed("unreach: answers", &lent, numbers, 4);
     check_octets("unreach: table", lent.table, empty, sizeof empty);
 }
@@ -1186,26 +1495,39 @@ static void both(const struct family *family, const struct family *other)
     ordering_routes(family);
     changing(family);
     refusing_tables(family, other);
+    pairing_notes(family);
+    spoiling_notes(family);
+    spoiling_zeros(family);
     looking(family);
+    storing_notes(family);
+    merging_notes(family);
     refusing_packets(family);
     refusing_rules(family);
     refusing_heads(family);
     refusing_cut_heads(family);
+    refusing_announcements(family);
     refusing_reach(family);
     refusing_unreach(family);
     reaching(family);
+    reaching_notes(family);
     reaching_with_no_destination(family);
     unreaching(family);
 }
 
 int main(void)
 {
+    if (flowspec_interface() != FLOWSPEC_INTERFACE) {
+        printf("the library has interface %" PRIu64 ", the header %d\n", flowspec_interface(), FLOWSPEC_INTERFACE);
+        return 1;
+    }
     both(&ipv4, &ipv6);
     both(&ipv6, &ipv4);
     checked = "own";
     clearing();
     comparing();
     acting();
+    noting();
+    choosing_notes();
     passing_options();
     reading_rfc_8956();
     comparing_offsets();
@@ -1215,6 +1537,8 @@ int main(void)
     looking_at_headers();
     refusing_versions();
     looking_past_offsets();
+    check("interface", flowspec_interface(), 5);
+    check("interface of the header", FLOWSPEC_INTERFACE, 5);
     check("number", flowspec4_number(UINT64_C(0x400000006)), 6);
     check("place", flowspec4_place(UINT64_C(0x400000006)), 4);
     printf("%d checks, %d failed\n", checks, failures);
