@@ -1,12 +1,10 @@
 //! Traffic filtering actions (RFC 8955 section 7).
 
+use crate::rate::{smaller, Rate};
 use crate::Refusal;
 
 /// The highest number of communities with one rule.
 const MOST_COMMUNITIES: usize = 64;
-
-/// The highest rate.
-const HIGHEST_RATE: u64 = 1 << 63;
 
 /// The types of the redirect communities.
 const REDIRECTS: [u16; 3] = [0x8008, 0x8108, 0x8208];
@@ -14,10 +12,10 @@ const REDIRECTS: [u16; 3] = [0x8008, 0x8108, 0x8208];
 /// The filtering actions of one rule, or merged from several (01, "Actions").
 #[derive(Debug, Clone, Copy, PartialEq, Eq, Default)]
 pub struct Actions {
-    /// The smallest byte rate; 0 drops (01, "Actions").
-    pub byte_rate: Option<u64>,
-    /// The smallest packet rate; 0 drops (01, "Actions").
-    pub packet_rate: Option<u64>,
+    /// The first of the smallest byte rates (01, "Actions", and 2026-05).
+    pub byte_rate: Option<Rate>,
+    /// The first of the smallest packet rates (01, "Actions", and 2026-05).
+    pub packet_rate: Option<Rate>,
     /// S: sample (01, "Actions").
     pub sample: bool,
     /// T: go on to later rules (01, "Actions").
@@ -37,6 +35,13 @@ impl Actions {
             | u8::from(self.go_on) << 3
             | u8::from(self.marking.is_some()) << 4
             | u8::from(self.redirect.is_some()) << 5
+    }
+
+    /// The notes octet of a record with these actions: three bits for each rate, those of the
+    /// byte rate lowest, 0 for an absent one (2026-05).
+    pub fn notes(&self) -> u8 {
+        let number = |rate: Option<Rate>| rate.map_or(0, |rate| rate.note as u8);
+        number(self.byte_rate) | number(self.packet_rate) << 3
     }
 
     /// Takes one more community of the rule in.
@@ -71,40 +76,9 @@ impl Actions {
     }
 }
 
-/// The smaller of two rates where both are there, otherwise the one that is.
-fn smaller(first: Option<u64>, second: Option<u64>) -> Option<u64> {
-    match (first, second) {
-        (Some(first), Some(second)) => Some(first.min(second)),
-        _ => first.or(second),
-    }
-}
-
 /// The rate in the last four octets of a community: refusal 13.
-fn rate([_, _, _, _, single @ ..]: [u8; 8]) -> Result<u64, Refusal> {
-    rate_of_single(u32::from_be_bytes(single)).ok_or(Refusal::new(13))
-}
-
-/// The rate that the bits of an IEEE 754 single give; none if they are not a number.
-fn rate_of_single(bits: u32) -> Option<u64> {
-    let negative = bits >> 31 != 0;
-    let exponent = bits >> 23 & 0xff;
-    let fraction = bits & 0x007f_ffff;
-    let significand = u64::from(fraction | 0x0080_0000);
-    match exponent {
-        255 if fraction != 0 => None,
-        _ if negative => Some(0),
-        0 if fraction == 0 => Some(0),
-        0..=126 => Some(1),
-        127..=149 => Some(significand >> (150 - exponent)),
-        150..=189 => Some(significand << (exponent - 150)),
-        _ => Some(HIGHEST_RATE),
-    }
-}
-
-/// Whether some single gives the rate: its significant bits are at most 24.
-pub(crate) fn is_rate(rate: u64) -> bool {
-    let significant = rate.checked_shr(rate.trailing_zeros()).unwrap_or(0);
-    rate <= HIGHEST_RATE && significant < 1 << 24
+fn rate([_, _, _, _, single @ ..]: [u8; 8]) -> Result<Rate, Refusal> {
+    Rate::of(f32::from_be_bytes(single)).ok_or(Refusal::new(13))
 }
 
 /// Whether a number is a redirect community.
@@ -128,75 +102,18 @@ pub fn actions(communities: &[u8]) -> Result<Actions, Refusal> {
 #[cfg(test)]
 mod tests {
     use super::*;
-    use crate::testing::octets;
+    use crate::testing::{equal_numbers, octets};
+    use crate::Note::{self, Exact, RoundedDown, TakenAsZero};
 
     fn read(communities: &str) -> Actions {
         actions(&octets(communities)).expect("sound")
     }
 
-    fn byte_rate(single: u32) -> Option<u64> {
-        read(&format!("80060000{single:08x}")).byte_rate
+    fn rate(number: u64, note: Note) -> Option<Rate> {
+        Some(Rate { number, note })
     }
 
     const UNSOUND: Result<Actions, Refusal> = Err(Refusal::new(13));
-
-    #[test]
-    fn the_examples_of_rates() {
-        assert_eq!(byte_rate(0xbf80_0000), Some(0));
-        assert_eq!(byte_rate(0x8000_0000), Some(0));
-        assert_eq!(byte_rate(0x0000_0001), Some(1));
-        assert_eq!(byte_rate(0x4b7f_ffff), Some(16_777_215));
-        assert_eq!(byte_rate(0x5eff_ffff), Some(9_223_371_487_098_961_920));
-        assert_eq!(byte_rate(0x5f00_0000), Some(1 << 63));
-        assert_eq!(actions(&octets("800600007fc00000")), UNSOUND);
-    }
-
-    #[test]
-    fn rates_at_the_edges() {
-        assert_eq!(byte_rate(0x0000_0000), Some(0));
-        assert_eq!(byte_rate(0x8000_0001), Some(0));
-        assert_eq!(byte_rate(0xff80_0000), Some(0));
-        assert_eq!(byte_rate(0x7f80_0000), Some(1 << 63));
-        assert_eq!(byte_rate(0x7f7f_ffff), Some(1 << 63));
-        assert_eq!(byte_rate(0x5f00_0001), Some(1 << 63));
-        assert_eq!(byte_rate(0x3f7f_ffff), Some(1));
-        assert_eq!(byte_rate(0x3f80_0000), Some(1));
-        assert_eq!(byte_rate(0x3fff_ffff), Some(1));
-        assert_eq!(byte_rate(0x4000_0000), Some(2));
-        assert_eq!(byte_rate(0x4b80_0000), Some(16_777_216));
-    }
-
-    #[test]
-    fn rates_agree_with_the_language_s_own_singles() {
-        for high in 0..=0xffffu32 {
-            for bits in [high << 16, high << 16 | 1, high << 16 | 0xffff] {
-                let single = f32::from_bits(bits);
-                let expected = match single {
-                    _ if single.is_nan() => None,
-                    _ if single <= 0.0 => Some(0),
-                    _ if single < 1.0 => Some(1),
-                    _ => Some((single as u64).min(1 << 63)),
-                };
-                assert_eq!(rate_of_single(bits), expected, "{bits:08x}");
-                assert!(expected.is_none_or(is_rate), "{bits:08x}");
-            }
-        }
-    }
-
-    #[test]
-    fn is_rate_holds_exactly_for_what_a_single_gives() {
-        let near = |rate: u64| (-3..=3).map(move |step| rate.wrapping_add_signed(step));
-        let powers = (0..64).flat_map(|power| near(1 << power));
-        let full = (24..64).flat_map(|power| near(0xff_ffff << (power - 24)));
-        for rate in powers.chain(full).chain(near(u64::MAX)) {
-            let nearest = (rate as f32).to_bits();
-            assert_eq!(
-                is_rate(rate),
-                rate_of_single(nearest) == Some(rate),
-                "{rate}"
-            );
-        }
-    }
 
     #[test]
     fn refusal_13_unsound_actions() {
@@ -206,6 +123,8 @@ mod tests {
         }
         assert_eq!(actions(&octets("800c00007f800001")), UNSOUND);
         assert_eq!(actions(&octets("80060000ff800001")), UNSOUND);
+        assert_eq!(actions(&octets("800600007fc00000")), UNSOUND);
+        assert_eq!(actions(&octets("800c0000ffc00000")), UNSOUND);
         assert_eq!(
             actions(&octets("8006000000000000 80060000ffffffff")),
             UNSOUND
@@ -244,8 +163,8 @@ mod tests {
             "8006000041200000 8006ffff40a00000 800600004b7fffff 800c000042c80000 \
              80090000000000ff 8009000000000001 8208000000010002 8008000100000002",
         );
-        assert_eq!(actions.byte_rate, Some(5));
-        assert_eq!(actions.packet_rate, Some(100));
+        assert_eq!(actions.byte_rate, rate(5, Exact));
+        assert_eq!(actions.packet_rate, rate(100, Exact));
         assert_eq!(actions.marking, Some(63));
         assert_eq!(actions.redirect, Some(0x8208_0000_0001_0002));
         assert_eq!(actions.flags(), 1 | 2 | 16 | 32);
@@ -254,21 +173,63 @@ mod tests {
     }
 
     #[test]
+    fn the_note_of_the_first_community_that_gives_the_smallest_number() {
+        for [(first, note), (second, _)] in equal_numbers() {
+            let byte_rates = format!("80060000{first:08x} 80060000{second:08x}");
+            let packet_rates = format!("800c0000{first:08x} 800c0000{second:08x}");
+            let actions = read(&format!("{byte_rates} {packet_rates}"));
+            for rate in [actions.byte_rate, actions.packet_rate] {
+                assert_eq!(rate.map(|rate| rate.note), Some(note));
+            }
+            assert_eq!(actions.byte_rate, read(&byte_rates).byte_rate);
+            assert_eq!(read(&byte_rates).notes(), note as u8);
+            assert_eq!(read(&packet_rates).notes(), (note as u8) << 3);
+        }
+        let rates = "800600007f800000 8006000040b00000 8006000040c00000 8006000040a00000";
+        assert_eq!(read(rates).byte_rate, rate(5, RoundedDown));
+        let each_kind = "8006000040a00000 800c000040b00000 8006000040b00000 800c000040a00000";
+        assert_eq!(read(each_kind).notes(), 0x08);
+    }
+
+    #[test]
+    fn the_notes_octet() {
+        assert_eq!(read("").notes(), 0x00);
+        assert_eq!(read("8007000000000003 8009000000000005").notes(), 0x00);
+        assert_eq!(read("8006000080000000 800c00005f000000").notes(), 0x00);
+        assert_eq!(read("800600003fc00000").notes(), 0x01);
+        assert_eq!(read("800c00003fc00000").notes(), 0x08);
+        assert_eq!(read("800600003f000000 800c00007f800000").notes(), 0x1a);
+        assert_eq!(read("80060000bf800000 800c0000ff800000").notes(), 0x24);
+        assert_eq!(read("800600005f000001 800c00004affffff").notes(), 0x0b);
+    }
+
+    #[test]
     fn merging_keeps_the_first_marking_and_redirect() {
         let first = read("8006000041200000 8007000000000001 8009000000000005");
         let later = read(
-            "8006000040a00000 800c000000000000 8007000000000003 8009000000000006 8008000000000001",
+            "8006000040b00000 800c0000bf800000 8007000000000003 8009000000000006 8008000000000001",
         );
         let merged = Actions {
-            byte_rate: Some(5),
-            packet_rate: Some(0),
+            byte_rate: rate(5, RoundedDown),
+            packet_rate: rate(0, TakenAsZero),
             sample: true,
             go_on: false,
             marking: Some(5),
             redirect: Some(0x8008_0000_0000_0001),
         };
         assert_eq!(first.merge(later), merged);
+        assert_eq!(merged.notes(), 0x21);
         assert_eq!(Actions::default().merge(merged), merged);
         assert_eq!(merged.merge(Actions::default()), merged);
+    }
+
+    #[test]
+    fn merging_keeps_the_note_of_the_first_of_two_equal_numbers() {
+        for [(first, note), (second, _)] in equal_numbers() {
+            let rule = |single: u32| read(&format!("80060000{single:08x} 800c0000{single:08x}"));
+            let merged = rule(first).merge(rule(second));
+            assert_eq!(merged, rule(first));
+            assert_eq!(merged.notes(), note as u8 * 0x09);
+        }
     }
 }

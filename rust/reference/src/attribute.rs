@@ -49,7 +49,8 @@ fn one_by_one(
 }
 
 /// Announces the rules of an MP_REACH_NLRI value in order, each with the same actions, and gives
-/// their count; the front of the answers lists the number of each (2026-01).
+/// the rules' count and the actions' notes octet, whatever the rules are answered; the front of
+/// the answers lists the number of each (2026-01 and 2026-05).
 #[allow(clippy::too_many_arguments)]
 pub fn reach(
     family: Family,
@@ -60,7 +61,7 @@ pub fn reach(
     originator: u32,
     communities: &[u8],
     answers: &mut [u32],
-) -> Result<usize, Refusal> {
+) -> Result<(usize, u8), Refusal> {
     let mut table = SoundTable::new(family, table)?;
     let routes = Routes::new(family, routes)?;
     let values = rule::values(family, reach_rules(family, attribute)?)?;
@@ -74,7 +75,7 @@ pub fn reach(
     one_by_one(family, &values, answers, |value| {
         table.announce(value, &announcement)
     });
-    Ok(values.len())
+    Ok((values.len(), announcement.actions.notes()))
 }
 
 /// Withdraws the rules of an MP_UNREACH_NLRI value in order, and gives their count; the front of
@@ -131,6 +132,12 @@ mod tests {
         reached_with(table, &ROUTE, attribute, &[], words)
     }
 
+    /// The count that a reach gives with the notes of no actions.
+    fn without_notes((count, notes): (usize, u8)) -> usize {
+        assert_eq!(notes, 0);
+        count
+    }
+
     fn reached_with(
         table: &[u8],
         routes: &[u32],
@@ -149,7 +156,7 @@ mod tests {
             communities,
             &mut answers,
         );
-        (answer, table, answers)
+        (answer.map(without_notes), table, answers)
     }
 
     /// An unreach on a copy of the table.
@@ -165,7 +172,7 @@ mod tests {
         for rule in rules {
             assert_eq!(
                 announce(Ipv4, &mut table, &ROUTE, false, &octets(rule), 7, &[]),
-                Ok(())
+                Ok(0)
             );
         }
         table
@@ -325,8 +332,8 @@ mod tests {
     #[test]
     fn done_infeasible_and_no_room_in_one_reach() {
         let attribute = joined(&[REACH, TCP, INFEASIBLE, MAIL, "05 0118c00002"]);
-        let left = reached(&[0; 77], &attribute, 6);
-        let held = table_of(77, &[TCP, "05 0118c00002"]);
+        let left = reached(&[0; 85], &attribute, 6);
+        let held = table_of(85, &[TCP, "05 0118c00002"]);
         assert_eq!(left, (Ok(4), held, vec![0, 8, 11, 0, BEFORE, BEFORE]));
     }
 
@@ -345,19 +352,48 @@ mod tests {
             &[],
             &mut answers,
         );
-        assert_eq!((answer, answers), (Ok(2), [8, 8]));
+        assert_eq!((answer, answers), (Ok((2, 0)), [8, 8]));
         assert_eq!(table, table_of(200, &[MAIL]));
+    }
+
+    #[test]
+    fn a_reach_gives_its_notes_whatever_its_rules_are_answered() {
+        let communities = octets("800600003fc00000 800c0000bf800000");
+        let cases: [(&[&str], usize, &[u32]); 4] = [
+            (&[TCP, MAIL], 100, &[0, 0]),
+            (&[INFEASIBLE], 100, &[8]),
+            (&[TCP, INFEASIBLE], 40, &[11, 8]),
+            (&[INFEASIBLE, TCP], 44, &[8, 0]),
+        ];
+        for (rules, length, numbers) in cases {
+            let attribute = joined(&[&[REACH], rules].concat());
+            let (mut table, mut answers) = (vec![0; length], vec![BEFORE; rules.len()]);
+            let answer = reach(
+                Ipv4,
+                &mut table,
+                &ROUTE,
+                false,
+                &attribute,
+                7,
+                &communities,
+                &mut answers,
+            );
+            assert_eq!(answer, Ok((rules.len(), 0x21)));
+            assert_eq!(answers, numbers);
+            let held = numbers.contains(&0);
+            assert_eq!(table[32], 0x21 * u8::from(held));
+        }
     }
 
     #[test]
     fn the_same_rule_twice() {
         let reach = joined(&[REACH, TCP, TCP_AGAIN, TCP]);
-        let held = table_of(40, &[TCP]);
-        let left = reached(&[0; 40], &reach, 3);
+        let held = table_of(44, &[TCP]);
+        let left = reached(&[0; 44], &reach, 3);
         assert_eq!(left, (Ok(3), held.clone(), vec![0, 0, 0]));
         let unreach = joined(&[UNREACH, TCP, TCP_AGAIN]);
         let left = unreached(&held, &unreach, 3);
-        assert_eq!(left, (Ok(2), vec![0; 40], vec![0, 14, BEFORE]));
+        assert_eq!(left, (Ok(2), vec![0; 44], vec![0, 14, BEFORE]));
     }
 
     #[test]
@@ -468,6 +504,7 @@ mod tests {
                     &[],
                     answers,
                 )
+                .map(without_notes)
             }
             false => unreach(family, &mut table, &attribute, &mut answers),
         };
@@ -489,7 +526,7 @@ mod tests {
                 let announces = sequence.below(4) > 0;
                 let left = at_once(family, &table, &rules, announces);
                 let singly = singly(&table, &rules, |table, rule| match announces {
-                    true => announce(family, table, &routes, true, rule, 7, &[]),
+                    true => announce(family, table, &routes, true, rule, 7, &[]).map(drop),
                     false => withdraw(family, table, rule),
                 });
                 assert_eq!(left, singly);
@@ -511,7 +548,7 @@ mod tests {
         let rules = [rule("048119"), rule_of(&longest), rule("038106")];
         let mut attribute = octets(REACH);
         attribute.extend(rules.concat());
-        let mut table = vec![0; 3 * 32 + 4_095 + 6];
+        let mut table = vec![0; 3 * 36 + 4_095 + 6];
         let mut answers = [BEFORE; 4];
         let answer = reach(
             Ipv4,
@@ -523,7 +560,7 @@ mod tests {
             &[],
             &mut answers,
         );
-        assert_eq!((answer, answers), (Ok(3), [0, 0, 0, BEFORE]));
+        assert_eq!((answer, answers), (Ok((3, 0)), [0, 0, 0, BEFORE]));
         let again = unreached(&table, &[octets(UNREACH), rules.concat()].concat(), 3);
         assert_eq!(again, (Ok(3), vec![0; table.len()], vec![0, 0, 0]));
     }
@@ -552,7 +589,7 @@ mod tests {
                 "0002 85" => Ok(1),
                 _ => Err(Refusal::new(19)),
             };
-            assert_eq!(answer, expected);
+            assert_eq!(answer.map(without_notes), expected);
             assert_eq!(table.iter().all(|octet| *octet == 0), expected.is_err());
             let withdrawing = attribute(&afi, "");
             let answer = unreach(Ipv6, &mut table, &withdrawing, &mut answers);

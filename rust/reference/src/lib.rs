@@ -8,7 +8,8 @@
 //!
 //! In the comments, 01 is the paper "What is required and the exact rules: IPv4 flow rules",
 //! named with its section, 2026-01 the later request "Whole attributes, not single rules",
-//! 2026-02 the one on IP options, and 2026-04 the one on IPv6; RFC sections are named as such.
+//! 2026-02 the one on IP options, 2026-04 the one on IPv6, and 2026-05 the one that says when a
+//! rate was changed; RFC sections are named as such.
 
 mod action;
 mod attribute;
@@ -17,6 +18,7 @@ mod family;
 mod lines;
 mod order;
 mod packet;
+mod rate;
 mod route;
 mod rule;
 mod table;
@@ -26,6 +28,7 @@ pub use attribute::{reach, unreach};
 pub use family::Family;
 pub use lines::run_lines;
 pub use order::{compare, Precedence};
+pub use rate::{Note, Rate};
 pub use route::feasible;
 pub use rule::{read, write};
 pub use table::{announce, first_match, lookup, withdraw, Verdict};
@@ -59,6 +62,7 @@ impl Refusal {
 #[cfg(test)]
 mod testing {
     use crate::Family;
+    use crate::Note::{self, Capped, Exact, Raised, RoundedDown, TakenAsZero};
 
     /// Both families, for what holds of each.
     pub(crate) const FAMILIES: [Family; 2] = [Family::Ipv4, Family::Ipv6];
@@ -90,6 +94,21 @@ mod testing {
         };
         rule.extend_from_slice(value);
         rule
+    }
+
+    /// Every two singles here give equal numbers with different notes, in both orders.
+    pub(crate) fn equal_numbers() -> impl Iterator<Item = [(u32, Note); 2]> {
+        let pairs = [
+            [(0x8000_0000, Exact), (0xbf80_0000, TakenAsZero)],
+            [(0x3f80_0000, Exact), (0x3fc0_0000, RoundedDown)],
+            [(0x3f80_0000, Exact), (0x3f00_0000, Raised)],
+            [(0x3fc0_0000, RoundedDown), (0x3f00_0000, Raised)],
+            [(0x4aff_fffe, Exact), (0x4aff_ffff, RoundedDown)],
+            [(0x5f00_0000, Exact), (0x7f80_0000, Capped)],
+        ];
+        pairs
+            .into_iter()
+            .flat_map(|[first, second]| [[first, second], [second, first]])
     }
 
     /// A sequence of numbers that is the same at every run.

@@ -67,7 +67,7 @@ impl Program {
             originator,
             communities,
         );
-        self.answer(answer);
+        self.answer(answer.map(|_notes| ()));
     }
 
     /// Prints the number of a refusal, or 0, and a place with the numbers that carry one.
@@ -183,10 +183,10 @@ mod tests {
         let input = format!("{ROUTE}{ANNOUNCE}list");
         let output = "answer\t0\n\
                       rules\t1\n\
-                      rule\t000b0000000701000000000000000000000000000000000000000000000000000118c00002038106048119\n";
+                      rule\t000b000000070100000000000000000000000000000000000000000000000000000000000118c00002038106048119\n";
         assert_eq!(run(&input), output);
         assert_eq!(run(&format!("{input}\n")), output);
-        let zeros = "0".repeat(50);
+        let zeros = "0".repeat(58);
         assert!(output.contains(&format!("0701{zeros}0118")));
     }
 
@@ -304,15 +304,27 @@ mod tests {
              announce\t0b0118c00002038106048119\t8\t\nlist\n\
              withdraw\t060120c0000201\nlist\n"
         );
-        let zeros = "0".repeat(52);
+        let zeros = "0".repeat(60);
         let (first, second) = ("0120c0000201", "0118c00002038106048119");
-        let drop = "0".repeat(50);
+        let drop = "0".repeat(58);
         let expected = format!(
             "answer\t0\nanswer\t0\nrules\t2\nrule\t000600000007{zeros}{first}\n\
              rule\t000b0000000701{drop}{second}\nanswer\t8\nrules\t1\n\
              rule\t000600000007{zeros}{first}\nanswer\t0\nrules\t0\n"
         );
         assert_eq!(run(&input), expected);
+    }
+
+    #[test]
+    fn a_listed_record_shows_the_notes_and_an_answer_line_does_not() {
+        let input =
+            format!("{ROUTE}announce\t050118c00002\t7\t800600003fc00000800c0000bf800000\nlist\n");
+        let (one, zero) = ("0000000000000001", "0000000000000000");
+        let record = format!("0005000000070300{one}{zero}{zero}210000000118c00002");
+        assert_eq!(
+            run(&input),
+            format!("answer\t0\nrules\t1\nrule\t{record}\n")
+        );
     }
 
     #[test]

@@ -4,6 +4,7 @@
 use crate::action::{self, Actions};
 use crate::order::order;
 use crate::packet::Packet;
+use crate::rate::{Note, Rate};
 use crate::route::Routes;
 use crate::rule::{self, Reader, LONGEST_VALUE, WORKING_ARRAY};
 use crate::{Family, Refusal};
@@ -13,7 +14,7 @@ use std::cmp::Ordering;
 pub(crate) const LONGEST_TABLE: usize = 65_536;
 
 /// The octets of a record before its value.
-const HEADER: usize = 32;
+const HEADER: usize = 36;
 
 /// The fields of a record before its value.
 type Header = [u8; HEADER];
@@ -90,12 +91,24 @@ impl<'a> Record<'a> {
         u64::from_be_bytes(fields[index])
     }
 
-    fn byte_rate(&self) -> u64 {
-        self.number(1)
+    fn notes(&self) -> u8 {
+        self.header[32]
     }
 
-    fn packet_rate(&self) -> u64 {
-        self.number(2)
+    fn byte_rate(&self) -> RateFields {
+        RateFields {
+            present: self.flag(1),
+            number: self.number(1),
+            note: self.notes() & 0x07,
+        }
+    }
+
+    fn packet_rate(&self) -> RateFields {
+        RateFields {
+            present: self.flag(2),
+            number: self.number(2),
+            note: self.notes() >> 3 & 0x07,
+        }
     }
 
     fn redirect(&self) -> u64 {
@@ -108,8 +121,8 @@ impl<'a> Record<'a> {
 
     fn actions(&self) -> Actions {
         Actions {
-            byte_rate: self.flag(1).then(|| self.byte_rate()),
-            packet_rate: self.flag(2).then(|| self.packet_rate()),
+            byte_rate: self.byte_rate().rate(),
+            packet_rate: self.packet_rate().rate(),
             sample: self.flag(4),
             go_on: self.flag(8),
             marking: self.flag(16).then(|| self.dscp()),
@@ -122,10 +135,12 @@ impl<'a> Record<'a> {
     fn is_sound(&self, family: Family) -> bool {
         self.value.len() <= LONGEST_VALUE
             && self.header[6] < 64
-            && field_is_sound(self.flag(1), self.byte_rate(), action::is_rate)
-            && field_is_sound(self.flag(2), self.packet_rate(), action::is_rate)
+            && self.byte_rate().is_sound()
+            && self.packet_rate().is_sound()
             && field_is_sound(self.flag(16), u64::from(self.dscp()), |dscp| dscp < 64)
             && field_is_sound(self.flag(32), self.redirect(), action::is_redirect)
+            && self.notes() < 64
+            && is_zero(&self.header[33..])
             && Reader::new(family, self.value)
                 .all(|component| component.is_ok_and(|component| component.is_plain()))
     }
@@ -133,6 +148,32 @@ impl<'a> Record<'a> {
     /// The record's octets.
     pub(crate) fn octets(&self) -> impl Iterator<Item = u8> + 'a {
         self.header.iter().chain(self.value).copied()
+    }
+}
+
+/// What a record says of a rate of one kind: its flag, its number and the number of its note.
+struct RateFields {
+    present: bool,
+    number: u64,
+    note: u8,
+}
+
+impl RateFields {
+    /// The rate; none where it is absent or has no note of those there are.
+    fn rate(&self) -> Option<Rate> {
+        let note = Note::of(self.note)?;
+        self.present.then_some(Rate {
+            number: self.number,
+            note,
+        })
+    }
+
+    /// Whether some single gives the rate, or it is absent and all zero.
+    fn is_sound(&self) -> bool {
+        match self.rate() {
+            Some(rate) => rate.is_given(),
+            None => !self.present && self.number == 0 && self.note == 0,
+        }
     }
 }
 
@@ -215,9 +256,16 @@ fn header(value: &[u8], originator: u32, actions: &Actions) -> Header {
     header[2..6].copy_from_slice(&originator.to_be_bytes());
     header[6] = actions.flags();
     header[7] = actions.marking.unwrap_or(0);
-    header[8..16].copy_from_slice(&actions.byte_rate.unwrap_or(0).to_be_bytes());
-    header[16..24].copy_from_slice(&actions.packet_rate.unwrap_or(0).to_be_bytes());
-    header[24..].copy_from_slice(&actions.redirect.unwrap_or(0).to_be_bytes());
+    let numbers = [
+        actions.byte_rate.map(|rate| rate.number),
+        actions.packet_rate.map(|rate| rate.number),
+        actions.redirect,
+    ];
+    let (fields, _) = header[8..].as_chunks_mut();
+    for (field, number) in fields.iter_mut().zip(numbers) {
+        *field = number.unwrap_or(0).to_be_bytes();
+    }
+    header[32] = actions.notes();
     header
 }
 
@@ -298,8 +346,9 @@ impl<'a> SoundTable<'a> {
     }
 }
 
-/// Announces a rule with its actions: a feasible one is held from then on in the place of an
-/// equal one, an infeasible one is not held any longer (01, "The table" and "Refusals").
+/// Announces a rule with its actions, and gives their notes octet: a feasible rule is held from
+/// then on in the place of an equal one, an infeasible one is not held any longer (01, "The table"
+/// and "Refusals", and 2026-05).
 pub fn announce(
     family: Family,
     table: &mut [u8],
@@ -308,7 +357,7 @@ pub fn announce(
     rule: &[u8],
     originator: u32,
     communities: &[u8],
-) -> Result<(), Refusal> {
+) -> Result<u8, Refusal> {
     let mut table = SoundTable::new(family, table)?;
     let routes = Routes::new(family, routes)?;
     let mut array = WORKING_ARRAY;
@@ -319,7 +368,8 @@ pub fn announce(
         originator,
         actions: action::actions(communities)?,
     };
-    table.announce(value, &announcement)
+    table.announce(value, &announcement)?;
+    Ok(announcement.actions.notes())
 }
 
 /// Withdraws a rule that the table holds (01, "The table" and "Refusals").
@@ -361,7 +411,7 @@ pub fn first_match(family: Family, table: &[u8], packet: &[u8]) -> Result<(usize
 #[cfg(test)]
 mod tests {
     use super::*;
-    use crate::testing::{octets, rule, rule_of, some_value, Sequence, FAMILIES};
+    use crate::testing::{equal_numbers, octets, rule, rule_of, some_value, Sequence, FAMILIES};
     use Family::{Ipv4, Ipv6};
 
     const ROUTE: [u32; 4] = [0xc000_0200, 24, 7, 64_500];
@@ -369,12 +419,12 @@ mod tests {
     const DROP: &str = "8006000000000000";
     const GO_ON: &str = "8007000000000001";
 
-    fn refused(number: u32) -> Result<(), Refusal> {
+    fn refused<Answer>(number: u32) -> Result<Answer, Refusal> {
         Err(Refusal::new(number))
     }
 
     /// Announces from originator 7 where every rule is feasible.
-    fn hold(table: &mut [u8], value: &str, communities: &str) -> Result<(), Refusal> {
+    fn hold(table: &mut [u8], value: &str, communities: &str) -> Result<u8, Refusal> {
         let routes = [0, 0, 7, 64_500];
         announce(
             Ipv4,
@@ -391,7 +441,7 @@ mod tests {
     fn table_of(length: usize, rules: &[(&str, &str)]) -> Vec<u8> {
         let mut table = vec![0; length];
         for (value, communities) in rules {
-            assert_eq!(hold(&mut table, value, communities), Ok(()));
+            assert_eq!(hold(&mut table, value, communities).err(), None);
         }
         table
     }
@@ -417,29 +467,48 @@ mod tests {
         let example = rule(EXAMPLE);
         assert_eq!(
             announce(Ipv4, &mut table, &ROUTE, false, &example, 7, &octets(DROP)),
-            Ok(())
+            Ok(0)
         );
         let mut expected = octets("000b0000000701");
-        expected.extend([0; 25]);
+        expected.extend([0; 29]);
         expected.extend(octets(EXAMPLE));
-        assert_eq!(expected.len(), 43);
-        expected.extend([0; 7]);
+        assert_eq!(expected.len(), 47);
+        expected.extend([0; 3]);
         assert_eq!(table, expected);
     }
 
     #[test]
     fn the_fields_of_a_record() {
-        let communities = "800600005effffff 800c000040a00000 8007000000000003 80090000000000ee \
+        let communities = "800600005effffff 800c000040b00000 8007000000000003 80090000000000ee \
                            8108010203040506";
-        let table = table_of(36, &[("03c906", communities)]);
+        let table = table_of(40, &[("03c906", communities)]);
         let expected = record(
             "038106",
-            "00000007 3f 2e 7fffff8000000000 0000000000000005 8108010203040506",
+            "00000007 3f 2e 7fffff8000000000 0000000000000005 8108010203040506 08 000000",
         );
-        assert_eq!(table[..35], expected);
-        assert_eq!(table[35], 0);
+        assert_eq!(table[..39], expected);
+        assert_eq!(table[39], 0);
         let found = records(&table).next().map(|record| record.actions());
         assert_eq!(found, action::actions(&octets(communities)).ok());
+    }
+
+    #[test]
+    fn an_announcement_gives_its_own_notes() {
+        let mut table = vec![0; 80];
+        for (single, notes) in [
+            ("3fc00000", 0x01),
+            ("3f000000", 0x02),
+            ("7f800000", 0x03),
+            ("bf800000", 0x04),
+            ("80000000", 0x00),
+        ] {
+            let byte_rate = format!("80060000{single}");
+            assert_eq!(hold(&mut table, "038106", &byte_rate), Ok(notes));
+            assert_eq!(table[32..36], [notes, 0, 0, 0]);
+            let packet_rate = format!("800c0000{single}");
+            assert_eq!(hold(&mut table, "038106", &packet_rate), Ok(notes << 3));
+            assert_eq!(table[32..36], [notes << 3, 0, 0, 0]);
+        }
     }
 
     #[test]
@@ -471,7 +540,8 @@ mod tests {
     }
 
     /// A record's fields without any action.
-    const NO_ACTION: &str = "00000000 00 00 0000000000000000 0000000000000000 0000000000000000";
+    const NO_ACTION: &str =
+        "00000000 00 00 0000000000000000 0000000000000000 0000000000000000 00 000000";
 
     /// Tables whose records do not stand as they should.
     fn misplaced_records() -> Vec<Vec<u8>> {
@@ -481,9 +551,9 @@ mod tests {
             vec![0; LONGEST_TABLE + 1],
             vec![1],
             vec![0, 1],
-            vec![1; 31],
-            [vec![0; 32], vec![1]].concat(),
-            good[..34].to_vec(),
+            vec![1; 35],
+            [vec![0; 36], vec![1]].concat(),
+            good[..38].to_vec(),
             [good.clone(), vec![1]].concat(),
             [good.clone(), vec![0; 40], later.clone()].concat(),
             [later, good.clone()].concat(),
@@ -517,25 +587,54 @@ mod tests {
     /// Tables with one record whose actions no communities give.
     fn wrong_actions() -> Vec<Vec<u8>> {
         let fields = [
-            "00000000 40 00 0000000000000000 0000000000000000 0000000000000000",
-            "00000000 80 00 0000000000000000 0000000000000000 0000000000000000",
-            "00000000 00 01 0000000000000000 0000000000000000 0000000000000000",
-            "00000000 10 40 0000000000000000 0000000000000000 0000000000000000",
-            "00000000 3e 00 0000000000000001 0000000000000000 8008000000000000",
-            "00000000 3d 00 0000000000000000 0000000000000001 8008000000000000",
-            "00000000 01 00 0000000001000001 0000000000000000 0000000000000000",
-            "00000000 02 00 0000000000000000 8000000000000001 0000000000000000",
-            "00000000 01 00 8000010000000000 0000000000000000 0000000000000000",
-            "00000000 00 00 0000000000000000 0000000000000000 8008000000000000",
-            "00000000 20 00 0000000000000000 0000000000000000 0000000000000000",
-            "00000000 20 00 0000000000000000 0000000000000000 8308000000000000",
+            "00000000 40 00 0000000000000000 0000000000000000 0000000000000000 00 000000",
+            "00000000 80 00 0000000000000000 0000000000000000 0000000000000000 00 000000",
+            "00000000 00 01 0000000000000000 0000000000000000 0000000000000000 00 000000",
+            "00000000 10 40 0000000000000000 0000000000000000 0000000000000000 00 000000",
+            "00000000 3e 00 0000000000000001 0000000000000000 8008000000000000 00 000000",
+            "00000000 3d 00 0000000000000000 0000000000000001 8008000000000000 00 000000",
+            "00000000 01 00 0000000001000001 0000000000000000 0000000000000000 00 000000",
+            "00000000 02 00 0000000000000000 8000000000000001 0000000000000000 00 000000",
+            "00000000 01 00 8000010000000000 0000000000000000 0000000000000000 00 000000",
+            "00000000 00 00 0000000000000000 0000000000000000 8008000000000000 00 000000",
+            "00000000 20 00 0000000000000000 0000000000000000 0000000000000000 00 000000",
+            "00000000 20 00 0000000000000000 0000000000000000 8308000000000000 00 000000",
+        ];
+        fields.map(|fields| record("038106", fields)).to_vec()
+    }
+
+    /// Tables with one record whose notes no communities give, or with more behind them.
+    fn wrong_notes() -> Vec<Vec<u8>> {
+        let fields = [
+            "00000000 03 00 0000000000000001 0000000000000001 0000000000000000 05 000000",
+            "00000000 03 00 0000000000000001 0000000000000001 0000000000000000 07 000000",
+            "00000000 03 00 0000000000000001 0000000000000001 0000000000000000 28 000000",
+            "00000000 03 00 0000000000000001 0000000000000001 0000000000000000 38 000000",
+            "00000000 03 00 0000000000000001 0000000000000001 0000000000000000 40 000000",
+            "00000000 03 00 0000000000000001 0000000000000001 0000000000000000 80 000000",
+            "00000000 02 00 0000000000000000 0000000000000001 0000000000000000 04 000000",
+            "00000000 01 00 0000000000000001 0000000000000000 0000000000000000 20 000000",
+            "00000000 00 00 0000000000000000 0000000000000000 0000000000000000 01 000000",
+            "00000000 01 00 0000000000000000 0000000000000000 0000000000000000 01 000000",
+            "00000000 01 00 0000000000800000 0000000000000000 0000000000000000 01 000000",
+            "00000000 02 00 0000000000000000 0000000000000002 0000000000000000 10 000000",
+            "00000000 01 00 7fffff8000000000 0000000000000000 0000000000000000 03 000000",
+            "00000000 02 00 0000000000000000 0000000000000001 0000000000000000 20 000000",
+            "00000000 03 00 0000000000000001 0000000000000001 0000000000000000 00 010000",
+            "00000000 03 00 0000000000000001 0000000000000001 0000000000000000 00 000100",
+            "00000000 03 00 0000000000000001 0000000000000001 0000000000000000 00 000001",
         ];
         fields.map(|fields| record("038106", fields)).to_vec()
     }
 
     #[test]
     fn refusal_10_unsound_table() {
-        let tables = [misplaced_records(), wrong_values(), wrong_actions()];
+        let tables = [
+            misplaced_records(),
+            wrong_values(),
+            wrong_actions(),
+            wrong_notes(),
+        ];
         for mut table in tables.concat() {
             let before = table.clone();
             assert_eq!(
@@ -551,32 +650,89 @@ mod tests {
 
     #[test]
     fn sound_tables_at_the_edges() {
-        for length in [0, 1, 31, 32, 33, LONGEST_TABLE] {
+        for length in [0, 1, 35, 36, 37, LONGEST_TABLE] {
             assert_eq!(check(Ipv4, &vec![0; length]), Ok(0));
         }
-        let edges = "ffffffff 3f 3f 8000000000000000 0000000000ffffff 8208ffffffffffff";
-        assert_eq!(check(Ipv4, &record("038106", edges)), Ok(35));
+        let edges = "ffffffff 3f 3f 8000000000000000 0000000000ffffff 8208ffffffffffff 03 000000";
+        assert_eq!(check(Ipv4, &record("038106", edges)), Ok(39));
         let mut longest = vec![3];
         longest.extend([1, 6].repeat(2_046));
         longest.extend([0x81, 6]);
         let mut table = vec![0; HEADER + 4_095];
         assert_eq!(
             announce(Ipv4, &mut table, &[], true, &rule_of(&longest), 0, &[]),
-            Ok(())
+            Ok(0)
         );
         assert_eq!(check(Ipv4, &table), Ok(HEADER + 4_095));
     }
 
+    /// Numbers at the edges, each with the notes that some single gives it with.
+    const EDGES: [(u64, &[u8]); 13] = [
+        (0, &[0, 4]),
+        (1, &[0, 1, 2]),
+        (2, &[0, 1]),
+        ((1 << 23) - 1, &[0, 1]),
+        (1 << 23, &[0]),
+        ((1 << 23) + 1, &[0]),
+        ((1 << 24) + 1, &[]),
+        ((1 << 63) - (1 << 39), &[0]),
+        ((1 << 63) - 1, &[]),
+        (1 << 63, &[0, 3]),
+        ((1 << 63) + 1, &[]),
+        ((1 << 63) + (1 << 40), &[]),
+        (u64::MAX, &[]),
+    ];
+
+    /// The record of a rule with rates and nothing else.
+    fn record_of_rates(flags: u8, byte_rate: u64, packet_rate: u64, notes: u8) -> Vec<u8> {
+        let rates = format!("{byte_rate:016x} {packet_rate:016x}");
+        let fields = format!("00000000 {flags:02x} 00 {rates} 0000000000000000 {notes:02x} 000000");
+        record("038106", &fields)
+    }
+
+    #[test]
+    fn a_record_has_the_notes_that_some_single_gives_its_rates() {
+        let possible = |present: bool, (number, given): (u64, &[u8]), note: u8| match present {
+            true => given.contains(&note),
+            false => number == 0 && note == 0,
+        };
+        for byte_rate in EDGES {
+            for packet_rate in EDGES {
+                for flags in 0..4 {
+                    let mut table = record_of_rates(flags, byte_rate.0, packet_rate.0, 0);
+                    for notes in 0..=255 {
+                        table[32] = notes;
+                        let expected = possible(flags & 1 != 0, byte_rate, notes & 7)
+                            && possible(flags & 2 != 0, packet_rate, notes >> 3);
+                        assert_eq!(check(Ipv4, &table).is_ok(), expected, "{table:?}");
+                    }
+                }
+            }
+        }
+    }
+
+    #[test]
+    fn the_three_octets_behind_the_notes_are_zero() {
+        for place in 33..HEADER {
+            let mut table = record_of_rates(3, 1, 0, 0x22);
+            assert_eq!(check(Ipv4, &table), Ok(39));
+            for octet in 1..=255 {
+                table[place] = octet;
+                assert_eq!(check(Ipv4, &table), refused(10));
+            }
+        }
+    }
+
     #[test]
     fn refusal_11_no_room() {
-        let mut table = table_of(69, &[("038106", "")]);
+        let mut table = table_of(77, &[("038106", "")]);
         let before = table.clone();
         assert_eq!(hold(&mut table, "038111", ""), refused(11));
         assert_eq!(table, before);
-        assert_eq!(hold(&mut table, "0100", ""), Ok(()));
-        assert_eq!(table[69 - 35..], before[..35]);
-        assert_eq!(hold(&mut table, "03c906", DROP), Ok(()));
-        assert_eq!(table, table_of(69, &[("0100", ""), ("038106", DROP)]));
+        assert_eq!(hold(&mut table, "0100", ""), Ok(0));
+        assert_eq!(table[77 - 39..], before[..39]);
+        assert_eq!(hold(&mut table, "03c906", DROP), Ok(0));
+        assert_eq!(table, table_of(77, &[("0100", ""), ("038106", DROP)]));
         assert_eq!(hold(&mut [], "0100", ""), refused(11));
     }
 
@@ -684,17 +840,17 @@ mod tests {
                 ("048119", ""),
             ],
         );
-        assert_eq!(found(&table), (3, 38));
-        assert_eq!(hold(&mut table, "0118c00002", ""), Ok(()));
-        assert_eq!(found(&table), (2, 38));
-        assert_eq!(hold(&mut table, "0120c0000209", DROP), Ok(()));
-        assert_eq!(found(&table), (1, 38));
+        assert_eq!(found(&table), (3, 42));
+        assert_eq!(hold(&mut table, "0118c00002", ""), Ok(0));
+        assert_eq!(found(&table), (2, 42));
+        assert_eq!(hold(&mut table, "0120c0000209", DROP), Ok(0));
+        assert_eq!(found(&table), (1, 42));
         assert_eq!(withdraw(Ipv4, &mut table, &rule("0120c0000209")), Ok(()));
-        assert_eq!(found(&table), (1, 38));
+        assert_eq!(found(&table), (1, 42));
         for value in ["0118c00002", "038106", "048119"] {
-            assert_eq!(hold(&mut table, value, GO_ON), Ok(()));
+            assert_eq!(hold(&mut table, value, GO_ON), Ok(0));
         }
-        assert_eq!(found(&table), (3, 38));
+        assert_eq!(found(&table), (3, 42));
         for value in ["0118c00002", "038106", "048119"] {
             assert_eq!(withdraw(Ipv4, &mut table, &rule(value)), Ok(()));
         }
@@ -710,7 +866,7 @@ mod tests {
                 ("0118c00002", "800600004b7fffff 8007000000000001"),
                 (
                     "038106",
-                    "8006000041200000 8007000000000003 8009000000000005 8008000000000001",
+                    "8006000041280000 8007000000000003 8009000000000005 8008000000000001",
                 ),
                 (
                     "048119",
@@ -719,9 +875,10 @@ mod tests {
                 ("058119", DROP),
             ],
         );
+        let rate = |number, note| Some(Rate { number, note });
         let actions = Actions {
-            byte_rate: Some(10),
-            packet_rate: Some(0),
+            byte_rate: rate(10, Note::RoundedDown),
+            packet_rate: rate(0, Note::Exact),
             sample: true,
             go_on: false,
             marking: Some(5),
@@ -734,6 +891,28 @@ mod tests {
     }
 
     #[test]
+    fn a_chain_has_the_note_of_the_first_matching_rule_with_the_smallest_number() {
+        for [(first, note), (second, _)] in equal_numbers() {
+            let rates =
+                |single: u32| format!("80060000{single:08x} 800c0000{single:08x} 8007000000000001");
+            let table = table_of(
+                300,
+                &[
+                    ("0120c0000208", &rates(second)),
+                    ("0120c0000209", GO_ON),
+                    ("0118c00002", &rates(first)),
+                    ("038106", &rates(second)),
+                    ("048119", ""),
+                ],
+            );
+            let Ok(Verdict::Matched { actions, count: 4 }) = lookup(Ipv4, &table, &packet()) else {
+                panic!("{first:08x} {second:08x}");
+            };
+            assert_eq!(actions.notes(), note as u8 * 0x09);
+        }
+    }
+
+    #[test]
     fn a_matching_rule_without_actions_is_counted() {
         let table = table_of(64, &[("0100", "")]);
         let verdict = Verdict::Matched {
@@ -741,7 +920,7 @@ mod tests {
             count: 1,
         };
         assert_eq!(lookup(Ipv4, &table, &packet()), Ok(verdict));
-        assert_eq!(first_match(Ipv4, &table, &packet()), Ok((0, 34)));
+        assert_eq!(first_match(Ipv4, &table, &packet()), Ok((0, 38)));
         let other = table_of(64, &[("02080b", "")]);
         assert_eq!(lookup(Ipv4, &other, &packet()), Ok(Verdict::Unmatched));
     }
@@ -753,7 +932,7 @@ mod tests {
             let low = [6, 7, 8, 9, 12, 13][sequence.below(6) as usize];
             communities.extend([0x80 + sequence.below(3) as u8, low, 0, 0]);
             communities
-                .push([0x00, 0x3f, 0x4b, 0x5e, 0x5f, 0x7f, 0xbf][sequence.below(7) as usize]);
+                .push([0x00, 0x3f, 0x4a, 0x4b, 0x5e, 0x5f, 0x7f, 0xbf][sequence.below(8) as usize]);
             communities.extend((0..3).map(|_| sequence.octet()));
         }
         communities
@@ -806,28 +985,31 @@ mod tests {
             }
         }
 
-        fn withdraw(&mut self, value: &[u8]) -> u32 {
+        fn withdraw(&mut self, value: &[u8]) -> Result<(), Refusal> {
             match self.take_out(value) {
-                true => 0,
-                false => 14,
+                true => Ok(()),
+                false => refused(14),
             }
         }
 
-        fn announce(&mut self, value: &[u8], originator: u32, communities: &[u8]) -> u32 {
-            let Ok(actions) = action::actions(communities) else {
-                return 13;
-            };
+        fn announce(
+            &mut self,
+            value: &[u8],
+            originator: u32,
+            communities: &[u8],
+        ) -> Result<u8, Refusal> {
+            let actions = action::actions(communities)?;
             let used = self.used();
             let held = self.take_out(value);
             let has_offset = self.family == Ipv6 && value[2] != 0;
             if value[0] == 1 && (originator != 1 || has_offset) {
-                return 8;
+                return refused(8);
             }
             if !held && used + HEADER + value.len() > self.length {
-                return 11;
+                return refused(11);
             }
             self.rules.push((value.to_vec(), originator, actions));
-            0
+            Ok(actions.notes())
         }
     }
 
@@ -866,15 +1048,33 @@ mod tests {
         let originator = sequence.below(4).min(1) as u32;
         let communities = some_communities(sequence);
         let routes = covering_all(family, 1);
-        let (answer, expected) = match sequence.below(5) {
-            0 => (withdraw(family, table, rule), model.withdraw(value)),
-            _ => (
-                announce(family, table, &routes, true, rule, originator, &communities),
-                model.announce(value, originator, &communities),
-            ),
+        let refusal = match sequence.below(5) {
+            0 => {
+                let expected = model.withdraw(value);
+                assert_eq!(withdraw(family, table, rule), expected);
+                expected.err()
+            }
+            _ => {
+                let expected = model.announce(value, originator, &communities);
+                let answer = announce(family, table, &routes, true, rule, originator, &communities);
+                assert_eq!(answer, expected);
+                expected.err()
+            }
         };
-        assert_eq!(answer.err().map_or(0, |refusal| refusal.number), expected);
-        expected
+        refusal.map_or(0, |refusal| refusal.number)
+    }
+
+    /// A single that gives the rate if any does.
+    fn single(rate: Rate) -> [u8; 4] {
+        let number = rate.number as f32;
+        let single = match rate.note {
+            Note::Exact => number,
+            Note::RoundedDown => number + 0.5,
+            Note::Raised => 0.5,
+            Note::Capped => f32::MAX,
+            Note::TakenAsZero => -1.0,
+        };
+        single.to_be_bytes()
     }
 
     /// The table that accepted rules with the actions that the records say give.
@@ -882,7 +1082,6 @@ mod tests {
         let mut model = Model::new(family, table.len());
         for record in records(table) {
             let actions = record.actions();
-            let single = |rate: u64| (rate as f32).to_bits().to_be_bytes();
             let mut communities = Vec::new();
             if let Some(rate) = actions.byte_rate {
                 communities.extend([[0x80, 0x06, 0, 0], single(rate)].concat());
@@ -962,16 +1161,16 @@ mod tests {
         let rule = rule("01200020010db8 038106 048119");
         let mut table = vec![0; 50];
         let answer = announce(Ipv6, &mut table, &routes, false, &rule, 7, &octets(DROP));
-        assert_eq!(answer, Ok(()));
+        assert_eq!(answer, Ok(0));
         let mut expected = octets("000d0000000701");
-        expected.extend([0; 25]);
+        expected.extend([0; 29]);
         expected.extend(&rule[1..]);
         expected.resize(50, 0);
         assert_eq!(table, expected);
         let actions = action::actions(&octets(DROP)).unwrap();
         let verdict = Verdict::Matched { actions, count: 1 };
         assert_eq!(lookup(Ipv6, &table, &ipv6_packet()), Ok(verdict));
-        assert_eq!(first_match(Ipv6, &table, &ipv6_packet()), Ok((0, 45)));
+        assert_eq!(first_match(Ipv6, &table, &ipv6_packet()), Ok((0, 49)));
         assert_eq!(
             lookup(Ipv6, &table, &packet()),
             Err(Refusal::new(12)),
@@ -984,7 +1183,7 @@ mod tests {
 
     #[test]
     fn a_record_whose_destination_has_an_offset_is_sound_and_matches() {
-        let fields = format!("00000007 {}", "00".repeat(26));
+        let fields = format!("00000007 {}", "00".repeat(30));
         let mut table = record("012820 00", &fields);
         table.extend([0; 40]);
         assert_eq!(lookup(Ipv4, &table, &packet()), Err(Refusal::new(10)));
