@@ -46,7 +46,10 @@ fn main() -> Result<(), Error> {
     let mut answers = [0; 100];
 
     let (reach, communities) = (octets(REACH), octets(COMMUNITIES));
-    let count = table.reach(&routes, true, &reach, 7, &communities, &mut answers)?;
+    let (count, notes) = table.reach(&routes, true, &reach, 7, &communities, &mut answers)?;
+    if let Some(note) = notes.byte_rate {
+        println!("the byte rate of all rules is {note}");
+    }
     tell("reach", &answers[..count], &table)?;
 
     // The same rules in MP_UNREACH_NLRI: they stand behind AFI and SAFI.

@@ -16,11 +16,11 @@ pub(crate) mod sealed {
         pub write: fn(&[u8], &mut [u8], &mut [u64; 1]) -> u64,
         pub compare: fn(&[u8], &[u8], &mut [u64; 1]) -> u64,
         pub feasible: fn(&[u32], u32, &[u8], u32) -> u64,
-        pub announce: fn(&mut [u8], &[u32], u32, &[u8], u32, &[u8]) -> u64,
+        pub announce: fn(&mut [u8], &[u32], u32, &[u8], u32, &[u8], &mut [u64; 1]) -> u64,
         pub withdraw: fn(&mut [u8], &[u8]) -> u64,
-        pub reach: fn(&mut [u8], &[u32], u32, &[u8], u32, &[u8], &mut [u32], &mut [u64; 1]) -> u64,
+        pub reach: fn(&mut [u8], &[u32], u32, &[u8], u32, &[u8], &mut [u32], &mut [u64; 2]) -> u64,
         pub unreach: fn(&mut [u8], &[u8], &mut [u32], &mut [u64; 1]) -> u64,
-        pub lookup: fn(&[u8], &[u8], &mut [u64; 6]) -> u64,
+        pub lookup: fn(&[u8], &[u8], &mut [u64; 7]) -> u64,
         pub first_match: fn(&[u8], &[u8], &mut [u64; 2]) -> u64,
     }
 

@@ -1,21 +1,34 @@
 //! The C functions of `include/flowspec.h`, each behind a safe function on slices: those of a
-//! family in [`ipv4`] and [`ipv6`], and [`actions`], which have none.
+//! family in [`ipv4`] and [`ipv6`], and [`actions`] and [`interface`], which have none.
 //!
-//! Every function answers one word: the refusal's number in the low 32 bits (0 done), its place in
-//! the high 32. Answered 0, each word of `out` is set; refused, `out` and every lent octet and word
-//! stay as they were, except that 8 removes the held rule. The typed functions of this crate stand
-//! on these; use these where the words themselves are wanted.
+//! Every function but [`interface`] answers one word: the refusal's number in the low 32 bits (0
+//! done), its place in the high 32. Answered 0, each word of `out` is set; refused, `out` and every
+//! lent octet and word stay as they were, except that 8 removes the held rule. The typed functions
+//! of this crate stand on these; use these where the words themselves are wanted.
 //!
 //! All `unsafe` code of the crate is here. What the C side assumes of its callers holds of slices:
 //! pointer and length are true, and what is lent to be written overlaps nothing else that is lent.
 //! An empty slice has a pointer that is not null.
 
 extern "C" {
-    fn flowspec4_actions(communities: *const u8, len: usize, out: &mut [u64; 5]) -> u64;
+    fn flowspec_interface() -> u64;
+    fn flowspec4_actions(communities: *const u8, len: usize, out: &mut [u64; 6]) -> u64;
 }
 
-/// Reads communities: `out` is flags, DSCP, byte rate, packet rate and redirect as in a record.
-pub fn actions(communities: &[u8], out: &mut [u64; 5]) -> u64 {
+/// The number of the interface that this crate is written for: that of the request which last
+/// changed a parameter or an `out`.
+pub const INTERFACE: u64 = 5;
+
+/// The number of the interface that the linked library has, which is to be [`INTERFACE`]: another
+/// one may write more words than `out` has here.
+pub fn interface() -> u64 {
+    // SAFETY: nothing is lent.
+    unsafe { flowspec_interface() }
+}
+
+/// Reads communities: `out` is flags, DSCP, byte rate, packet rate, redirect and notes as in a
+/// record.
+pub fn actions(communities: &[u8], out: &mut [u64; 6]) -> u64 {
     // SAFETY: pointer and length are those of one slice, and `out` is borrowed apart from it.
     unsafe { flowspec4_actions(communities.as_ptr(), communities.len(), out) }
 }
@@ -68,6 +81,7 @@ macro_rules! calls {
                         originator: u32,
                         communities: *const u8,
                         len: usize,
+                        out: &mut [u64; 1],
                     ) -> u64;
                     #[link_name = concat!($prefix, "_withdraw")]
                     pub fn withdraw(
@@ -90,7 +104,7 @@ macro_rules! calls {
                         len: usize,
                         answers: *mut u32,
                         answers_len: usize,
-                        out: &mut [u64; 1],
+                        out: &mut [u64; 2],
                     ) -> u64;
                     #[link_name = concat!($prefix, "_unreach")]
                     pub fn unreach(
@@ -108,7 +122,7 @@ macro_rules! calls {
                         table_len: usize,
                         packet: *const u8,
                         packet_len: usize,
-                        out: &mut [u64; 6],
+                        out: &mut [u64; 7],
                     ) -> u64;
                     #[link_name = concat!($prefix, "_first_match")]
                     pub fn first_match(
@@ -186,7 +200,7 @@ macro_rules! calls {
             }
 
             /// Announces a rule with its actions to a table; for `allow_no_destination` 0 is off
-            /// and any other number on.
+            /// and any other number on. `out` is the notes of its rates.
             #[inline]
             pub fn announce(
                 table: &mut [u8],
@@ -195,9 +209,10 @@ macro_rules! calls {
                 rule: &[u8],
                 originator: u32,
                 communities: &[u8],
+                out: &mut [u64; 1],
             ) -> u64 {
-                // SAFETY: each pointer and length are those of one slice, and `table` is borrowed
-                // apart from all else.
+                // SAFETY: each pointer and length are those of one slice, and `table` and `out` are
+                // borrowed apart from all else.
                 unsafe {
                     c::announce(
                         table.as_mut_ptr(),
@@ -210,6 +225,7 @@ macro_rules! calls {
                         originator,
                         communities.as_ptr(),
                         communities.len(),
+                        out,
                     )
                 }
             }
@@ -223,7 +239,7 @@ macro_rules! calls {
             }
 
             /// Announces the rules of an MP_REACH_NLRI value to a table, and lists the number of
-            /// each at the front of `answers`: `out` is their count.
+            /// each at the front of `answers`: `out` is their count and the notes of their rates.
             #[inline]
             #[allow(clippy::too_many_arguments)]
             pub fn reach(
@@ -234,7 +250,7 @@ macro_rules! calls {
                 originator: u32,
                 communities: &[u8],
                 answers: &mut [u32],
-                out: &mut [u64; 1],
+                out: &mut [u64; 2],
             ) -> u64 {
                 // SAFETY: each pointer and length are those of one slice, and `table`, `answers`
                 // and `out` are borrowed apart from all else.
@@ -284,7 +300,7 @@ macro_rules! calls {
             /// Looks a packet up: `out` is the count of rules collected (0 unmatched, the rest 0),
             /// then the merged actions.
             #[inline]
-            pub fn lookup(table: &[u8], packet: &[u8], out: &mut [u64; 6]) -> u64 {
+            pub fn lookup(table: &[u8], packet: &[u8], out: &mut [u64; 7]) -> u64 {
                 let (start, length) = (packet.as_ptr(), packet.len());
                 // SAFETY: each pointer and length are those of one slice, and `out` is borrowed
                 // apart from both.

@@ -6,7 +6,8 @@
 //! a [`Table`] to announce to, withdraw from and look packets up in, by single rules or by whole
 //! attributes ([`Table::reach`], [`Table::unreach`]). Nothing here allocates but [`Table::new`] and
 //! [`Routes`]; a table is octets that the caller owns or lends. A refusal is an [`Error`] with a
-//! number and, for malformed values, a place.
+//! number and, for malformed values, a place. A [`Rate`] is a number with a [`Note`] on what was
+//! done to the rate that was sent to make a number of it.
 //!
 //! The family is a type, [`Ipv4`] or [`Ipv6`]: `Ipv6::read(&octets)` reads a rule of IPv6, and
 //! `Table::of(Ipv6, octets)` is a table for such rules. Where none is named ([`read`], [`write()`],
@@ -34,7 +35,9 @@
 //!     0x45, 0, 0, 24, 0, 0, 0, 0, 64, 6, 0, 0, 198, 51, 100, 1, 192, 0, 2, 200, 3, 232, 0, 25,
 //! ];
 //! match table.lookup(&packet)? {
-//!     Verdict::Matched { actions, count } => assert_eq!((actions.byte_rate, count), (Some(0), 1)),
+//!     Verdict::Matched { actions, count } => {
+//!         assert_eq!((actions.byte_rate.unwrap().number, count), (0, 1));
+//!     }
 //!     Verdict::Unmatched => unreachable!("the rule matches"),
 //! }
 //!
@@ -56,7 +59,7 @@ mod route;
 mod rule;
 mod table;
 
-pub use actions::{actions, Actions};
+pub use actions::{actions, Actions, Note, Notes, Rate};
 pub use error::Error;
 pub use family::{Family, Ipv4, Ipv6, Lent};
 pub use route::{Route, Routes};

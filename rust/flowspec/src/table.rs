@@ -1,6 +1,6 @@
 //! The table: rules with their actions, in precedence order, in a buffer of at most 65,536 octets.
 
-use crate::actions::Actions;
+use crate::actions::{Actions, Notes};
 use crate::error::{done, Error};
 use crate::family::{Family, Ipv4, Lent};
 
@@ -106,7 +106,7 @@ impl<B: AsRef<[u8]>, F: Family> Table<B, F> {
     /// extension headers 0, 43, 60 and the first 44 of IPv6, up to the smaller of the lent and the
     /// packet's length, and not in a later fragment.
     pub fn lookup(&self, packet: &[u8]) -> Result<Verdict, Error> {
-        let mut out = [0; 6];
+        let mut out = [0; 7];
         done((F::CALLS.lookup)(self.octets(), packet, &mut out))?;
         let [count, words @ ..] = out;
         Ok(match count {
@@ -140,9 +140,24 @@ impl<B: AsRef<[u8]>, F: Family> Table<B, F> {
 }
 
 impl<B: AsRef<[u8]> + AsMut<[u8]>, F: Family> Table<B, F> {
-    /// Announces a rule with its actions; refused with 10, 9, 1 to 7, 15, 13, 8 or 11.
+    /// Announces a rule with its actions, and gives the notes on its rates; refused with 10, 9, 1 to
+    /// 7, 15, 13, 8 or 11.
     ///
     /// A refusal changes nothing, except that 8 removes a held equal rule.
+    ///
+    /// ```
+    /// use flowspec::{Note, Table};
+    ///
+    /// let routes = [0xc000_0200, 24, 7, 64500];
+    /// let rule = [5, 0x01, 24, 192, 0, 2];
+    /// // 1.5 octets a second.
+    /// let communities = [0x80, 0x06, 0, 0, 0x3f, 0xc0, 0, 0];
+    /// let mut table = Table::new(Table::LONGEST);
+    /// let notes = table.announce(&routes, false, &rule, 7, &communities)?;
+    /// assert_eq!(notes.byte_rate, Some(Note::RoundedDown));
+    /// assert_eq!(notes.packet_rate, None);
+    /// # Ok::<(), flowspec::Error>(())
+    /// ```
     pub fn announce(
         &mut self,
         routes: &(impl Lent<F, u32> + ?Sized),
@@ -150,7 +165,8 @@ impl<B: AsRef<[u8]> + AsMut<[u8]>, F: Family> Table<B, F> {
         rule: &(impl Lent<F, u8> + ?Sized),
         originator: u32,
         communities: &[u8],
-    ) -> Result<(), Error> {
+    ) -> Result<Notes, Error> {
+        let mut out = [0];
         done((F::CALLS.announce)(
             self.octets.as_mut(),
             routes.lent(),
@@ -158,7 +174,9 @@ impl<B: AsRef<[u8]> + AsMut<[u8]>, F: Family> Table<B, F> {
             rule.lent(),
             originator,
             communities,
-        ))
+            &mut out,
+        ))?;
+        Ok(Notes::on(communities, out[0]))
     }
 
     /// Withdraws a rule; refused with 10, 1 to 7, 15 or 14.
@@ -167,7 +185,8 @@ impl<B: AsRef<[u8]> + AsMut<[u8]>, F: Family> Table<B, F> {
     }
 
     /// Announces each rule of an MP_REACH_NLRI value (the family's AFI, SAFI 133) in order, with
-    /// the same actions, and gives their count; refused with 10, 9, 19, 1 to 7, 13 or 16.
+    /// the same actions, and gives their count and the notes on their rates; refused with 10, 9, 19,
+    /// 1 to 7, 13 or 16.
     ///
     /// The front of `answers` then lists a number for each rule, 0, 8 or 11, as [`Table::announce`]
     /// would answer; [`listed`] types them. A refused attribute changes nothing: every held rule
@@ -183,7 +202,7 @@ impl<B: AsRef<[u8]> + AsMut<[u8]>, F: Family> Table<B, F> {
     /// ];
     /// let mut answers = [0; 8];
     /// let mut table = Table::new(Table::LONGEST);
-    /// let count = table.reach(&routes, false, &attribute, 7, &[], &mut answers)?;
+    /// let (count, _) = table.reach(&routes, false, &attribute, 7, &[], &mut answers)?;
     /// let told: Vec<_> = listed(&answers[..count]).collect();
     /// assert_eq!(told[0], Ok(()));
     /// assert_eq!(told[1].unwrap_err().to_string(), "refusal 8: infeasible");
@@ -197,8 +216,8 @@ impl<B: AsRef<[u8]> + AsMut<[u8]>, F: Family> Table<B, F> {
         originator: u32,
         communities: &[u8],
         answers: &mut [u32],
-    ) -> Result<usize, Error> {
-        let mut out = [0];
+    ) -> Result<(usize, Notes), Error> {
+        let mut out = [0; 2];
         done((F::CALLS.reach)(
             self.octets.as_mut(),
             routes.lent(),
@@ -209,7 +228,8 @@ impl<B: AsRef<[u8]> + AsMut<[u8]>, F: Family> Table<B, F> {
             answers,
             &mut out,
         ))?;
-        Ok(out[0] as usize)
+        let [count, notes] = out;
+        Ok((count as usize, Notes::on(communities, notes)))
     }
 
     /// Withdraws each rule of an MP_UNREACH_NLRI value (the family's AFI, SAFI 133) in order and
@@ -242,7 +262,7 @@ pub fn listed(numbers: &[u32]) -> impl ExactSizeIterator<Item = Result<(), Error
 
 impl<'a> Record<'a> {
     /// How many octets of a record stand before its value.
-    pub const HEAD: usize = 32;
+    pub const HEAD: usize = 36;
 
     /// Takes the first record off, if there is one: a value length of 0 ends the records.
     fn split(octets: &'a [u8]) -> Option<(Record<'a>, &'a [u8])> {
@@ -254,7 +274,8 @@ impl<'a> Record<'a> {
             u64::from(head[7]),
             number(&head[8..16]),
             number(&head[16..24]),
-            number(&head[24..]),
+            number(&head[24..32]),
+            u64::from(head[32]),
         ];
         let record = Record {
             originator: number(&head[2..6]) as u32,

@@ -5,7 +5,7 @@
 //! extended communities of the same message, how many rules were configured, and a note. What is
 //! expected of a row was settled by its octets and the rules of reading, not by the library.
 
-use flowspec::{Error, Family, Ipv4, Ipv6, Table};
+use flowspec::{Error, Family, Ipv4, Ipv6, Note, Notes, Table};
 
 const ROWS: &str = include_str!("vectors/attributes.tsv");
 
@@ -39,6 +39,12 @@ const REFUSED: [(usize, Error); 14] = [
     (251, refusal(19, 0)),
     (275, refusal(13, 0)),
 ];
+
+/// The rows whose rates are no whole numbers: 1.5 octets and 0.25 packets a second.
+const FRACTIONS: [usize; 3] = [65, 70, 293];
+
+/// The rows whose byte rate is below 0: -1, and minus infinity.
+const NEGATIVE: [usize; 4] = [72, 74, 297, 301];
 
 /// A number and a place.
 const fn refusal(number: u32, place: u32) -> Error {
@@ -97,6 +103,20 @@ fn expected<F: Family>(row: &Row) -> Result<usize, Error> {
     }
 }
 
+/// The notes on the rates that a row has.
+fn notes(row: &Row) -> Notes {
+    let (bytes, packets) = match row.line {
+        line if FRACTIONS.contains(&line) => (Note::RoundedDown, Note::RaisedToOne),
+        line if NEGATIVE.contains(&line) => (Note::TakenAsZero, Note::Exact),
+        _ => (Note::Exact, Note::Exact),
+    };
+    let has = |kind: u8| row.communities.chunks(8).any(|c| c[..2] == [0x80, kind]);
+    Notes {
+        byte_rate: has(0x06).then_some(bytes),
+        packet_rate: has(0x0c).then_some(packets),
+    }
+}
+
 /// The rules of a row, with their length fields.
 fn rules(row: &Row) -> Vec<&[u8]> {
     let mut rules = Vec::new();
@@ -135,6 +155,12 @@ fn empty<F: Family>() -> Table<Vec<u8>, F> {
     Table::of(F::default(), vec![0; Table::LONGEST])
 }
 
+/// The count of an answer, whose notes are those of the row.
+fn count(row: &Row, (count, found): (usize, Notes)) -> usize {
+    assert_eq!(found, notes(row), "line {}", row.line);
+    count
+}
+
 /// Gives a row to a table: the answer, and the answer words.
 fn given<F: Family>(
     row: &Row,
@@ -142,14 +168,17 @@ fn given<F: Family>(
 ) -> (Result<usize, Error>, [u32; WORDS]) {
     let mut answers = [UNLISTED; WORDS];
     let answer = match row.is_reach {
-        true => table.reach(
-            routes::<F>(),
-            true,
-            &row.attribute,
-            ORIGINATOR,
-            &row.communities,
-            &mut answers,
-        ),
+        true => {
+            let reached = table.reach(
+                routes::<F>(),
+                true,
+                &row.attribute,
+                ORIGINATOR,
+                &row.communities,
+                &mut answers,
+            );
+            reached.map(|reached| count(row, reached))
+        }
         false => table.unreach(&row.attribute, &mut answers),
     };
     (answer, answers)
@@ -187,8 +216,13 @@ fn check_single<F: Family>(row: &Row) {
     assert_eq!(answer, Ok(row.rules), "line {}", row.line);
     for rule in rules(row) {
         let answer = single.announce(routes::<F>(), true, rule, ORIGINATOR, &row.communities);
-        let number_found = answer.map_or_else(|refused| refused.number, |()| 0);
+        let number_found = answer.map_or_else(|refused| refused.number, |_| 0);
         assert_eq!(number_found, number::<F>(rule), "line {}", row.line);
+        assert!(
+            answer.is_err() || answer == Ok(notes(row)),
+            "line {}",
+            row.line
+        );
     }
     assert!(whole == single, "line {}", row.line);
 }
@@ -208,6 +242,7 @@ fn a_reach_leaves_what_its_rules_leave_one_by_one() {
 fn the_rows_are_of_every_kind() {
     let count = |keeps: fn(&Row) -> bool| rows().filter(keeps).count();
     assert_eq!(count(|_| true), 301);
+    assert_eq!(count(|row| row.is_reach && notes(row).octet() != 0), 7);
     assert_eq!(
         count(|row| row.is_reach && expected::<Ipv4>(row).is_ok()),
         87

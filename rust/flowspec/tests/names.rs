@@ -1,11 +1,17 @@
 //! No promise can name a C function, so that `flowspec6_lookup` could be proved as IPv4's. Here each
 //! function of `crates/c_api` is held to its name: its number tells its family, in its promise and
 //! in the call that it makes, and the rest of its name both of them. Each buffer in a promise is
-//! the parameter of its name, and the header declares exactly these functions.
+//! the parameter of its name, and the header declares exactly these functions. One more is lent
+//! nothing and has no family: it answers the number of the interface, which is the header's.
 
 mod tree;
 
+use flowspec::ffi;
 use tree::page;
+
+/// The function that answers the number of the interface, and the definition of that number.
+const INTERFACE: &str = "flowspec_interface";
+const INTERFACE_NUMBER: &str = "interfaceNumber";
 
 /// The one call that is told no family, since communities have no addresses.
 const WITHOUT_FAMILY: &str = "actions";
@@ -73,14 +79,21 @@ fn function(text: &str) -> Function {
     }
 }
 
-/// The functions of `crates/c_api`, every one of which C can call.
-fn functions() -> Vec<Function> {
+/// The texts of the functions of `crates/c_api`, every one of which C can call: those of the calls,
+/// and that which answers the number of the interface.
+fn texts() -> (Vec<String>, Vec<String>) {
     let code = code("crates/c_api/src/lib.rt");
-    let mut parts = code.split("#[no_mangle]");
+    let mut parts = code.split("#[no_mangle]").map(str::to_string);
     let head = parts.next().unwrap();
     assert!(!head.contains("fn "), "a function that C cannot call");
     assert!(!head.contains(" as "), "a name that stands for another");
-    parts.map(function).collect()
+    parts.partition(|text| !text.contains(INTERFACE))
+}
+
+/// The functions of the calls.
+fn functions() -> Vec<Function> {
+    let (calls, _) = texts();
+    calls.iter().map(|text| function(text)).collect()
 }
 
 impl Function {
@@ -239,6 +252,7 @@ fn declarations() -> Vec<String> {
         .split(';')
         .filter(|piece| !piece.contains("static inline"))
         .map(|piece| piece.split_whitespace().collect::<Vec<&str>>().join(" "))
+        .map(|piece| piece.trim_start_matches("extern \"C\" {").to_string())
         .map(|piece| piece.trim_start_matches('}').trim_start().to_string())
         .filter(|piece| !piece.is_empty())
         .collect();
@@ -250,6 +264,29 @@ fn declarations() -> Vec<String> {
 fn the_header_declares_these_functions() {
     let functions = functions();
     let mut expected: Vec<String> = functions.iter().map(Function::declaration).collect();
+    expected.push(format!("uint64_t {INTERFACE}(void)"));
     expected.sort();
     assert_eq!(declarations(), expected);
+}
+
+/// What stands behind a mark in a file, up to the line's end.
+fn behind(name: &str, mark: &str) -> String {
+    let page = page(name);
+    let (_, text) = parted(&page, mark);
+    parted(text, "\n").0.to_string()
+}
+
+#[test]
+fn the_interface_has_the_number_of_the_header() {
+    let number = behind("include/flowspec.h", "#define FLOWSPEC_INTERFACE ");
+    let definition = format!("\n{INTERFACE_NUMBER} = ");
+    assert_eq!(behind("crates/calls/specs/Word.antt", &definition), number);
+    let (_, made) = texts();
+    let [made] = &made[..] else {
+        panic!("one function answers the number of the interface")
+    };
+    let promised = format!("ensures {{ λ r. ⌜ r ≡ {INTERFACE_NUMBER} ⌝ }}");
+    let expected = format!("pub extern \"C\" fn {INTERFACE}() -> u64 {promised} {{ {number} }}");
+    assert_eq!(words(made), words(&expected));
+    assert_eq!(number.parse(), Ok(ffi::INTERFACE));
 }

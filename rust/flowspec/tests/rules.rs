@@ -3,6 +3,7 @@
 
 mod tree;
 
+use flowspec::Note;
 use tree::page;
 
 /// The rows of the table with this head line, each as its cells.
@@ -62,6 +63,33 @@ fn the_wrapper_has_each_number_with_its_words() {
         let refusal = flowspec::Error { number, place: 0 };
         assert_eq!(refusal.phrase(), words);
     }
+}
+
+/// The notes in the order of their numbers.
+const NOTES: [Note; 5] = [
+    Note::Exact,
+    Note::RoundedDown,
+    Note::RaisedToOne,
+    Note::Capped,
+    Note::TakenAsZero,
+];
+
+#[test]
+fn the_rules_have_each_note_with_its_words() {
+    let listed = NOTES.map(|note| format!("{} {note}", note as u8));
+    let sentence = format!("As numbers the notes are {}.", listed.join(", "));
+    let rules = page("docs/RULES.md");
+    assert!(rules.contains(&sentence), "{sentence} is not in the rules");
+}
+
+#[test]
+fn the_header_has_each_note_with_its_words() {
+    let header = page("include/flowspec.h").replace("\n * ", " ");
+    for note in &NOTES[1..] {
+        let listed = format!("; {} {note}", *note as u8);
+        assert!(header.contains(&listed), "{listed} is not in the header");
+    }
+    assert!(header.contains("A note is 0 if the number is exact"));
 }
 
 #[test]

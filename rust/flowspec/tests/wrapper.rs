@@ -1,25 +1,34 @@
 //! What the wrapper adds to the library's calls: error texts, families as types, tables over any
-//! octets, records, routes and prefixes with the addresses of the standard library, the typed
-//! answers of an attribute's rules.
+//! octets, records, rates with their notes, routes and prefixes with the addresses of the standard
+//! library, the typed answers of an attribute's rules.
 
 use flowspec::{
-    listed, Actions, Error, Family, Ipv4, Ipv6, Precedence, Record, Route, Routes, Rule, Table,
-    Verdict,
+    ffi, listed, Actions, Error, Family, Ipv4, Ipv6, Note, Notes, Precedence, Rate, Record, Route,
+    Routes, Rule, Table, Verdict,
 };
 
-/// A byte rate of 0, marking with 10, going on.
+/// A packet rate of -1, marking with 10, going on.
 const COMMUNITIES: [u8; 24] = [
-    0x80, 6, 0, 0, 0, 0, 0, 0, 0x80, 9, 0, 0, 0, 0, 0, 10, 0x80, 7, 0, 0, 0, 0, 0, 1,
+    0x80, 12, 0, 0, 0xbf, 0x80, 0, 0, 0x80, 9, 0, 0, 0, 0, 0, 10, 0x80, 7, 0, 0, 0, 0, 0, 1,
 ];
 
 /// What `COMMUNITIES` ask for.
 const ACTIONS: Actions = Actions {
-    byte_rate: Some(0),
-    packet_rate: None,
+    byte_rate: None,
+    packet_rate: Some(Rate {
+        number: 0,
+        note: Note::TakenAsZero,
+    }),
     sample: false,
     go_on: true,
     marking: Some(10),
     redirect: None,
+};
+
+/// The notes on their rates.
+const NOTES: Notes = Notes {
+    byte_rate: None,
+    packet_rate: Some(Note::TakenAsZero),
 };
 
 /// What the tests of both families are done with.
@@ -105,6 +114,43 @@ fn errors_say_number_place_and_phrase() {
     let text = "refusal 16: writer's buffer too short; attribute: fewer answer words than rules";
     let refused: Box<dyn std::error::Error> = flowspec::write(&[1, 0], &mut []).unwrap_err().into();
     assert_eq!(refused.to_string(), text);
+}
+
+#[test]
+fn the_library_has_the_interface_of_the_wrapper() {
+    assert_eq!(ffi::interface(), ffi::INTERFACE);
+}
+
+/// Singles, what each gives as text, its note, and the number of the note.
+const SINGLES: [(u32, &str, Note, u8); 9] = [
+    (0x0000_0000, "0", Note::Exact, 0),
+    (0x8000_0000, "0", Note::Exact, 0),
+    (0x3f80_0000, "1", Note::Exact, 0),
+    (0x5f00_0000, "9223372036854775808", Note::Exact, 0),
+    (0x3fc0_0000, "1, rounded down", Note::RoundedDown, 1),
+    (0x4aff_ffff, "8388607, rounded down", Note::RoundedDown, 1),
+    (0x3f00_0000, "1, raised to 1", Note::RaisedToOne, 2),
+    (0x7f80_0000, "9223372036854775808, capped", Note::Capped, 3),
+    (0xbf80_0000, "0, taken as zero", Note::TakenAsZero, 4),
+];
+
+#[test]
+fn rates_say_what_was_done_to_them() -> Result<(), Error> {
+    for (single, text, note, number) in SINGLES {
+        let rate = |kind| [&[0x80, kind, 0, 0], &single.to_be_bytes()[..]].concat();
+        let bytes = flowspec::actions(&rate(0x06))?;
+        let packets = flowspec::actions(&rate(0x0c))?;
+        let byte_rate = bytes.byte_rate.expect("a byte rate");
+        assert_eq!(
+            (byte_rate.to_string().as_str(), byte_rate.note),
+            (text, note)
+        );
+        assert_eq!(packets.packet_rate, Some(byte_rate));
+        assert_eq!((bytes.packet_rate, packets.byte_rate), (None, None));
+        assert_eq!(bytes.notes().octet(), number);
+        assert_eq!(packets.notes().octet(), 8 * number);
+    }
+    Ok(())
 }
 
 #[test]
@@ -216,7 +262,8 @@ fn tables_are_over_lent_octets<F: Family>(given: &Given<F>) -> Result<(), Error>
     let mut octets = [0; 100];
     let mut table = Table::of(F::default(), &mut octets[..]);
     let rule = Rule::<F>::read(given.rule)?;
-    table.announce(&given.routes, false, &rule, 7, &COMMUNITIES)?;
+    let notes = table.announce(&given.routes, false, &rule, 7, &COMMUNITIES)?;
+    assert_eq!(notes, NOTES);
     assert!(table.records()?.eq([given.held()]));
 
     let table = Table::of(F::default(), &octets[..]);
@@ -323,8 +370,9 @@ fn attributes_list_a_number_for_each_rule<F: Family>(given: &Given<F>) -> Result
     let mut table = Table::of(F::default(), &mut octets[..]);
     let reach = [&reach, given.rule, given.elsewhere, given.other, given.rule].concat();
     let mut answers = [UNLISTED; 6];
-    let count = table.reach(&given.routes, false, &reach, 7, &COMMUNITIES, &mut answers)?;
-    assert_eq!(count, 4);
+    let (count, notes) =
+        table.reach(&given.routes, false, &reach, 7, &COMMUNITIES, &mut answers)?;
+    assert_eq!((count, notes), (4, NOTES));
     assert_eq!(answers, [0, 8, 11, 0, UNLISTED, UNLISTED]);
     let error = |number| Err(Error { number, place: 0 });
     assert!(listed(&answers[..count]).eq([Ok(()), error(8), error(11), Ok(())]));
