@@ -83,7 +83,7 @@ impl Basis {
         table: &mut [u8],
         rule: &[u8],
         communities: &[u8],
-    ) -> Words<0> {
+    ) -> Words<1> {
         S::announce(
             family,
             table,
@@ -103,7 +103,7 @@ impl Basis {
         attribute: &[u8],
         communities: &[u8],
         answers: &mut [u32],
-    ) -> Words<1> {
+    ) -> Words<2> {
         S::reach(
             family,
             table,
@@ -219,10 +219,10 @@ fn changed<const N: usize>(octets: &[u8], call: impl FnOnce(&mut [u8]) -> Words<
 }
 
 /// The answer of an attribute's call, which may write a table and lists numbers.
-fn listed(
+fn listed<const N: usize>(
     table: &[u8],
     answers: &[u32],
-    call: impl FnOnce(&mut [u8], &mut [u32]) -> Words<1>,
+    call: impl FnOnce(&mut [u8], &mut [u32]) -> Words<N>,
 ) -> Answer {
     let ((words, answers), octets) = lend(table, OCTET_BESIDE, |table| {
         lend(answers, WORD_BESIDE, |answers| call(table, answers))

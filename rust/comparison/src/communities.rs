@@ -2,18 +2,28 @@
 
 use crate::random::Random;
 
-/// Singles at the edges of what a rate may be.
-const SINGLES: [u32; 22] = [
+/// Singles at the edges of what a rate may be and of each note.
+const SINGLES: [u32; 33] = [
     0x0000_0000,
     0x8000_0000,
     0x0000_0001,
     0x8000_0001,
     0x007f_ffff,
+    0x0080_0000,
+    0x3f00_0000,
     0x3f7f_ffff,
     0x3f80_0000,
+    0x3f80_0001,
     0xbf80_0000,
+    0x3fc0_0000,
     0x3fff_ffff,
     0x4000_0000,
+    0x4000_0001,
+    0x4aff_fffd,
+    0x4aff_fffe,
+    0x4aff_ffff,
+    0x4b00_0000,
+    0x4b00_0001,
     0x4b7f_ffff,
     0x4b80_0000,
     0x4b80_0001,
@@ -21,11 +31,20 @@ const SINGLES: [u32; 22] = [
     0x5f00_0000,
     0x5f00_0001,
     0x7f7f_ffff,
+    0xff7f_ffff,
     0x7f80_0000,
     0xff80_0000,
     0x461c_4000,
     0x4974_2400,
     0x4cbe_bc20,
+];
+
+/// Singles that give one number by different notes, for each of several numbers.
+const ALIKE: [&[u32]; 4] = [
+    &[0x0000_0000, 0x8000_0000, 0xbf80_0000, 0xff80_0000],
+    &[0x3f80_0000, 0x3fc0_0000, 0x3f00_0000, 0x0000_0001],
+    &[0x4aff_fffe, 0x4aff_ffff],
+    &[0x5f00_0000, 0x5f00_0001, 0x7f80_0000],
 ];
 
 /// Singles that are not numbers.
@@ -66,14 +85,32 @@ fn community(random: &mut Random) -> [u8; 8] {
     octets
 }
 
-/// Communities as announced: mostly few, sometimes up to 64.
+/// Two to four rates of one kind that give one number, by different notes.
+fn alike(random: &mut Random) -> Vec<[u8; 8]> {
+    let (kind, singles) = (random.pick(&[0x06, 0x0c]), random.pick(&ALIKE));
+    let count = 2 + random.below(3);
+    let rate = |single: u32| {
+        let [a, b, c, d] = single.to_be_bytes();
+        [0x80, kind, 0, 0, a, b, c, d]
+    };
+    (0..count).map(|_| rate(random.pick(singles))).collect()
+}
+
+/// Communities as announced: mostly few, sometimes up to 64; in a third of the cases some rates are
+/// alike.
 pub fn communities(random: &mut Random) -> Vec<u8> {
     let count = match random.below(32) {
         0 => 64,
         1 => random.below(65),
         _ => random.below(5),
     };
-    (0..count).flat_map(|_| community(random)).collect()
+    let mut list: Vec<[u8; 8]> = (0..count).map(|_| community(random)).collect();
+    if random.one_in(3) {
+        list.extend(alike(random));
+        random.shuffle(&mut list);
+        list.truncate(64);
+    }
+    list.concat()
 }
 
 /// Makes of communities octets whose total is mostly no list of at most 64 of them.

@@ -35,7 +35,7 @@ fn take(
 }
 
 /// Takes the single calls that an attribute stands for, which are none if it was refused, and sees
-/// that they answer what it listed and leave what it left.
+/// that they answer what it listed, and its notes where they are done, and leave what it left.
 fn take_singles(
     setting: &Setting,
     before: &[u8],
@@ -45,13 +45,14 @@ fn take_singles(
 ) -> Result<Last, String> {
     let mut table = before.to_vec();
     let mut last = Last::new();
-    let mut numbers = Vec::new();
+    let (mut numbers, mut notes_alike) = (Vec::new(), true);
     let singles = match whole.number {
         0 => step.singles(),
         _ => Vec::new(),
     };
     for single in singles {
         let answer = take(setting, table, &single, seen)?;
+        notes_alike &= answer.number != 0 || answer.out == whole.out[1..];
         numbers.push(answer.number);
         if let Some(rule) = single.counted(setting.family, &answer) {
             last.insert(rule, single);
@@ -61,7 +62,7 @@ fn take_singles(
     let rest_kept = whole.answers[numbers.len()..]
         .iter()
         .all(|word| *word == UNLISTED);
-    match rest_kept && whole.listed() == numbers && whole.octets == table {
+    match rest_kept && notes_alike && whole.listed() == numbers && whole.octets == table {
         true => Ok(last),
         false => Err(format!(
             "an attribute does not do what the single calls of its rules do\n{}\nboth: {whole}",

@@ -13,15 +13,15 @@ pub struct Library;
 /// Makes a call and sees to it that no word behind `out` is written, and none of `out` by a
 /// refusal.
 fn watched<const N: usize>(call: impl FnOnce(&mut [u64; N]) -> u64) -> Words<N> {
-    let mut wide = [UNTOUCHED; 8];
-    let word = call(wide.first_chunk_mut().expect("no call has more than six"));
+    let mut wide = [UNTOUCHED; 9];
+    let word = call(wide.first_chunk_mut().expect("no call has more than seven"));
     let written = if word == 0 { N } else { 0 };
     assert!(
         wide[written..].iter().all(|word| *word == UNTOUCHED),
         "a word was written that is not to be"
     );
     match word {
-        0 => Ok(*wide.first_chunk().expect("no call has more than six")),
+        0 => Ok(*wide.first_chunk().expect("no call has more than seven")),
         _ => Err(Error {
             number: word as u32,
             place: (word >> 32) as u32,
@@ -64,7 +64,7 @@ impl Side for Library {
         watched(|_| function!(family, feasible(routes, allow, rule, originator)))
     }
 
-    fn actions(communities: &[u8]) -> Words<5> {
+    fn actions(communities: &[u8]) -> Words<6> {
         watched(|out| ffi::actions(communities, out))
     }
 
@@ -76,11 +76,11 @@ impl Side for Library {
         rule: &[u8],
         originator: u32,
         communities: &[u8],
-    ) -> Words<0> {
-        watched(|_| {
+    ) -> Words<1> {
+        watched(|out| {
             function!(
                 family,
-                announce(table, routes, allow, rule, originator, communities)
+                announce(table, routes, allow, rule, originator, communities, out)
             )
         })
     }
@@ -98,7 +98,7 @@ impl Side for Library {
         originator: u32,
         communities: &[u8],
         answers: &mut [u32],
-    ) -> Words<1> {
+    ) -> Words<2> {
         watched(|out| {
             function!(
                 family,
@@ -125,7 +125,7 @@ impl Side for Library {
         watched(|out| function!(family, unreach(table, attribute, answers, out)))
     }
 
-    fn lookup(family: Family, table: &[u8], packet: &[u8]) -> Words<6> {
+    fn lookup(family: Family, table: &[u8], packet: &[u8]) -> Words<7> {
         watched(|out| function!(family, lookup(table, packet, out)))
     }
 

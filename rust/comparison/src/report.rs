@@ -1,9 +1,10 @@
 //! How calls and answers are printed, and how often each answer was met.
 
 use crate::calls::{Answer, Basis, Call};
-use crate::sides::Reference;
+use crate::sides::{Reference, Side};
 use crate::tables;
 use reference::Family;
+use std::cmp::Ordering;
 use std::collections::BTreeMap;
 use std::fmt::{self, Write};
 
@@ -121,95 +122,103 @@ const NUMBERS: [&str; 20] = [
 /// The refusals of every call that reads a rule or a value.
 const READING: [&str; 7] = ["1", "2", "3", "4", "5", "6", "7"];
 
-/// What a call can answer, besides `READING` if it reads a rule.
+/// The notes that every call with rates gives, but for 0.
+const NOTES: [&str; 4] = ["note 1", "note 2", "note 3", "note 4"];
+
+/// What a call can answer, in groups.
 struct Expected {
     call: &'static str,
-    reads_rule: bool,
-    kinds: &'static [&'static str],
+    groups: &'static [&'static [&'static str]],
 }
 
 /// What each call can answer: a run must meet all of it and nothing else.
 const EXPECTED: [Expected; 11] = [
-    expected("read", true, &["0", "15"]),
-    expected("write", true, &["0", "16"]),
-    expected("compare", true, &["0 first", "0 second", "0 same", "15"]),
-    expected("feasible", true, &["0", "8", "9", "15"]),
-    expected("actions", false, &["0", "13"]),
+    expected("read", &[&["0", "15"], &READING]),
+    expected("write", &[&["0", "16"], &READING]),
+    expected(
+        "compare",
+        &[&["0 first", "0 second", "0 same", "15"], &READING],
+    ),
+    expected("feasible", &[&["0", "8", "9", "15"], &READING]),
+    expected("actions", &[&["0", "0 by order", "13"], &NOTES]),
     expected(
         "announce",
-        true,
         &[
-            "0 new",
-            "0 again",
-            "8 removed",
-            "8 not held",
-            "9",
-            "10",
-            "11",
-            "13",
-            "15",
+            &[
+                "0 new",
+                "0 again",
+                "8 removed",
+                "8 not held",
+                "9",
+                "10",
+                "11",
+                "13",
+                "15",
+            ],
+            &READING,
+            &NOTES,
         ],
     ),
-    expected("withdraw", true, &["0", "10", "14", "15"]),
+    expected("withdraw", &[&["0", "10", "14", "15"], &READING]),
     expected(
         "reach",
-        true,
         &[
-            "0",
-            "0 around 11",
-            "9",
-            "10",
-            "13",
-            "16",
-            "19",
-            "listed 0",
-            "listed 8",
-            "listed 11",
+            &[
+                "0",
+                "0 around 11",
+                "9",
+                "10",
+                "13",
+                "16",
+                "19",
+                "listed 0",
+                "listed 8",
+                "listed 11",
+            ],
+            &READING,
+            &NOTES,
         ],
     ),
     expected(
         "unreach",
-        true,
-        &["0", "0 no rule", "10", "16", "19", "listed 0", "listed 14"],
+        &[
+            &["0", "0 no rule", "10", "16", "19", "listed 0", "listed 14"],
+            &READING,
+        ],
     ),
     expected(
         "lookup",
-        false,
         &[
-            "0 unmatched",
-            "0 one",
-            "0 several",
-            "0 behind options",
-            "0 behind headers",
-            "10",
-            "12",
+            &[
+                "0 unmatched",
+                "0 one",
+                "0 several",
+                "0 behind options",
+                "0 behind headers",
+                "0 lesser note first",
+                "0 greater note first",
+                "10",
+                "12",
+            ],
+            &NOTES,
         ],
     ),
     expected(
         "first_match",
-        false,
-        &[
+        &[&[
             "0 none",
             "0 record",
             "0 behind options",
             "0 behind headers",
             "10",
             "12",
-        ],
+        ]],
     ),
 ];
 
 /// What one call can answer.
-const fn expected(
-    call: &'static str,
-    reads_rule: bool,
-    kinds: &'static [&'static str],
-) -> Expected {
-    Expected {
-        call,
-        reads_rule,
-        kinds,
-    }
+const fn expected(call: &'static str, groups: &'static [&'static [&'static str]]) -> Expected {
+    Expected { call, groups }
 }
 
 /// The kind of answers that only the other family's packets give.
@@ -230,12 +239,7 @@ pub fn behind_kind(family: Family) -> &'static str {
 
 /// All that a call of a family can answer, each with the call's name.
 fn kinds(family: Family, expected: &Expected) -> Vec<(&'static str, &'static str)> {
-    let reading = if expected.reads_rule {
-        &READING[..]
-    } else {
-        &[]
-    };
-    let kinds = expected.kinds.iter().chain(reading);
+    let kinds = expected.groups.iter().copied().flatten();
     kinds
         .filter(|kind| **kind != other_kind(family))
         .map(|kind| (expected.call, *kind))
@@ -251,6 +255,9 @@ fn kind_of(call: &Call, answer: &Answer) -> &'static str {
             1 => "0 one",
             _ => "0 several",
         },
+        (Call::Actions { communities }, 0) if is_noted_by_order(communities, answer) => {
+            "0 by order"
+        }
         (Call::FirstMatch { .. }, 0) if answer.out == [0, 0] => "0 none",
         (Call::FirstMatch { .. }, 0) => "0 record",
         (Call::Announce { table, .. }, 0) => {
@@ -265,6 +272,60 @@ fn kind_of(call: &Call, answer: &Answer) -> &'static str {
         (Call::Unreach { .. }, 0) if answer.out == [0] => "0 no rule",
         (_, number) => NUMBERS[number as usize],
     }
+}
+
+/// Whether communities have equal rates with different notes, so that the order tells: turned round,
+/// the reference answers other notes.
+fn is_noted_by_order(communities: &[u8], answer: &Answer) -> bool {
+    let turned = communities.rchunks(8).collect::<Vec<_>>().concat();
+    let turned = Reference::actions(&turned);
+    turned.is_ok_and(|[.., notes]| answer.out.last() != Some(&notes))
+}
+
+/// The names under which the notes of an answer are counted, one for each rate that is not exact.
+fn kinds_of_notes(call: &Call, answer: &Answer) -> Vec<&'static str> {
+    let notes = match (call, answer.number) {
+        (
+            Call::Actions { .. } | Call::Announce { .. } | Call::Reach { .. } | Call::Lookup { .. },
+            0,
+        ) => answer.out.last().copied().unwrap_or_default(),
+        _ => 0,
+    };
+    let notes = [notes & 7, notes >> 3].into_iter();
+    let numbers = notes.filter(|note| *note > 0);
+    numbers.map(|note| NOTES[note as usize - 1]).collect()
+}
+
+/// What each of several rules that a lookup collected answers alone, in their order.
+fn collected(family: Family, call: &Call, answer: &Answer) -> Vec<[u64; 7]> {
+    match (call, answer.out.first()) {
+        (Call::Lookup { table, packet }, Some(count @ 2..)) => tables::records(table)
+            .into_iter()
+            .filter_map(|(start, end)| Reference::lookup(family, &table[start..end], packet).ok())
+            .filter(|[matched, ..]| *matched > 0)
+            .take(*count as usize)
+            .collect(),
+        _ => Vec::new(),
+    }
+}
+
+/// The names under which a lookup is counted whose note on a rate the order of rules tells: the last
+/// collected rule that gives the smallest number gives it with another note.
+fn kinds_by_order(family: Family, call: &Call, answer: &Answer) -> Vec<&'static str> {
+    let rules = collected(family, call, answer);
+    let kind_of_rate = |(flag, place, shift): (u64, usize, u32)| {
+        let note = |words: &[u64]| words[6] >> shift & 7;
+        let gives = |rule: &&[u64; 7]| rule[1] & flag != 0 && rule[place] == answer.out[place];
+        let last = rules.iter().rfind(gives)?;
+        match note(&answer.out).cmp(&note(last)) {
+            Ordering::Less => Some("0 lesser note first"),
+            Ordering::Equal => None,
+            Ordering::Greater => Some("0 greater note first"),
+        }
+    };
+    // The flag of each rate, the place of its number, and where its note begins.
+    let rates = [(1, 3, 0), (2, 4, 3)].into_iter();
+    rates.filter_map(kind_of_rate).collect()
 }
 
 /// Whether a number stands in a list with another one before it and behind it.
@@ -325,8 +386,9 @@ fn met_behind(family: Family, call: &Call, answer: &Answer) -> bool {
     bare.answer_of::<Reference>(family) != *answer
 }
 
-/// How often each call of a family gave each answer, how often an attribute's listed each number, and
-/// how often a lookup met a rule behind options or extension headers.
+/// How often each call of a family gave each answer and each note, how often an attribute's listed
+/// each number, and how often a lookup met a rule behind options or extension headers or had a note
+/// by the order of rules.
 pub struct Distribution {
     family: Family,
     counts: BTreeMap<(&'static str, &'static str), u64>,
@@ -353,7 +415,10 @@ impl Distribution {
         self.calls += 1;
         let listed = answer.listed().iter().copied().map(kind_of_listed);
         let behind = met_behind(self.family, call, answer).then_some(behind_kind(self.family));
-        for kind in listed.chain(behind).chain([kind_of(call, answer)]) {
+        let notes = kinds_of_notes(call, answer);
+        let by_order = kinds_by_order(self.family, call, answer);
+        let kinds = listed.chain(behind).chain(notes).chain(by_order);
+        for kind in kinds.chain([kind_of(call, answer)]) {
             *self.counts.entry((call.name(), kind)).or_default() += 1;
         }
     }

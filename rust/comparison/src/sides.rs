@@ -4,7 +4,7 @@
 //! this interface.
 
 use crate::tables;
-use flowspec::{Actions, Error, Family as _, Record, Records, Table, Verdict};
+use flowspec::{Actions, Error, Family as _, Note, Notes, Rate, Record, Records, Table, Verdict};
 use reference::{Family, Refusal};
 
 /// What a call gives back: the words of `out` as the C functions set them, or a refusal.
@@ -35,9 +35,9 @@ pub trait Side {
     ) -> Words<0>;
 
     /// The words of the actions, as a record has them.
-    fn actions(communities: &[u8]) -> Words<5>;
+    fn actions(communities: &[u8]) -> Words<6>;
 
-    /// Nothing, if the rule is held from then on.
+    /// The notes on the rates, if the rule is held from then on.
     fn announce(
         family: Family,
         table: &mut [u8],
@@ -46,12 +46,13 @@ pub trait Side {
         rule: &[u8],
         originator: u32,
         communities: &[u8],
-    ) -> Words<0>;
+    ) -> Words<1>;
 
     /// Nothing, if the rule is held no longer.
     fn withdraw(family: Family, table: &mut [u8], rule: &[u8]) -> Words<0>;
 
-    /// The count of an attribute's rules, each announced; the answers list their numbers.
+    /// The count of an attribute's rules, each announced, and the notes on their rates; the answers
+    /// list their numbers.
     #[allow(clippy::too_many_arguments)]
     fn reach(
         family: Family,
@@ -62,14 +63,14 @@ pub trait Side {
         originator: u32,
         communities: &[u8],
         answers: &mut [u32],
-    ) -> Words<1>;
+    ) -> Words<2>;
 
     /// The count of an attribute's rules, each withdrawn; the answers list their numbers.
     fn unreach(family: Family, table: &mut [u8], attribute: &[u8], answers: &mut [u32])
         -> Words<1>;
 
     /// The count of rules collected and the merged actions, all 0 where nothing matched.
-    fn lookup(family: Family, table: &[u8], packet: &[u8]) -> Words<6>;
+    fn lookup(family: Family, table: &[u8], packet: &[u8]) -> Words<7>;
 
     /// The start and the length of the first match's record, 0 and 0 if there is none.
     fn first_match(family: Family, table: &[u8], packet: &[u8]) -> Words<2>;
@@ -85,25 +86,32 @@ fn count_words(count: usize) -> [u64; 1] {
     [count as u64]
 }
 
-/// The words of actions, as a record has them: flags, DSCP, byte rate, packet rate, redirect.
+/// The word of notes.
+fn notes_words(notes: Notes) -> [u64; 1] {
+    [u64::from(notes.octet())]
+}
+
+/// The words of actions, as a record has them: flags, DSCP, byte rate, packet rate, redirect, notes.
 #[inline]
-pub fn action_words(actions: Actions) -> [u64; 5] {
+pub fn action_words(actions: Actions) -> [u64; 6] {
+    let number = |rate: Option<Rate>| rate.map_or(0, |rate| rate.number);
     [
         u64::from(actions.flags()),
         u64::from(actions.marking.unwrap_or(0)),
-        actions.byte_rate.unwrap_or(0),
-        actions.packet_rate.unwrap_or(0),
+        number(actions.byte_rate),
+        number(actions.packet_rate),
         actions.redirect.unwrap_or(0),
+        u64::from(actions.notes().octet()),
     ]
 }
 
 /// The words of a verdict.
-fn verdict_words(verdict: Verdict) -> [u64; 6] {
+fn verdict_words(verdict: Verdict) -> [u64; 7] {
     match verdict {
-        Verdict::Unmatched => [0; 6],
+        Verdict::Unmatched => [0; 7],
         Verdict::Matched { actions, count } => {
-            let [flags, dscp, byte_rate, packet_rate, redirect] = action_words(actions);
-            [count, flags, dscp, byte_rate, packet_rate, redirect]
+            let [flags, dscp, byte_rate, packet_rate, redirect, notes] = action_words(actions);
+            [count, flags, dscp, byte_rate, packet_rate, redirect, notes]
         }
     }
 }
@@ -179,7 +187,7 @@ impl Side for Wrapper {
     }
 
     #[inline]
-    fn actions(communities: &[u8]) -> Words<5> {
+    fn actions(communities: &[u8]) -> Words<6> {
         flowspec::actions(communities).map(action_words)
     }
 
@@ -191,11 +199,11 @@ impl Side for Wrapper {
         rule: &[u8],
         originator: u32,
         communities: &[u8],
-    ) -> Words<0> {
+    ) -> Words<1> {
         let allow = allow != 0;
         typed!(family, F => Table::of(F::default(), table)
             .announce(routes, allow, rule, originator, communities))
-        .map(|()| [])
+        .map(notes_words)
     }
 
     fn withdraw(family: Family, table: &mut [u8], rule: &[u8]) -> Words<0> {
@@ -211,11 +219,11 @@ impl Side for Wrapper {
         originator: u32,
         communities: &[u8],
         answers: &mut [u32],
-    ) -> Words<1> {
+    ) -> Words<2> {
         let allow = allow != 0;
         typed!(family, F => Table::of(F::default(), table)
             .reach(routes, allow, attribute, originator, communities, answers))
-        .map(count_words)
+        .map(|(count, notes)| [count as u64, u64::from(notes.octet())])
     }
 
     fn unreach(
@@ -228,7 +236,7 @@ impl Side for Wrapper {
             .map(count_words)
     }
 
-    fn lookup(family: Family, table: &[u8], packet: &[u8]) -> Words<6> {
+    fn lookup(family: Family, table: &[u8], packet: &[u8]) -> Words<7> {
         typed!(family, F => Table::of(F::default(), table).lookup(packet)).map(verdict_words)
     }
 
@@ -251,12 +259,27 @@ fn typed_refusal(refusal: Refusal) -> Error {
     }
 }
 
+/// The wrapper's form of a rate.
+#[inline]
+fn typed_rate(rate: reference::Rate) -> Rate {
+    Rate {
+        number: rate.number,
+        note: match rate.note {
+            reference::Note::Exact => Note::Exact,
+            reference::Note::RoundedDown => Note::RoundedDown,
+            reference::Note::Raised => Note::RaisedToOne,
+            reference::Note::Capped => Note::Capped,
+            reference::Note::TakenAsZero => Note::TakenAsZero,
+        },
+    }
+}
+
 /// The wrapper's form of actions.
 #[inline]
 pub fn typed_actions(actions: reference::Actions) -> Actions {
     Actions {
-        byte_rate: actions.byte_rate,
-        packet_rate: actions.packet_rate,
+        byte_rate: actions.byte_rate.map(typed_rate),
+        packet_rate: actions.packet_rate.map(typed_rate),
         sample: actions.sample,
         go_on: actions.go_on,
         marking: actions.marking,
@@ -312,7 +335,7 @@ impl Side for Reference {
     }
 
     #[inline]
-    fn actions(communities: &[u8]) -> Words<5> {
+    fn actions(communities: &[u8]) -> Words<6> {
         told(reference::actions(communities), |actions| {
             action_words(typed_actions(actions))
         })
@@ -326,7 +349,7 @@ impl Side for Reference {
         rule: &[u8],
         originator: u32,
         communities: &[u8],
-    ) -> Words<0> {
+    ) -> Words<1> {
         let answer = reference::announce(
             family,
             table,
@@ -336,7 +359,7 @@ impl Side for Reference {
             originator,
             communities,
         );
-        told(answer, |()| [])
+        told(answer, |notes| [u64::from(notes)])
     }
 
     fn withdraw(family: Family, table: &mut [u8], rule: &[u8]) -> Words<0> {
@@ -352,7 +375,7 @@ impl Side for Reference {
         originator: u32,
         communities: &[u8],
         answers: &mut [u32],
-    ) -> Words<1> {
+    ) -> Words<2> {
         let allow = allow != 0;
         let answer = reference::reach(
             family,
@@ -364,7 +387,7 @@ impl Side for Reference {
             communities,
             answers,
         );
-        told(answer, count_words)
+        told(answer, |(count, notes)| [count as u64, u64::from(notes)])
     }
 
     fn unreach(
@@ -379,7 +402,7 @@ impl Side for Reference {
         )
     }
 
-    fn lookup(family: Family, table: &[u8], packet: &[u8]) -> Words<6> {
+    fn lookup(family: Family, table: &[u8], packet: &[u8]) -> Words<7> {
         told(reference::lookup(family, table, packet), |verdict| {
             verdict_words(typed_verdict(verdict))
         })

@@ -40,14 +40,15 @@ pub fn used(octets: &[u8]) -> usize {
     records(octets).last().map_or(0, |(_, end)| *end)
 }
 
-/// A record by its fields: the actions are flags, DSCP, byte rate, packet rate and redirect.
-pub fn record(value: &[u8], originator: u32, actions: [u64; 5]) -> Vec<u8> {
-    let [flags, dscp, numbers @ ..] = actions;
+/// A record by its fields: the actions are flags, DSCP, byte rate, packet rate, redirect and notes.
+pub fn record(value: &[u8], originator: u32, actions: [u64; 6]) -> Vec<u8> {
+    let [flags, dscp, numbers @ .., notes] = actions;
     let mut octets = Vec::new();
     octets.extend((value.len() as u16).to_be_bytes());
     octets.extend(originator.to_be_bytes());
     octets.extend([flags as u8, dscp as u8]);
     octets.extend(numbers.map(u64::to_be_bytes).concat());
+    octets.extend([notes as u8, 0, 0, 0]);
     octets.extend(value);
     octets
 }
@@ -137,7 +138,7 @@ pub fn small(random: &mut Random, family: Family) -> Held {
         let components = rules::components_of_length(random, family, length);
         announce(random, &mut held, components);
     }
-    let room = random.pick(&[0, 1, 2, 31, 32, 33, 64, 100, 300]);
+    let room = random.pick(&[0, 1, 2, 35, 36, 37, 64, 100, 300]);
     let length = used(&held.octets) + room;
     held.octets.resize(length, 0);
     held
@@ -147,8 +148,8 @@ pub fn small(random: &mut Random, family: Family) -> Held {
 pub fn long(random: &mut Random, family: Family) -> Held {
     let length = random.pick(&[4_094, 4_095, 4_096, 4_097, 5_000]);
     let components = rules::components_of_length(random, family, length);
-    let mut octets = record(&rules::value_of(&components), 0, [0; 5]);
-    let room = random.pick(&[0, 1, 33, 5_000]);
+    let mut octets = record(&rules::value_of(&components), 0, [0; 6]);
+    let room = random.pick(&[0, 1, 37, 5_000]);
     octets.resize(octets.len() + room, 0);
     Held {
         family,
@@ -181,6 +182,41 @@ fn damage_head(random: &mut Random, octets: &mut [u8], start: usize) {
             let kind: u16 = random.pick(&[0x8008, 0x8108, 0x8208, 0x8308, 0x8009]);
             octets[start + 6] |= 32;
             octets[start + 24..start + 26].copy_from_slice(&kind.to_be_bytes());
+        }
+    }
+}
+
+/// Numbers at the edges of what a single with some note gives.
+const NUMBERS: [u64; 12] = [
+    0,
+    1,
+    2,
+    (1 << 23) - 1,
+    1 << 23,
+    (1 << 24) - 1,
+    1 << 24,
+    (1 << 24) + 1,
+    (1 << 63) - (1 << 39),
+    (1 << 63) - 1,
+    1 << 63,
+    (1 << 63) + 1,
+];
+
+/// Writes the octets of a record behind its redirect: the notes, or one that is to be 0. In half the
+/// cases a rate is written with its note, so that all pairs at the edges are met.
+fn damage_notes(random: &mut Random, octets: &mut [u8], start: usize) {
+    let (kind, note) = (random.below(2), random.below(8) as u8);
+    match random.below(8) {
+        0 => octets[start + 32] = random.octet(),
+        1 => octets[start + 32] ^= 1 << random.below(8),
+        2..=3 => octets[start + 33 + random.below(3)] = random.octet(),
+        _ => {
+            let number = random.pick(&NUMBERS).to_be_bytes();
+            let place = start + 8 + 8 * kind;
+            octets[start + 6] |= 1 << kind;
+            octets[place..place + 8].copy_from_slice(&number);
+            octets[start + 32] &= !(7 << (3 * kind));
+            octets[start + 32] |= note << (3 * kind);
         }
     }
 }
@@ -227,12 +263,13 @@ pub fn damage(random: &mut Random, held: &mut Held) {
         return;
     }
     let (start, end) = random.pick(&records);
-    match random.below(6) {
+    match random.below(8) {
         0 => random.flip_bit(&mut held.octets),
         1 => random.flip_bit(&mut held.octets[start..end]),
         2 => damage_head(random, &mut held.octets, start),
-        3 => damage_order(random, &mut held.octets, &records),
-        4 => damage_spelling(random, held),
+        3..=4 => damage_notes(random, &mut held.octets, start),
+        5 => damage_order(random, &mut held.octets, &records),
+        6 => damage_spelling(random, held),
         _ => held.octets[start + random.below(2)] = random.octet(),
     }
 }

@@ -4,11 +4,12 @@ use comparison::report::Distribution;
 use comparison::{compare_histories, FAMILIES, SEED};
 
 /// Answers without which the histories would show little.
-const MET: [(&str, &str); 18] = [
+const MET: [(&str, &str); 21] = [
     ("announce", "0 new"),
     ("announce", "0 again"),
     ("announce", "8 removed"),
     ("announce", "11"),
+    ("announce", "note 1"),
     ("withdraw", "0"),
     ("withdraw", "14"),
     ("reach", "0"),
@@ -16,12 +17,14 @@ const MET: [(&str, &str); 18] = [
     ("reach", "13"),
     ("reach", "16"),
     ("reach", "listed 8"),
+    ("reach", "note 2"),
     ("unreach", "0"),
     ("unreach", "16"),
     ("unreach", "listed 0"),
     ("unreach", "listed 14"),
     ("lookup", "0 unmatched"),
     ("lookup", "0 several"),
+    ("lookup", "note 4"),
     ("first_match", "0 record"),
 ];
 
