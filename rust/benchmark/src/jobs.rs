@@ -295,15 +295,15 @@ fn there_and_back(
 }
 
 /// The sum of what a whole attribute was answered, each of whose rules is done.
-fn whole(call: impl FnOnce(&mut [u32]) -> Words<1>) -> u64 {
+fn whole<const N: usize>(call: impl FnOnce(&mut [u32]) -> Words<N>) -> u64 {
     let mut answers = [u32::MAX; IN_ATTRIBUTE];
-    let count = call(&mut answers);
+    let words = call(&mut answers);
     assert!(answers == [0; IN_ATTRIBUTE], "each rule is done");
-    sum_of(count)
+    sum_of(words)
 }
 
 /// The sum of what the other rules were answered one by one.
-fn each(setting: &Setting, mut call: impl FnMut(&[u8]) -> Words<0>) -> u64 {
+fn each<const N: usize>(setting: &Setting, mut call: impl FnMut(&[u8]) -> Words<N>) -> u64 {
     let others = setting.load.others.iter();
     others.map(|rule| sum_of(call(rule))).sum()
 }
