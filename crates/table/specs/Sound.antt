@@ -21,7 +21,7 @@ use Rattle.table.specs.Walk.{recordsFrom, records, entries}
 abbrev pub mostOctets : ℕ
 mostOctets = 65536
 
--- 01: "A rule costs 32 plus its length."
+-- 01: "A rule costs 32 plus its length"; 2026-05: "a record costs 36 plus the value".
 abbrev pub cost : Entry → ℕ
 cost e = headCost + length (e .value)
 
