@@ -1,5 +1,7 @@
 // Octets lent as a slice: reading and writing numbers of several octets, comparing two slices, storing one in another, and taking
 // octets out of a buffer or making room in it.
+#![tactic(auto)]
+
 ghost use Rattle.std.specs.Prelude.{◌≡◌, ◌++◌, length, get_or, take, drop};
 ghost use Prim.Native.Nat.{◌+◌, ◌<◌, ◌≤◌, ◌^◌, compare, min};
 ghost use Rattle.octets.specs.Bit.{bit_if};
