@@ -10,14 +10,14 @@ ghost use Rattle.action.specs.Reading.{kind_of};
 use rate::Rate;
 
 // A number that may be missing; a missing one is 0.
-#[derive(Drop)]
+#[derive(Clone, Copy)]
 pub struct Given {
     pub present: bool,
     pub number: u64,
 }
 
 // A rate that actions limit to, with its note; one that is missing is 0 with note 0.
-#[derive(Drop)]
+#[derive(Clone, Copy)]
 pub struct Limit {
     pub present: bool,
     pub number: u64,
@@ -25,7 +25,7 @@ pub struct Limit {
 }
 
 // What rules ask for: limits, S as `sample`, T as `onward`, a marking, and the redirect community.
-#[derive(Drop)]
+#[derive(Clone, Copy)]
 pub struct Actions {
     pub bytes: Limit,
     pub packets: Limit,
@@ -36,7 +36,7 @@ pub struct Actions {
 }
 
 // What a community asks for.
-#[derive(Drop)]
+#[derive(Clone, Copy)]
 pub enum Kind {
     ByteRate,
     PacketRate,
@@ -47,7 +47,7 @@ pub enum Kind {
 }
 
 // What reading a rule's communities gives.
-#[derive(Drop)]
+#[derive(Clone, Copy)]
 pub enum Reading {
     Read(Actions),
     Unsound,

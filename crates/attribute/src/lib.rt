@@ -19,7 +19,7 @@ pub const REACH_HEAD: usize = 5;
 pub const UNREACH_HEAD: usize = 3;
 
 // What stands at a place of an attribute: nothing more, another rule by where its value starts and ends, or a refusal.
-#[derive(Drop)]
+#[derive(Clone, Copy)]
 pub enum NextRule {
     Nothing,
     Another { start: usize, end: usize },
@@ -27,7 +27,7 @@ pub enum NextRule {
 }
 
 // How many rules an attribute has, or a refusal.
-#[derive(Drop)]
+#[derive(Clone, Copy)]
 pub enum Counted {
     Rules(usize),
     Refused { number: u8, place: usize },

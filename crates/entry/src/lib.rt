@@ -58,7 +58,7 @@ const THIRD_SPARE: usize = SECOND_SPARE + SPARE_WIDTH;
 pub const HEAD_COST: usize = THIRD_SPARE + SPARE_WIDTH;
 
 // What an announcement says of its rule: who announces it, and the actions.
-#[derive(Drop)]
+#[derive(Clone, Copy)]
 pub struct Head {
     pub origin: Origin,
     pub actions: Actions,

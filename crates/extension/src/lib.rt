@@ -1,5 +1,7 @@
 // The headers between an IPv6 packet's own header and its upper layer (RFC 8200 section 4), and the walk over them. Each header that is
 // walked over takes octets, so the walk ends; it answers whatever octets it is lent.
+#![tactic(auto)]
+
 ghost use Rattle.std.specs.Prelude.{◌≡◌, ◌<◌, length};
 ghost use Rattle.extension.specs.Extension.{is_walked, extension_at, fragment_at, header_at, upper_layer};
 
@@ -7,7 +9,7 @@ use octets::{number_at, octet_at};
 
 // How far a walk has come: the number of the next header, where that begins, whether a fragment header was walked over, and the octets 2
 // and 3 of that one (0 where there was none).
-#[derive(Drop)]
+#[derive(Clone, Copy)]
 pub struct Progress {
     pub kind: u8,
     pub at: usize,
@@ -16,7 +18,7 @@ pub struct Progress {
 }
 
 // What stands at a place of the walk: a header to walk over, with what is behind it; the upper layer; or nothing that is found.
-#[derive(Drop)]
+#[derive(Clone, Copy)]
 pub enum NextHeader {
     Another(Progress),
     Upper,
@@ -24,7 +26,7 @@ pub enum NextHeader {
 }
 
 // How a walk ended: whether at an upper layer, and how far it had come.
-#[derive(Drop)]
+#[derive(Clone, Copy)]
 pub struct Ended {
     pub found: bool,
     pub progress: Progress,

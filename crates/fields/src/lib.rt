@@ -128,7 +128,7 @@ pub fn put_octets(line: &[u8], number: usize, room: &mut [u8]) -> usize
 }
 
 // Where the second of two fields begins, which is where the first ends, and where it ends.
-#[derive(Drop)]
+#[derive(Clone, Copy)]
 pub struct Two {
     pub middle: usize,
     pub end: usize,

@@ -19,35 +19,35 @@ use spelling::Writing;
 use table::Soundness;
 
 // That a rule is feasible, or a refusal.
-#[derive(Drop)]
+#[derive(Clone, Copy)]
 pub enum Feasibility {
     Feasible,
     Refused { number: u8, place: usize },
 }
 
 // What announcing answers: that the table holds the rule, with the notes of its rates, or a refusal.
-#[derive(Drop)]
+#[derive(Clone, Copy)]
 pub enum Announced {
     Held { notes: u64 },
     Refused { number: u8, place: usize },
 }
 
 // What withdrawing answers: that the rule was taken out of the table, or a refusal.
-#[derive(Drop)]
+#[derive(Clone, Copy)]
 pub enum Withdrawn {
     Done,
     Refused { number: u8, place: usize },
 }
 
 // What a lookup answers: a verdict, or a refusal.
-#[derive(Drop)]
+#[derive(Clone, Copy)]
 pub enum Looked {
     Answered(Verdict),
     Refused { number: u8, place: usize },
 }
 
 // The lookup's number, and where the first match's record begins and ends in the table.
-#[derive(Drop)]
+#[derive(Clone, Copy)]
 pub struct MatchPlace {
     pub number: u8,
     pub start: usize,

@@ -11,7 +11,7 @@ use text::Numeral;
 pub const MOST_SIGNS: usize = 16384;
 
 // What a field of a line is to be; a number is read from any field.
-#[derive(Drop)]
+#[derive(Clone, Copy)]
 pub enum Kind {
     Address,
     Rule,
@@ -20,21 +20,21 @@ pub enum Kind {
 }
 
 // A field of a line, by the places where it begins and ends, or that there is none of its kind.
-#[derive(Drop)]
+#[derive(Clone, Copy)]
 pub enum Field {
     Missing,
     At { start: usize, end: usize },
 }
 
 // The number in a field with the place where the field ends, or that there is none.
-#[derive(Drop)]
+#[derive(Clone, Copy)]
 pub enum Number {
     NoNumber,
     Read(u32, usize),
 }
 
 // What a line says, by numbers and by places in it; the communities of an announcement and the rule of a withdrawal end with the line.
-#[derive(Drop)]
+#[derive(Clone, Copy)]
 pub enum Form {
     Route {
         address: u32,

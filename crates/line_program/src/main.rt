@@ -25,7 +25,7 @@ const TEXT: usize = answers::MOST_ANSWER + 2 * TABLE + 6 * (TABLE / answers::LEA
 
 // Where the program stands: the octets of a line not ended yet that its buffer holds, the words of routes in use, and whether the output
 // still takes what is written.
-#[derive(Drop)]
+#[derive(Clone, Copy)]
 struct Progress {
     held: usize,
     used: usize,

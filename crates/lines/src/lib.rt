@@ -25,14 +25,14 @@ const ROUTE_WORDS: usize = 4;
 pub const MOST_WORDS: usize = route::MOST_ROUTES * ROUTE_WORDS;
 
 // What serving a line answers: how long the printed text is, and how many words of the routes' buffer are in use.
-#[derive(Drop)]
+#[derive(Clone, Copy)]
 pub struct Served {
     pub printed: usize,
     pub used: usize,
 }
 
 // What gathering from a block answers: how many of its octets were taken, how many the line's buffer holds, and whether the line ended.
-#[derive(Drop)]
+#[derive(Clone, Copy)]
 pub struct Gathered {
     pub taken: usize,
     pub held: usize,

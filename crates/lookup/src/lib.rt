@@ -15,21 +15,21 @@ use rule::Family;
 use table::{NextRecord, Place, Soundness, record_at};
 
 // What a lookup begins with: what the packet shows, or the number of a refusal.
-#[derive(Drop)]
+#[derive(Clone, Copy)]
 pub enum Opening {
     With(Packet),
     Refused(u8),
 }
 
 // What a lookup says of a packet: no rule matches, or the merged actions of the rules collected and their count.
-#[derive(Drop)]
+#[derive(Clone, Copy)]
 pub enum Verdict {
     Unmatched,
     Matched { actions: Actions, count: usize },
 }
 
 // What one record says of a packet: it misses; it matches and the walk goes on (T); it matches and the walk stops.
-#[derive(Drop)]
+#[derive(Clone, Copy)]
 pub enum Hit {
     Missed,
     GoesOn(Actions),

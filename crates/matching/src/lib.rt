@@ -13,7 +13,7 @@ use prefix::Address;
 use rule::{Family, Next, NextPair, Shape};
 
 // A list of pairs evaluated so far: whether a group before the present one holds, and whether the present one does.
-#[derive(Drop)]
+#[derive(Clone, Copy)]
 struct Evaluated {
     pub found: bool,
     pub group: bool,

@@ -11,7 +11,7 @@ ghost use Rattle.octets.specs.Store.{stored, cleared, moved_down, cut_out, gap_o
 ghost use Rattle.octets.specs.Test.{all_zero, same_list};
 
 // Which of two comes first.
-#[derive(Drop)]
+#[derive(Clone, Copy)]
 pub enum Order {
     First,
     Second,

@@ -39,7 +39,7 @@ pub fn compare_components(family: Family, kind: u8, first: &[u8], other: u8, sec
 }
 
 // What one turn of a comparison finds: which value comes first, or that the components at hand tie, and where to go on in each.
-#[derive(Drop)]
+#[derive(Clone, Copy)]
 pub enum Turn {
     Decided(Order),
     Tied { kind: u8, here: usize, there: usize },
@@ -168,7 +168,7 @@ pub fn compare_values(family: Family, first: &[u8], second: &[u8]) -> Order
 }
 
 // Which of two rules comes first, that they are the same rule, or a refusal.
-#[derive(Drop)]
+#[derive(Clone, Copy)]
 pub enum Comparison {
     First,
     Second,

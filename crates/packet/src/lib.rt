@@ -14,14 +14,14 @@ use rule::Family;
 // ---- Answers ----
 
 // A field of a packet: its number, or nothing where the packet does not show it.
-#[derive(Drop)]
+#[derive(Clone, Copy)]
 pub enum Field {
     Shown(u32),
     Hidden,
 }
 
 // The fields of the transport header.
-#[derive(Drop)]
+#[derive(Clone, Copy)]
 pub struct Transport {
     pub source_port: Field,
     pub destination_port: Field,
@@ -31,7 +31,7 @@ pub struct Transport {
 }
 
 // What a packet shows.
-#[derive(Drop)]
+#[derive(Clone, Copy)]
 pub struct Packet {
     pub destination: Address,
     pub source: Address,
@@ -44,7 +44,7 @@ pub struct Packet {
 }
 
 // What is seen in octets: a packet, or that they are unusable as one.
-#[derive(Drop)]
+#[derive(Clone, Copy)]
 pub enum Reading {
     Usable(Packet),
     Unusable,

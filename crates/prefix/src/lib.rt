@@ -1,5 +1,7 @@
 // Prefixes of addresses of any width up to 128 bits, which may begin behind an offset: whether one contains another or covers an
 // address, which of two comes first, and the prefix that a component's body spells.
+#![tactic(auto)]
+
 ghost use Rattle.std.specs.Prelude.{◌≡◌, ◌||◌, eqb};
 ghost use Rattle.std.specs.Int.Bits.{bit_and};
 ghost use Prim.Native.Nat.{◌-◌, ◌/◌, ◌%◌, ◌^◌, ◌≤◌, compare, min};
@@ -11,14 +13,14 @@ ghost use Rattle.prefix.specs.Prefix.{address_of, pattern_of, bits_between, cove
 use octets::Order;
 
 // An address in two words; one of up to 64 bits stands in the low one.
-#[derive(Drop)]
+#[derive(Clone, Copy)]
 pub struct Address {
     pub high: u64,
     pub low: u64,
 }
 
 // The bits of an address from `offset` up to `length`; a plain prefix has no other bit set.
-#[derive(Drop)]
+#[derive(Clone, Copy)]
 pub struct Prefix {
     pub offset: u32,
     pub length: u32,

@@ -1,5 +1,7 @@
 // What number a rate stands for and what was done to its value to come to that number (RFC 8955 sections 7.1 and 7.2; 2026-05), and
 // which such pairs some rate gives.
+#![tactic(auto)]
+
 ghost use Rattle.std.specs.Prelude.{◌≡◌, ◌<◌, ◌≤◌, ◌^◌};
 ghost use Rattle.rate.specs.Rate.{scaled, whole_part, value_rate, rate_of, is_single, rate_given};
 
@@ -22,7 +24,7 @@ const TAKEN_AS_ZERO: u8 = 4;
 const MOST: u64 = 0x8000_0000_0000_0000;
 
 // What a rate gives.
-#[derive(Drop)]
+#[derive(Clone, Copy)]
 pub enum Rate {
     Number { number: u64, note: u8 },
     NotANumber,

@@ -13,7 +13,7 @@ use rule::{AddressFamily, Reading};
 
 // What an announcement asks of a table once its input is read and judged: to hold a rule's value with its actions where it is
 // feasible, and to hold that rule no longer where it is not; or nothing, since it is refused.
-#[derive(Drop)]
+#[derive(Clone, Copy)]
 pub enum Request {
     Announce {
         start: usize,

@@ -12,7 +12,7 @@ use prefix::{Address, Prefix};
 use rule::{Family, Next};
 
 // A unicast route: its prefix, its originator, and the neighbour AS that it was received from.
-#[derive(Drop)]
+#[derive(Clone, Copy)]
 pub struct Route {
     pub prefix: Prefix,
     pub originator: u32,
@@ -20,33 +20,33 @@ pub struct Route {
 }
 
 // Who announces a rule: what an announcement is judged by beside its destination (RFC 8955 section 6), not BGP's attribute ORIGIN.
-#[derive(Drop)]
+#[derive(Clone, Copy)]
 pub struct Origin {
     pub originator: u32,
 }
 
 // What is settled for judging: whether rules with no destination are allowed.
-#[derive(Drop)]
+#[derive(Clone, Copy)]
 pub struct Settings {
     pub allows_no_destination: bool,
 }
 
 // The destination of a rule, which may have none.
-#[derive(Drop)]
+#[derive(Clone, Copy)]
 pub enum Destination {
     Missing,
     At(Prefix),
 }
 
 // The best match for a destination, which may have none.
-#[derive(Drop)]
+#[derive(Clone, Copy)]
 pub enum BestMatch {
     Nothing,
     Found(Route),
 }
 
 // The neighbour ASes of the routes seen strictly inside a destination.
-#[derive(Drop)]
+#[derive(Clone, Copy)]
 pub enum Neighbours {
     Nobody,
     One(u32),

@@ -2,6 +2,8 @@
 // it calls make every bounds check of that walk. `Reader`, a value with a place in it, is thin above the cursor: it tells what stands at
 // its place, hands on the body that lies there, and is moved behind it. Whoever walks a value asks `next_component` and
 // `component_body`, which take plain parameters.
+#![tactic(auto)]
+
 ghost use Rattle.std.specs.Prelude.{◌≡◌, ◌<◌, ◌≤◌, length};
 ghost use Rattle.rule.specs.Family.{ipv4, ipv6, family_of};
 ghost use Rattle.rule.specs.Shape.{shape_of};
@@ -19,7 +21,7 @@ pub const MOST_VALUE: usize = 4095;
 // ---- Answers ----
 
 // The families of addresses whose rules are known (RFC 4760's address family).
-#[derive(Drop)]
+#[derive(Clone, Copy)]
 pub enum AddressFamily {
     Ipv4,
     Ipv6,
@@ -28,7 +30,7 @@ pub enum AddressFamily {
 // What a family of addresses decides: the highest component type; the bits of an address; the octets before the first component;
 // whether a prefix has an offset octet behind its length; the bits of a fragment value that count; ICMP's protocol number; the version
 // in a packet's first octet; and the words of a route.
-#[derive(Drop)]
+#[derive(Clone, Copy)]
 pub struct Family {
     pub highest: u8,
     pub width: u8,
@@ -42,7 +44,7 @@ pub struct Family {
 
 // What the body of a component type is: a prefix or a list of pairs; and of a list, whether its operators are bitmask ones, the largest
 // size of a value, and the bits of a value that are to be ignored.
-#[derive(Drop)]
+#[derive(Clone, Copy)]
 pub struct Shape {
     pub prefix: bool,
     pub bitmask: bool,
@@ -51,7 +53,7 @@ pub struct Shape {
 }
 
 // A pair at a place in a list: the place behind it, or a refusal.
-#[derive(Drop)]
+#[derive(Clone, Copy)]
 pub enum NextPair {
     More(usize),
     Last(usize),
@@ -59,14 +61,14 @@ pub enum NextPair {
 }
 
 // The place behind a component's body, or a refusal.
-#[derive(Drop)]
+#[derive(Clone, Copy)]
 pub enum BodyEnd {
     At(usize),
     Refused { number: u8, place: usize },
 }
 
 // What stands at a place of a value: nothing more, another component with the place behind it, or a refusal.
-#[derive(Drop)]
+#[derive(Clone, Copy)]
 pub enum Next {
     Nothing,
     Another { kind: u8, next: usize },
@@ -74,7 +76,7 @@ pub enum Next {
 }
 
 // A value and how far it has been read: where the next component begins, and the type of the one before it (0 at the start).
-#[derive(Drop)]
+#[derive(Clone, Copy)]
 pub struct Reader<'a> {
     pub family: Family,
     pub value: &'a [u8],
@@ -83,14 +85,14 @@ pub struct Reader<'a> {
 }
 
 // Whether a value is accepted.
-#[derive(Drop)]
+#[derive(Clone, Copy)]
 pub enum Checked {
     Accepted,
     Refused { number: u8, place: usize },
 }
 
 // Where a rule's value stands, or a refusal.
-#[derive(Drop)]
+#[derive(Clone, Copy)]
 pub enum Reading {
     Rule { start: usize, size: usize },
     Refused { number: u8, place: usize },

@@ -17,7 +17,7 @@ use rule::{
 pub const WORKING: usize = MOST_VALUE + 1;
 
 // How many octets were written, or a refusal.
-#[derive(Drop)]
+#[derive(Clone, Copy)]
 pub enum Writing {
     Written(usize),
     Refused { number: u8, place: usize },

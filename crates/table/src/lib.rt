@@ -20,7 +20,7 @@ use rule::{Checked, Family};
 pub const MOST_OCTETS: usize = 65536;
 
 // What stands at a place of a table: nothing more, a record with the place behind it, or neither.
-#[derive(Drop)]
+#[derive(Clone, Copy)]
 pub enum NextRecord {
     Nothing,
     Record(usize),
@@ -47,14 +47,14 @@ pub fn record_at(table: &[u8], at: usize) -> NextRecord
 }
 
 // Where a rule stands in a table: its record's start and the place behind it, equal where the rule is not held.
-#[derive(Drop)]
+#[derive(Clone, Copy)]
 pub struct Place {
     pub start: usize,
     pub end: usize,
 }
 
 // Whether a table is sound, and how many octets its records take.
-#[derive(Drop)]
+#[derive(Clone, Copy)]
 pub enum Soundness {
     Sound(usize),
     Unsound,
@@ -146,7 +146,7 @@ pub fn sound_table(family: Family, table: &[u8]) -> Soundness
 }
 
 // What a change of a table answers: the refusal's number, 0 where it is done, and how many octets the records take then.
-#[derive(Drop)]
+#[derive(Clone, Copy)]
 pub struct Answer {
     pub number: u8,
     pub used: usize,

@@ -1,5 +1,7 @@
 // Texts as the lines of the program have them: fields parted by tabs, octets in hex, numbers in decimal, and printing these into a lent
 // buffer. What is printed past the buffer's end is dropped, and the place goes on, so that a caller sees how long all of it is.
+#![tactic(auto)]
+
 ghost use Rattle.std.specs.Prelude.{◌≡◌, [], ◌∷◌, ◌+◌, ◌<◌, ◌≤◌, ◌^◌, length};
 ghost use Rattle.text.specs.Spelling.{is_from};
 ghost use Rattle.text.specs.Hex.{is_hex_digit, hex_value, hex_digit, are_octets, octets_in, hex_of, word_in};
@@ -113,7 +115,7 @@ pub fn word_in(text: &[u8]) -> u32
 // ---- Decimal ----
 
 // What a text is as a number: the number that it spells, or none.
-#[derive(Drop)]
+#[derive(Clone, Copy)]
 pub enum Numeral {
     Number(u32),
     NotANumber,

@@ -22,28 +22,28 @@ use rule::{AddressFamily, Checked, Family};
 use table::{Answer, Soundness};
 
 // What reading a reach gives: how many rules it has and the actions of each, or a refusal.
-#[derive(Drop)]
+#[derive(Clone, Copy)]
 pub enum RulesRead {
     Rules { count: usize, actions: Actions },
     Refused { number: u8, place: usize },
 }
 
 // What is done for each rule of an attribute: it is announced under a head, or withdrawn.
-#[derive(Drop)]
+#[derive(Clone, Copy)]
 pub enum Task {
     Announce { head: Head, settings: Settings },
     Withdraw,
 }
 
 // What a reach answers: how many rules it has, each with its number among the answer words, and the notes of their rates, or a refusal.
-#[derive(Drop)]
+#[derive(Clone, Copy)]
 pub enum Reached {
     Done { count: usize, notes: u64 },
     Refused { number: u8, place: usize },
 }
 
 // What an unreach answers: how many rules it has, each with its number among the answer words, or a refusal.
-#[derive(Drop)]
+#[derive(Clone, Copy)]
 pub enum Unreached {
     Done(usize),
     Refused { number: u8, place: usize },
