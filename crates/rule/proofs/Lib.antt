@@ -4,7 +4,6 @@ pub mod ShapeLaws
 pub mod OperatorLaws
 pub mod Refusal
 pub mod ComponentLaws
-pub mod ReaderLaws
 pub mod ValueLaws
 pub mod ComponentsLaws
 pub mod ReadingLaws

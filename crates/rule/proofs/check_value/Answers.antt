@@ -1,6 +1,5 @@
 -- The components passed are sound, so that the check of the value is that of what is left of it.
 use borrow.Author.Rules.{rules}
-use Prim.Native.Nat.{◌-◌}
 use mathlib.Core.Path.{sym, ◌∙◌}
 use native.Mathlib.Omega.{arith}
 use Rattle.rule.proofs.ValueLaws.{was-found, check-on, check-accepted, check-refused, check-long, check-empty, check-cut, check-walk}

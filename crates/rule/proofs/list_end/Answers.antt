@@ -1,7 +1,6 @@
 -- The pairs passed are sound and none was the last, so that the list ends where what is left of it does.
 use Rattle.rule.proofs.ComponentLaws.{list_on, list-last, list-refused, more_within}
 use borrow.Author.Rules.{rules}
-use Prim.Native.Nat.{◌-◌}
 use mathlib.Core.Path.{refl, sym, ◌∙◌}
 use native.Mathlib.Omega.{arith}
 use Rattle.rule.proofs.list_end.Goals as goal

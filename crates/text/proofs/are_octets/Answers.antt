@@ -1,6 +1,5 @@
 -- Every sign passed is a digit, so that the answer for all of them is the answer for the rest.
 use borrow.Author.Rules.{rules}
-use Prim.Native.Nat.{◌-◌}
 use Rattle.text.proofs.HexLaws.{are-odd, are-even, sign-more, sign-not, sign-all}
 use Rattle.text.proofs.are_octets.Goals as goal
 

@@ -1,6 +1,5 @@
 -- No octet passed is the mark, so that what is before it is what was passed and what is before it in the rest.
 use borrow.Author.Rules.{rules}
-use Prim.Native.Nat.{◌-◌}
 use mathlib.Core.Path.{sym}
 use native.Mathlib.Nat.{zero-add}
 use Rattle.text.proofs.FieldLaws.{mark-more, mark-here, mark-none}

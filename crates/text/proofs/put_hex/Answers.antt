@@ -1,6 +1,5 @@
 -- What is left to print gives the same at every turn, and nothing is left at the end.
 use borrow.Author.Rules.{rules}
-use Prim.Native.Nat.{◌-◌}
 use mathlib.Core.Path.{refl, ap}
 use native.Mathlib.Omega.{arith}
 use lib.ListN.{drop_of_length-le}

@@ -1,6 +1,5 @@
 -- What is left to print gives the same at every turn, and nothing is left at the end.
 use borrow.Author.Rules.{rules}
-use Prim.Native.Nat.{◌-◌}
 use lib.ListN.{drop_of_length-le}
 use Rattle.text.proofs.PrintLaws.{put-more, put_all}
 use Rattle.text.proofs.put_octets.Goals as goal

@@ -1,6 +1,7 @@
 -- Every sign passed is a digit, so that the answer for all of them is the answer for the rest.
+use mathlib.Core.Path.{ap}
+use mathlib.Core.Bool.{not}
 use borrow.Author.Rules.{rules}
-use Prim.Native.Nat.{◌-◌}
 use native.Mathlib.Omega.{arith}
 use borrow.Author.Tests.{not-false}
 use Rattle.text.proofs.HexLaws.{low-decimal}
@@ -27,7 +28,7 @@ overflow_add-number c = omega (arith, c.type_inv.text c.loop-i.i)
 
 pub returns-then-number-gt4294967295 : goal.returns-then-number-gt4294967295
 returns-then-number-gt4294967295 c = let l = c.loop-i in
-    goes-past _ l.i _ _ l.invariant.1 _ c.is_from.ensures (omega arith) c.if-not-is_from.false (omega arith)
+    goes-past _ l.i _ _ l.invariant.1 _ c.is_from.ensures (omega arith) (ap not c.if-not-is_from.false) (omega arith)
 
 pub loop-i-preserved : goal.loop-i-preserved
 loop-i-preserved c = (search rules, search (goes-more, rules))

@@ -1,6 +1,5 @@
 -- What is left to read gives the same at every turn, and nothing is left at the end.
 use borrow.Author.Rules.{rules}
-use Prim.Native.Nat.{◌-◌}
 use mathlib.Core.Path.{refl, sym}
 use Rattle.text.proofs.HexLaws.{length-octets_in, octets-none}
 use Rattle.text.proofs.PrintLaws.{read_more, put_all}
