@@ -89,7 +89,7 @@ unfolding with_communities
 say n a b z c s =
     record {
       communities = c.community ∷ s.communities;
-      fit = (c.ranges, s.fit);
+      fit = (c.fits, s.fit);
       few = (let f = s.few in omega arith);
       reads = rw c.adds s.reads;
     }

@@ -1,4 +1,6 @@
 // Filtering actions (RFC 8955 section 7): the actions of a rule's communities, and merging over several matching rules.
+#![tactic(auto)]
+
 ghost use Rattle.std.specs.Prelude.{◌≡◌};
 ghost use Rattle.action.specs.Given.{given, first_of, allowed};
 ghost use Rattle.action.specs.Limit.{limit, smaller_of, could_be_limit};

@@ -1,6 +1,8 @@
 // The value of an attribute MP_REACH_NLRI, a reach, or MP_UNREACH_NLRI, an unreach (RFC 4760): whether its head is that of a family's flow
 // rules, what stands at a place behind it, and how many rules there are. A reach and an unreach differ in their heads alone. Nothing here knows
 // of a table: what is done for the rules is `update`'s.
+#![tactic(auto)]
+
 ghost use Rattle.std.specs.Prelude.{◌≡◌};
 ghost use Rattle.attribute.specs.Head.{afi_of, is_of_family, is_reach, is_unreach};
 ghost use Rattle.attribute.specs.Rules.{rule_at, rules_from};

@@ -1,13 +1,13 @@
 -- The walk over extension headers: how the code comes to each of its answers; **that each header takes octets, so that the walk ends**; and how
 -- the walk goes on and ends. Assumes nothing.
 use mathlib.Core.Path.{◌≡◌, refl, ap, sym, subst, ◌∙◌}
-use mathlib.Core.Bool.{Bool, true, false, not, cond, ◌&&◌, ◌||◌, or-true}
+use mathlib.Core.Bool.{Bool, true, false, not, cond, ◌||◌}
 use mathlib.Core.List.{List, [], ◌∷◌}
 use Prim.Native.Nat.{ℕ, ◌+◌, ◌-◌, ◌*◌, ◌/◌, ◌<◌, ◌≤◌}
 use native.Mathlib.Omega.{arith}
 use lib.Dec.{ltb, eqb}
 use lib.ListN.{length, get_or}
-use borrow.Author.Tests.{lt-ltb, le-ltb, eq-eqb, ne_eqb, ltb-false}
+use borrow.Author.Tests.{lt-ltb, le-ltb, ne_eqb, ltb-false}
 use Rattle.octets.specs.Number.{number_at}
 use Rattle.octets.specs.Walk.{Step, more, last, stop, Walk, before, through}
 use Rattle.octets.proofs.Cases.{by-test, apart}

@@ -2,7 +2,7 @@
 -- follows behind it; what the definitions read from it is what was written, for all values. How headers behind it are walked over is in
 -- extension/proofs/LaidOut.antt. Assumes nothing.
 use mathlib.Core.Path.{◌≡◌, refl, sym, ◌∙◌}
-use mathlib.Core.Bool.{Bool, true, false, not, cond, ◌&&◌, ◌||◌}
+use mathlib.Core.Bool.{Bool, true, false, not, cond, ◌&&◌}
 use mathlib.Core.List.{List, [], ◌∷◌, ◌++◌, append_assoc}
 use Prim.Native.Nat.{ℕ, ◌+◌, ◌*◌, ◌/◌, ◌^◌, ◌<◌}
 use native.Mathlib.Omega.{arith}
@@ -13,7 +13,7 @@ use lib.ListN.{length, get_or, take, drop, length-append}
 use lib.Seq.{take_all, take-append-add, drop-append_seam}
 use borrow.Author.Tests.{le-ltb}
 use Rattle.octets.specs.Number.{number_at, octets_of}
-use Rattle.octets.proofs.NumberLaws.{number-octets, number_behind, number-before, length-octets_of}
+use Rattle.octets.proofs.NumberLaws.{number-octets, number_behind, length-octets_of}
 use Rattle.prefix.specs.declared.Address.{Address}
 use Rattle.rule.specs.declared.Family.{Family}
 use Rattle.extension.specs.Extension.{is_walked, offset_of_fragment, more_flag, ended, upper_layer}

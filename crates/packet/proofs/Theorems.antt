@@ -15,8 +15,6 @@ use Rattle.octets.proofs.NumberLaws.{number-before}
 use borrow.Author.Tests.{eq-eqb}
 use Rattle.rule.specs.declared.Family.{Family}
 use Rattle.rule.specs.Family.{ipv6}
-use Rattle.packet.specs.declared.Field.TheVariants.{Hidden}
-use Rattle.packet.specs.declared.Transport.{Transport}
 use Rattle.packet.specs.declared.Packet.{Packet}
 use Rattle.packet.specs.declared.Reading.TheVariants.{Usable, Unusable}
 use Rattle.packet.specs.Header.{header_words, total_length, fragment_field, fragment_offset, ipv4_unusable, protocol}

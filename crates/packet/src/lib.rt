@@ -1,5 +1,7 @@
 // What a packet shows (RFC 8955 section 4.2.2, RFC 8956 section 3), or that octets are unusable as one. `packet_of` alone reads the
 // packet's octets; what asks a packet goes by what it found. It answers whatever octets it is lent.
+#![tactic(auto)]
+
 ghost use Rattle.std.specs.Prelude.{◌≡◌, ◌≤◌, length};
 ghost use Rattle.packet.specs.Header.{ipv4_unusable};
 ghost use Rattle.packet.specs.Header6.{traffic_class, flow_label, address_at, ipv6_unusable, counted, upper_octets};

@@ -4,7 +4,7 @@ use Prim.Native.Nat.{ℕ, ◌+◌, ◌-◌, ◌*◌, ◌/◌, ◌%◌, ◌^◌, 
 use native.Mathlib.Omega.{arith}
 use native.Mathlib.Nat.{zero-add, mul_assoc, mul-mod_left, mul-add-div_right, div-eq_of_lt, div-one, lt_of_lt_of_le}
 use lib.Bits.{bit_or, or_shifted}
-use lib.Pow.{pow_pos, pow_mono, pow-add, shr-shr, shr_lt, shl-shr, high, low, mod-pow-add, split}
+use lib.Pow.{pow_pos, pow_mono, pow-add, shr-shr, shr_lt, shl-shr, high, mod-pow-add, split}
 use Rattle.prefix.specs.declared.Address.{Address}
 use Rattle.prefix.specs.Prefix.{address_of}
 

@@ -1,4 +1,6 @@
 // Unicast routes lent as 32-bit words, as many a route as the family has, and whether a rule is feasible by them: RFC 8955 section 6.
+#![tactic(auto)]
+
 ghost use Rattle.std.specs.Prelude.{◌≡◌, ◌+◌, ◌≤◌, length};
 ghost use Rattle.prefix.specs.Prefix.{address_of, pattern_of};
 ghost use Rattle.rule.specs.Family.{Fits};

@@ -1,5 +1,7 @@
 // The plain spelling of a value (01, "Plain spelling"), made body by body, and writing a rule in it (RFC 8955 section 4.1). What clears
 // asks for a whole body, what fills or writes for an accepted value; `write_rule`, which checks its value, asks nothing.
+#![tactic(auto)]
+
 ghost use Rattle.std.specs.Prelude.{◌≡◌, ◌++◌, ◌≤◌, length, drop};
 ghost use Rattle.rule.specs.Component.{prefix_end, body_end};
 ghost use Rattle.rule.specs.Value.{most_value, check_value};

@@ -1,7 +1,6 @@
 -- The headers passed were walked over, so that the walk ends as what is left of it does; each header took octets.
 use Rattle.extension.proofs.ExtensionLaws.{another-within, upper-start, upper-on, upper-found, upper-lost}
 use borrow.Author.Rules.{rules}
-use Prim.Native.Nat.{◌-◌}
 use mathlib.Core.Path.{sym, ◌∙◌}
 use native.Mathlib.Omega.{arith}
 use Rattle.extension.proofs.upper_layer.Goals as goal
