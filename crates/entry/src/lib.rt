@@ -1,4 +1,6 @@
 // A rule as the table holds it: writing its record, and telling what a record's octets stand for (01, "The table").
+#![tactic(auto)]
+
 ghost use Rattle.std.specs.Prelude.{◌≡◌, true, [], ◌∷◌, ◌+◌, ◌≤◌, length};
 ghost use Rattle.octets.specs.Store.{stored};
 ghost use Rattle.octets.specs.Test.{same_list};

@@ -1,5 +1,7 @@
 // Looking a packet up in a table: what a lookup begins with, the verdict on the packet, and where the first match's record stands (01,
 // "Matching and lookup").
+#![tactic(auto)]
+
 ghost use Rattle.std.specs.Prelude.{◌≡◌, ◌≤◌, length};
 ghost use Rattle.octets.specs.Test.{same_list};
 ghost use Rattle.rule.specs.Family.{Fits};

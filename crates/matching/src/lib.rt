@@ -1,5 +1,7 @@
 // Whether a packet matches a rule (RFC 8955 section 4.2): what an operator asks of a number, what a list of pairs asks of a field, and
 // what a rule's components ask of a packet. `matches_rule` answers whatever octets it is lent.
+#![tactic(auto)]
+
 ghost use Rattle.std.specs.Prelude.{◌≡◌, ◌+◌, ◌<◌, ◌≤◌, length};
 ghost use Rattle.prefix.specs.Prefix.{address_of};
 ghost use Rattle.rule.specs.Value.{component};

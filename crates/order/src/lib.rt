@@ -1,4 +1,6 @@
 // Which of two rules of a family comes first (RFC 8955 section 5.1). Values are compared in their plain spelling.
+#![tactic(auto)]
+
 ghost use Rattle.std.specs.Prelude.{◌≡◌};
 ghost use Rattle.octets.specs.Order.{ordered};
 ghost use Rattle.rule.specs.Family.{Fits};

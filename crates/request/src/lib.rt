@@ -1,6 +1,8 @@
 // What an announcement asks, once it is read and judged (sections 6 and 7): the routes are checked, the rule and the communities of its
 // actions are read, and the rule's value is judged. These functions take a family by its name, as the calls of the door do, so that the
 // compiler knows its numbers in the passes over the routes.
+#![tactic(auto)]
+
 ghost use Rattle.std.specs.Prelude.{◌≡◌};
 ghost use Rattle.rule.specs.Family.{family_of};
 ghost use Rattle.request.specs.Input.{announcement_of, policy_of};

@@ -1,4 +1,6 @@
 // The table: records in a lent buffer (01, "The table"). Its octets are gone through record by record by `record_at`.
+#![tactic(auto)]
+
 ghost use Rattle.std.specs.Prelude.{◌≡◌, ◌≤◌, length, true};
 ghost use Rattle.rule.specs.Family.{Fits};
 ghost use Rattle.rule.specs.Value.{check_value};
