@@ -2,13 +2,17 @@
 // fields are parted by tabs: the call's name, then octets in hex, and from a `;` on a reason for the reader. Octets are parts joined by
 // `+`, and `00*3` is a part three times. An answer is what the call says in 01's terms: numbers in decimal and octets in hex, parted by
 // tabs. A line that has no call's name, as one that begins with `#`, is for the reader alone.
+#![tactic(auto)]
+
 ghost use Rattle.std.specs.Prelude.{◌+◌, ◌<◌, ◌≤◌, length};
 ghost use Rattle.io.specs.Counts.{IsPrefixLen};
 
 use action::Actions;
-use libc::STDOUT_FILENO;
 use octets::number_at;
 use text::{Numeral, field_end, place_of};
+
+// Standard output's number.
+const STDOUT_FILENO: i32 = 1;
 
 // How many octets the lines may have together.
 pub const INPUT: usize = 4000000;

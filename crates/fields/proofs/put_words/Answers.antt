@@ -1,0 +1,7 @@
+-- The words that are filled are within those lent.
+use Rattle.io.proofs.Counting.{prefix_len_of_le}
+use borrow.Author.Rules.{rules}
+use Rattle.fields.proofs.put_words.Goals as goal
+
+pub returns : goal.returns
+returns c = prefix_len_of_le _ _ (search rules)
