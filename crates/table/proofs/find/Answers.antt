@@ -1,6 +1,5 @@
 -- The search has come to a place, and what is left of the table decides.
 use borrow.Author.Rules.{rules}
-use Prim.Native.Nat.{◌-◌}
 use mathlib.Core.Path.{◌≡◌, sym, ◌∙◌}
 use native.Mathlib.Omega.{arith}
 use Rattle.octets.proofs.Facts.{Octets}
