@@ -1,6 +1,8 @@
 // The door: every public call of the flow-rule part, each with its promise (specs/Promise.antt). No call has a `requires`: whatever
 // octets it is lent, it answers; which number and place of 01's table an answer says is in specs/Told.antt. A call is told the family
 // of its addresses; the crates below take what that family decides, a struct of numbers, so that nothing there asks which family it is.
+#![tactic(auto)]
+
 ghost use Rattle.std.specs.Prelude.{◌≡◌, [], ◌∷◌};
 ghost use Rattle.rule.specs.Family.{family_of};
 ghost use Rattle.flowspec.specs.Feasibility.{feasibility_of};

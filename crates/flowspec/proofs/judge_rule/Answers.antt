@@ -1,0 +1,18 @@
+-- A rule that was read lies in its octets; then one law for each return.
+use borrow.Author.Rules.{rules}
+use native.Mathlib.Omega.{arith}
+use Rattle.request.proofs.JudgingLaws.{rule-there}
+use Rattle.flowspec.proofs.FeasibilityLaws.{judge-refused, judge-read}
+use Rattle.flowspec.proofs.judge_rule.Goals as goal
+
+pub overflow_add-end : goal.overflow_add-end
+overflow_add-end c = omega (arith, rule-there _ _ _ _ _ _ c.read_with_routes.ensures c.in-Rule.is)
+
+pub slice_bounds-is_feasible-end : goal.slice_bounds-is_feasible-end
+slice_bounds-is_feasible-end c = omega (arith, rule-there _ _ _ _ _ _ c.read_with_routes.ensures c.in-Rule.is)
+
+pub returns-in-Refused : goal.returns-in-Refused
+returns-in-Refused c = search (judge-refused, rules)
+
+pub returns-in-Rule : goal.returns-in-Rule
+returns-in-Rule c = search (judge-read, rules)
