@@ -1,5 +1,5 @@
 -- What an announce line says could be lent to the door: its rule is octets, and its originator has 32 bits. Assumes nothing.
-use mathlib.Core.Path.{◌≡◌, refl, subst}
+use mathlib.Core.Path.{◌≡◌, subst}
 use mathlib.Core.Bool.{true, false, ◌&&◌}
 use mathlib.Core.List.{List, [], ◌∷◌}
 use Prim.Native.Nat.{ℕ, ◌^◌, ◌<◌}
@@ -14,7 +14,7 @@ use Rattle.text.specs.Decimal.{starts_well, is_number, number_in}
 use Rattle.text.specs.Field.{fields}
 use Rattle.text.specs.Spelling.{is_digit}
 use Rattle.text.proofs.HexLaws.{digits-octets}
-use Rattle.line.specs.Line.{Line, announce, field, is_word, is_rule, is_route_line, is_announce_line, is_withdraw_line, is_list_line, are_of, said, line_of, most_signs}
+use Rattle.line.specs.Line.{announce, field, is_word, is_rule, is_route_line, is_announce_line, is_withdraw_line, is_list_line, are_of, said, line_of, most_signs}
 
 -- what the fields of an announce line are
 announced-fields : (fs : List (List ℕ)) → is_announce_line fs ≡ true → Octets (octets_in (field 1 fs)) × (number_in (field 2 fs) < 2 ^ 32)

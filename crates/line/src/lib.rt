@@ -1,5 +1,7 @@
 // What a line of the program says (01, "A program reads lines with fields parted by tabs"), by numbers and by places in it. `read_line`
 // answers whatever octets it is lent.
+#![tactic(auto)]
+
 ghost use Rattle.std.specs.Prelude.{◌≡◌, ◌∷◌};
 ghost use Rattle.text.specs.Spelling.{quoted};
 ghost use Rattle.line.specs.Line.{is_address, is_rule, said, line_of};

@@ -1,6 +1,8 @@
 // The two public calls with whole attributes: `reach` announces the rules of a reach, and `unreach` withdraws those of an unreach, rule by
 // rule. Neither has a `requires`, and specs/Promise.antt promises what the door's single calls do for each rule in order; table, routes and
 // communities are checked once an attribute, and all of its rules are read (crate attribute) before an octet is changed.
+#![tactic(auto)]
+
 ghost use Rattle.std.specs.Prelude.{◌≡◌, [], ◌∷◌, length};
 ghost use Rattle.rule.specs.Family.{Fits, family_of};
 ghost use Rattle.rule.specs.Value.{check_value};
