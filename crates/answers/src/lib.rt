@@ -1,5 +1,7 @@
 // What the line program prints: the answer of a call, or the table record by record. Every function prints to the front of a buffer, or
 // from a place on in it, as far as that reaches.
+#![tactic(auto)]
+
 ghost use Rattle.std.specs.Prelude.{◌≡◌, ◌≤◌, length};
 ghost use Rattle.table.specs.Sound.{most_octets};
 ghost use Rattle.table.specs.Walk.{records};

@@ -1,5 +1,7 @@
 // The public calls in words, for C and Rust and for every family of addresses: numbers and slices only. Each call returns one word
 // (specs/Word.antt), has no `requires`, and promises in specs/Promise.antt what the door's call does.
+#![tactic(auto)]
+
 ghost use Rattle.std.specs.Prelude.{◌≡◌, ◌≤◌};
 ghost use Rattle.rule.specs.Family.{family_of};
 ghost use Rattle.rule.specs.Value.{most_value};
