@@ -16,7 +16,7 @@ pub loop-next-init : goal.loop-next-init
 loop-next-init c = count-starts _
 
 pub returns-in_default : goal.returns-in_default
-returns-in_default c = count-done _ _ _ c.loop-next.invariant (left-none _ _ _ c.record_at.ensures c.in_default.keys2)
+returns-in_default c = count-done _ _ _ c.loop-next.invariant (left-none _ _ _ c.record_at.ensures c.in_default.not-Record)
 
 pub loop-next-smaller : goal.loop-next-smaller
 loop-next-smaller c = omega (arith, was-found _ c.loop-next.at _ (found_here c))

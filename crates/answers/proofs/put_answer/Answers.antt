@@ -22,5 +22,5 @@ pub returns : goal.returns
 unfolding answer_text
 returns c =
     printed-short _ _ _ _ _
-    (printed-then _ _ _ _ _ _ _ _ c.put_octets.ensures
-    (printed-then _ _ _ _ _ _ _ _ c.put_decimal.ensures (printed-then _ _ _ _ _ _ _ _ c.put_place.ensures c.put_octets.ensures))) (answer-short _ _ (omega arith) (omega arith))
+    (printed-then _ _ _ _ _ _ _ _ c.put_octets-start.ensures
+    (printed-then _ _ _ _ _ _ _ _ c.put_decimal-end.ensures (printed-then _ _ _ _ _ _ _ _ c.put_place-stop.ensures c.put_octets.ensures))) (answer-short _ _ (omega arith) (omega arith))

@@ -18,4 +18,4 @@ put_octets-requires c = omega (arith, decimal-short c.args.count (omega arith))
 pub returns : goal.returns
 unfolding count_text
 returns c =
-    printed-then _ _ _ _ _ _ _ _ c.put_octets.ensures (printed-then _ _ _ _ _ _ _ _ c.put_decimal.ensures c.put_octets.ensures)
+    printed-then _ _ _ _ _ _ _ _ c.put_octets-start.ensures (printed-then _ _ _ _ _ _ _ _ c.put_decimal-end.ensures c.put_octets.ensures)

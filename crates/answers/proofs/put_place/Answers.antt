@@ -15,4 +15,4 @@ put_decimal-requires c = let a = c.args in omega (arith, decimal-short a.place (
 
 pub returns : goal.returns
 returns c =
-    rw (place-told _ _ c.if1.false c.if2.false) (printed-then _ _ _ _ _ _ _ _ c.put_octets-next.ensures c.put_decimal.ensures)
+    rw (place-told _ _ c.if-number-lt3.false c.if-number-gt7.false) (printed-then _ _ _ _ _ _ _ _ c.put_octets-next.ensures c.put_decimal.ensures)

@@ -9,8 +9,8 @@ pub put_hex-end-requires : goal.put_hex-end-requires
 put_hex-end-requires c = simp length-hex_of (omega arith)
 
 pub put_octets-requires : goal.put_octets-requires
-put_octets-requires c = omega (arith, simp length-hex_of at c.put_hex.ensures.1)
+put_octets-requires c = omega (arith, simp length-hex_of at c.put_hex-end.ensures.1)
 
 pub returns : goal.returns
 unfolding rule_text
-returns c = printed-then _ _ _ _ _ _ _ _ c.put_octets.ensures (printed-then _ _ _ _ _ _ _ _ c.put_hex.ensures c.put_octets.ensures)
+returns c = printed-then _ _ _ _ _ _ _ _ c.put_octets-start.ensures (printed-then _ _ _ _ _ _ _ _ c.put_hex-end.ensures c.put_octets.ensures)

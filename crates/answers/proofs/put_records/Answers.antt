@@ -21,7 +21,7 @@ pub loop-next-init : goal.loop-next-init
 loop-next-init c = print-starts _ _ _
 
 pub returns-in_default : goal.returns-in_default
-returns-in_default c = print-done _ _ _ _ _ _ c.loop-next.invariant (left-none _ _ _ c.record_at.ensures c.in_default.keys2)
+returns-in_default c = print-done _ _ _ _ _ _ c.loop-next.invariant (left-none _ _ _ c.record_at.ensures c.in_default.not-Record)
 
 pub slice_bounds-put_record-count : goal.slice_bounds-put_record-count
 slice_bounds-put_record-count c = omega (arith, found c)
