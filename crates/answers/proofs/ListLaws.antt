@@ -1,10 +1,7 @@
 -- Going down a table to count its records and to print them: what was done and what is left give the whole. Assumes nothing.
-use mathlib.Core.Path.{◌≡◌, refl, ap, sym, ◌∙◌}
+use mathlib.Core.Path.{◌≡◌, refl, refl, ap, sym, ◌∙◌}
 use mathlib.Core.Bool.{Bool, true, false}
 use mathlib.Core.List.{List, [], ◌∷◌, ◌++◌}
-use mathlib.Core.Logic.{⊎_elim}
-use types.Run.{OneOf}
-use denote.Enum.Declared.{tag_of}
 use Prim.Native.Nat.{ℕ, ◌+◌, ◌-◌, ◌*◌, ◌/◌, ◌≤◌}
 use native.Mathlib.Omega.{arith}
 use native.Mathlib.Nat.{add-zero}
@@ -18,7 +15,6 @@ use Rattle.rule.specs.Value.{between}
 use Rattle.table.proofs.LeaveLaws.{was-sound, was-unsound}
 use Rattle.table.specs.declared.NextRecord.{NextRecord}
 use Rattle.table.specs.declared.NextRecord.TheVariants.{Nothing, Record, Unsound}
-use Rattle.table.specs.contracts.NextRecord.{the_type}
 use Rattle.rule.specs.Family.{ipv4}
 use Rattle.table.specs.declared.Soundness.{Soundness}
 use Rattle.table.specs.declared.Soundness.TheVariants.{Sound, Unsound as NotSound}
@@ -43,11 +39,11 @@ module _ (t : List ℕ) (at : ℕ) where
   pub left-more : (next : ℕ) → record_at t at ≡ Record next → records_left t at ≡ between t at next ∷ records_left t next
   left-more next e = ap (λ w. w.items) (records-more t at next e)
 
-  -- what is found there is the first or the third of the variants, and so no record
-  pub left-none : (found : NextRecord) → found ≡ record_at t at → OneOf (0 ∷ 2 ∷ []) (tag_of the_type found) → records_left t at ≡ []
+  -- what is found there is no record
+  pub left-none : (found : NextRecord) → found ≡ record_at t at → ((next : ℕ) → found ≡ Record next → ⊥) → records_left t at ≡ []
   left-none Nothing e h = ap (λ w. w.items) (records-end t at (sym e))
   left-none Unsound e h = ap (λ w. w.items) (records-unsound t at (sym e))
-  left-none (Record next) e h = absurd (⊎_elim (λ f. omega arith) (λ f. omega arith) h)
+  left-none (Record next) e h = absurd (h next refl)
 
 -- so many records are counted, and those from a place on are left
 pub record Counting (t : List ℕ) (at count : ℕ) : Type 0 where

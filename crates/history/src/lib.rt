@@ -1,1 +1,2 @@
 // Histories of calls at the door, and what they leave: definitions and laws alone.
+#![tactic(auto)]

@@ -1,5 +1,7 @@
 // The work on a line of the program, on slices: gathering a line from blocks of input, and serving it by what it says. No public call has
 // a `requires`: whatever it is lent, it answers (specs/Promise.antt).
+#![tactic(auto)]
+
 ghost use Rattle.std.specs.Prelude.{◌≡◌, [], ◌∷◌, ◌+◌, ◌≤◌, length};
 ghost use Rattle.rule.specs.Family.{ipv4};
 ghost use Rattle.request.specs.Input.{origin_of, announcement_of, policy_of};

@@ -1,5 +1,4 @@
 -- The records counted and those that are left give the whole count.
-use Prim.Native.Nat.{◌-◌}
 use mathlib.Core.Path.{◌≡◌, sym, ◌∙◌}
 use native.Mathlib.Omega.{arith}
 use Rattle.table.specs.declared.NextRecord.TheVariants.{Record}

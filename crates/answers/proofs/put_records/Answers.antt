@@ -1,5 +1,4 @@
 -- What was printed and the records that are left give the whole text.
-use Prim.Native.Nat.{◌-◌}
 use mathlib.Core.Path.{◌≡◌, sym, ◌∙◌}
 use native.Mathlib.Omega.{arith}
 use Rattle.table.specs.declared.NextRecord.TheVariants.{Record}
