@@ -1,6 +1,5 @@
 -- What the line was read as decides which case of the definition was served.
-use Prim.Native.Nat.{ℕ, ◌≤◌}
-use mathlib.Core.List.{List}
+use Prim.Native.Nat.{◌≤◌}
 use mathlib.Core.Path.{sym}
 use native.Mathlib.Omega.{arith}
 use lib.ListN.{length, length-take, length-drop}
@@ -8,20 +7,17 @@ use lib.Seq.{length-take-le}
 use Rattle.line.specs.Line.{most_signs}
 use Rattle.lines.proofs.ServeLaws.{serve-routed, serve-announced, serve-withdrawn, serve-listed, serve-unknown, announce-places, withdraw-places}
 use borrow.Author.Rules.{rules}
-use Rattle.lines.proofs.serve.Goals.{After-read_line, In-Announce, In-Announce-2, In-Withdraw}
+use Rattle.lines.proofs.serve.Goals.{In-Announce, In-Withdraw}
 use Rattle.lines.proofs.serve.Goals as goal
 
--- where the line was read: its signs
-abbrev signs : After-read_line → List ℕ
-signs c = c.before.before.before.before.before.args.line.now
-
+-- where a line was read: its parts lie in it
 announced : (c : In-Announce)
     → (c.in-Announce.rule ≤ c.in-Announce.rule_end)
-    × ((c.in-Announce.rule_end ≤ length (signs (goal.at.HELPER c).After-read_line))
-    × ((c.in-Announce.communities ≤ length (signs (goal.at.HELPER c).After-read_line)) × (length (signs (goal.at.HELPER c).After-read_line) ≤ most_signs)))
+    × ((c.in-Announce.rule_end ≤ length c.args.line.now)
+    × ((c.in-Announce.communities ≤ length c.args.line.now) × (length c.args.line.now ≤ most_signs)))
 announced c = announce-places _ _ c.read_line.ensures _ _ _ _ c.in-Announce.is
 
-withdrawn : (c : In-Withdraw) → (c.in-Withdraw.rule ≤ length (signs (goal.at.HELPER c).After-read_line)) × (length (signs (goal.at.HELPER c).After-read_line) ≤ most_signs)
+withdrawn : (c : In-Withdraw) → (c.in-Withdraw.rule ≤ length c.args.line.now) × (length c.args.line.now ≤ most_signs)
 withdrawn c = withdraw-places _ _ c.read_line.ensures _ c.in-Withdraw.is
 
 pub returns-in-Route : goal.returns-in-Route
@@ -46,7 +42,7 @@ pub slice_bounds-serve_announce-end-in-Announce-3 : goal.slice_bounds-serve_anno
 slice_bounds-serve_announce-end-in-Announce-3 c = sym (length-take-le _ _ (omega arith))
 
 pub serve_announce-printed-requires : goal.serve_announce-printed-requires
-serve_announce-printed-requires c = let w = announced (goal.at.serve_announce-printed-requires c).In-Announce-2 in (simp (length-take, length-drop) (omega arith), simp (length-take, length-drop) (omega arith))
+serve_announce-printed-requires c = let w = announced (goal.at.serve_announce-printed-requires c).In-Announce in (simp (length-take, length-drop) (omega arith), simp (length-take, length-drop) (omega arith))
 
 pub slice_bounds-serve_withdraw-count : goal.slice_bounds-serve_withdraw-count
 slice_bounds-serve_withdraw-count c = omega (arith, withdrawn c)
