@@ -2,6 +2,8 @@
 // `flowspec_interface` is the call in words of its name (crate calls) for the family of its number, 4 for IPv4 and 6 for IPv6, and promises
 // what that call does. No promise can name a C function: rust/flowspec/tests/names.rs holds names, families and parameters to each other and
 // to the header.
+#![tactic(auto)]
+
 ghost use Rattle.std.specs.Prelude.{◌≡◌};
 ghost use Rattle.rule.specs.Family.{ipv4, ipv6};
 ghost use Rattle.request.specs.Input.{origin_of};

@@ -1,6 +1,8 @@
 // Runs the vectors (crate `fields` says what a line is): each call has a function of its own and an arm in `answer_call`. A table stands
 // until the next line that sets one, and each call on a table is made on it as the calls before left it. Calls are made for
 // IPv4 until a line `family` sets another family of addresses. Neither line prints anything.
+#![tactic(auto)]
+
 ghost use Rattle.std.specs.Prelude.{◌≤◌, length};
 ghost use Rattle.io.specs.Counts.{IsPrefixLen};
 
@@ -10,12 +12,16 @@ use fields::{
     print_valued, put_octets,
 };
 use flowspec::{Announced, Feasibility, Looked, Withdrawn};
-use libc::{STDIN_FILENO, STDOUT_FILENO};
 use lookup::Verdict;
 use order::Comparison;
 use route::{Origin, Settings};
 use rule::{AddressFamily, Checked, Reading};
 use spelling::Writing;
+
+// Standard input's number and standard output's.
+const STDIN_FILENO: i32 = 0;
+
+const STDOUT_FILENO: i32 = 1;
 
 // A call's name by its first two letters: `ac`, `an`, `co`, `fa`, `fe`, `fi`, `lo`, `ma`, `re`, `ta`, `wi`, `wr`.
 const ACTIONS: u64 = 0x6163;
