@@ -1,8 +1,8 @@
 -- **Demand 3, of two histories** (`EndAlike`): from equal empty buffers, with the same routes and setting throughout (`SamePolicy`), if they
 -- agree on each rule's last counted call, by its kind, originator and actions as read, they end in equal octets, and every packet has one
 -- verdict and one first match in both. Of what the calls were given only what their types say is assumed (`FromEmpty`).
-use mathlib.Core.Path.{◌≡◌, refl, sym, ◌∙◌}
-use mathlib.Core.Bool.{true, cond}
+use mathlib.Core.Path.{◌≡◌, refl, sym, ap, ◌∙◌}
+use mathlib.Core.Bool.{true, false, cond}
 use mathlib.Core.List.{List, [], ◌∷◌}
 use mathlib.Core.Option.{Option, none, some}
 use Prim.Native.Nat.{ℕ, Ordering}
@@ -21,11 +21,11 @@ use Rattle.order.specs.Key.{RuleKey, keys_of, key_order}
 use Rattle.order.proofs.KeyLaws.{key-order, keys-only, keys-plain}
 use Rattle.action.specs.declared.Reading.TheVariants.{Read}
 use Rattle.action.specs.Actions.{actions_of}
-use Rattle.entry.specs.Entry.{entry_key}
+use Rattle.entry.specs.Entry.{Entry, entry_key}
 use Rattle.request.specs.declared.Request.{Request}
 use Rattle.request.specs.declared.Request.TheVariants.{Announce, Refused as NoRequest}
 use Rattle.request.specs.Input.{Announcement, Policy}
-use Rattle.request.specs.Request.{request_of}
+use Rattle.request.specs.Request.{announced_entry, request_of}
 use Rattle.flowspec.specs.Announce.{announce_operation, withdraw_operation}
 use Rattle.history.specs.History.{Call, announcement, withdrawal, Made, CanBe, EachCanBe, deed, deed_of, operation_of, operation_made, number_of, last_counted, Agree, LentPolicy, SamePolicy, end_of, empty_table, FromEmpty, EndAlike}
 use Rattle.request.proofs.RequestLaws.{octets-value, asked-from}
@@ -89,7 +89,8 @@ module _ (family : Family) (policy : Policy) where
         let reads : Read actions ≡ Read acts = sym one.acts ∙ read ∙ two.acts in
         let same : actions ≡ acts = cc in
         let judged : good ≡ fine = one.is ∙ feasible-alone family fits policy value other a.origin v w values ∙ rw founders (sym two.is) in
-        rw (judged, same, values, founders)
+        let held : announced_entry family a start size actions ≡ announced_entry family b from extent acts = rw (same, values, founders) in
+        rw judged (ap (λ e. elim fine as (λ x. Option Entry) [ false ↦ none | true ↦ some e ]) held)
 
   none-withdrawn : (rule : List ℕ) (r : Reading) → in_force (withdraw_operation family rule r) ≡ none
   none-withdrawn rule (Rule start size) = refl
