@@ -28,9 +28,9 @@ pub extern "C" fn flowspec_interface() -> u64
 #[unsafe(no_mangle)]
 pub extern "C" fn flowspec4_read(rule: &[u8], out: &mut [u64; 2]) -> u64
     ensures { ReadCall ipv4
-        (record { rule = rule.entry.now; out = out.old })
+        (record { rule = rule.now; out = out.old })
         result
-        (record { rule = rule.exit.now; out = out.new }) }
+        (record { rule = rule.now; out = out.new }) }
 {
     calls::read(AddressFamily::Ipv4, rule, out)
 }
@@ -39,9 +39,9 @@ pub extern "C" fn flowspec4_read(rule: &[u8], out: &mut [u64; 2]) -> u64
 #[unsafe(no_mangle)]
 pub extern "C" fn flowspec4_write(value: &[u8], buf: &mut [u8], out: &mut [u64; 1]) -> u64
     ensures { WriteCall ipv4
-        (record { value = value.entry.now; buf = buf.old; out = out.old })
+        (record { value = value.now; buf = buf.old; out = out.old })
         result
-        (record { value = value.exit.now; buf = buf.new; out = out.new }) }
+        (record { value = value.now; buf = buf.new; out = out.new }) }
 {
     calls::write(AddressFamily::Ipv4, value, buf, out)
 }
@@ -50,9 +50,9 @@ pub extern "C" fn flowspec4_write(value: &[u8], buf: &mut [u8], out: &mut [u64; 
 #[unsafe(no_mangle)]
 pub extern "C" fn flowspec4_compare(a: &[u8], b: &[u8], out: &mut [u64; 1]) -> u64
     ensures { CompareCall ipv4
-        (record { a = a.entry.now; b = b.now; out = out.old })
+        (record { a = a.now; b = b.now; out = out.old })
         result
-        (record { a = a.exit.now; b = b.now; out = out.new }) }
+        (record { a = a.now; b = b.now; out = out.new }) }
 {
     calls::compare(AddressFamily::Ipv4, a, b, out)
 }
@@ -66,9 +66,9 @@ pub extern "C" fn flowspec4_feasible(
     originator: u32,
 ) -> u64
     ensures { FeasibleCall ipv4 (settings_in allow_no_destination) (origin_of originator)
-        (record { routes = routes.entry.now; rule = rule.now })
+        (record { routes = routes.now; rule = rule.now })
         result
-        (record { routes = routes.exit.now; rule = rule.now }) }
+        (record { routes = routes.now; rule = rule.now }) }
 {
     calls::feasible(
         AddressFamily::Ipv4,
@@ -83,9 +83,9 @@ pub extern "C" fn flowspec4_feasible(
 #[unsafe(no_mangle)]
 pub extern "C" fn flowspec4_actions(communities: &[u8], out: &mut [u64; 6]) -> u64
     ensures { ActionsCall
-        (record { communities = communities.entry.now; out = out.old })
+        (record { communities = communities.now; out = out.old })
         result
-        (record { communities = communities.exit.now; out = out.new }) }
+        (record { communities = communities.now; out = out.new }) }
 {
     calls::actions(communities, out)
 }
@@ -103,7 +103,7 @@ pub extern "C" fn flowspec4_announce(
 ) -> u64
     ensures { AnnounceCall ipv4 (settings_in allow_no_destination) (origin_of originator)
         (record {
-          table = table.entry.now;
+          table = table.old;
           routes = routes.now;
           rule = rule.now;
           communities = communities.now;
@@ -111,7 +111,7 @@ pub extern "C" fn flowspec4_announce(
         })
         result
         (record {
-          table = table.exit.now;
+          table = table.new;
           routes = routes.now;
           rule = rule.now;
           communities = communities.now;
@@ -134,9 +134,9 @@ pub extern "C" fn flowspec4_announce(
 #[unsafe(no_mangle)]
 pub extern "C" fn flowspec4_withdraw(table: &mut [u8], rule: &[u8]) -> u64
     ensures { WithdrawCall ipv4
-        (record { table = table.entry.now; rule = rule.now })
+        (record { table = table.old; rule = rule.now })
         result
-        (record { table = table.exit.now; rule = rule.now }) }
+        (record { table = table.new; rule = rule.now }) }
 {
     calls::withdraw(AddressFamily::Ipv4, table, rule)
 }
@@ -155,7 +155,7 @@ pub extern "C" fn flowspec4_reach(
 ) -> u64
     ensures { ReachCall ipv4 (settings_in allow_no_destination) (origin_of originator)
         (record {
-          table = table.entry.now;
+          table = table.old;
           routes = routes.now;
           attribute = attribute.now;
           communities = communities.now;
@@ -164,7 +164,7 @@ pub extern "C" fn flowspec4_reach(
         })
         result
         (record {
-          table = table.exit.now;
+          table = table.new;
           routes = routes.now;
           attribute = attribute.now;
           communities = communities.now;
@@ -195,14 +195,14 @@ pub extern "C" fn flowspec4_unreach(
 ) -> u64
     ensures { UnreachCall ipv4
         (record {
-          table = table.entry.now;
+          table = table.old;
           attribute = attribute.now;
           answers = answers.old;
           out = out.old;
         })
         result
         (record {
-          table = table.exit.now;
+          table = table.new;
           attribute = attribute.now;
           answers = answers.new;
           out = out.new;
@@ -215,9 +215,9 @@ pub extern "C" fn flowspec4_unreach(
 #[unsafe(no_mangle)]
 pub extern "C" fn flowspec4_lookup(table: &[u8], packet: &[u8], out: &mut [u64; 7]) -> u64
     ensures { LookupCall ipv4
-        (record { table = table.entry.now; packet = packet.now; out = out.old })
+        (record { table = table.now; packet = packet.now; out = out.old })
         result
-        (record { table = table.exit.now; packet = packet.now; out = out.new }) }
+        (record { table = table.now; packet = packet.now; out = out.new }) }
 {
     calls::lookup(AddressFamily::Ipv4, table, packet, out)
 }
@@ -226,9 +226,9 @@ pub extern "C" fn flowspec4_lookup(table: &[u8], packet: &[u8], out: &mut [u64; 
 #[unsafe(no_mangle)]
 pub extern "C" fn flowspec4_first_match(table: &[u8], packet: &[u8], out: &mut [u64; 2]) -> u64
     ensures { FirstMatchCall ipv4
-        (record { table = table.entry.now; packet = packet.now; out = out.old })
+        (record { table = table.now; packet = packet.now; out = out.old })
         result
-        (record { table = table.exit.now; packet = packet.now; out = out.new }) }
+        (record { table = table.now; packet = packet.now; out = out.new }) }
 {
     calls::first_match(AddressFamily::Ipv4, table, packet, out)
 }
@@ -239,9 +239,9 @@ pub extern "C" fn flowspec4_first_match(table: &[u8], packet: &[u8], out: &mut [
 #[unsafe(no_mangle)]
 pub extern "C" fn flowspec6_read(rule: &[u8], out: &mut [u64; 2]) -> u64
     ensures { ReadCall ipv6
-        (record { rule = rule.entry.now; out = out.old })
+        (record { rule = rule.now; out = out.old })
         result
-        (record { rule = rule.exit.now; out = out.new }) }
+        (record { rule = rule.now; out = out.new }) }
 {
     calls::read(AddressFamily::Ipv6, rule, out)
 }
@@ -250,9 +250,9 @@ pub extern "C" fn flowspec6_read(rule: &[u8], out: &mut [u64; 2]) -> u64
 #[unsafe(no_mangle)]
 pub extern "C" fn flowspec6_write(value: &[u8], buf: &mut [u8], out: &mut [u64; 1]) -> u64
     ensures { WriteCall ipv6
-        (record { value = value.entry.now; buf = buf.old; out = out.old })
+        (record { value = value.now; buf = buf.old; out = out.old })
         result
-        (record { value = value.exit.now; buf = buf.new; out = out.new }) }
+        (record { value = value.now; buf = buf.new; out = out.new }) }
 {
     calls::write(AddressFamily::Ipv6, value, buf, out)
 }
@@ -261,9 +261,9 @@ pub extern "C" fn flowspec6_write(value: &[u8], buf: &mut [u8], out: &mut [u64; 
 #[unsafe(no_mangle)]
 pub extern "C" fn flowspec6_compare(a: &[u8], b: &[u8], out: &mut [u64; 1]) -> u64
     ensures { CompareCall ipv6
-        (record { a = a.entry.now; b = b.now; out = out.old })
+        (record { a = a.now; b = b.now; out = out.old })
         result
-        (record { a = a.exit.now; b = b.now; out = out.new }) }
+        (record { a = a.now; b = b.now; out = out.new }) }
 {
     calls::compare(AddressFamily::Ipv6, a, b, out)
 }
@@ -277,9 +277,9 @@ pub extern "C" fn flowspec6_feasible(
     originator: u32,
 ) -> u64
     ensures { FeasibleCall ipv6 (settings_in allow_no_destination) (origin_of originator)
-        (record { routes = routes.entry.now; rule = rule.now })
+        (record { routes = routes.now; rule = rule.now })
         result
-        (record { routes = routes.exit.now; rule = rule.now }) }
+        (record { routes = routes.now; rule = rule.now }) }
 {
     calls::feasible(
         AddressFamily::Ipv6,
@@ -303,7 +303,7 @@ pub extern "C" fn flowspec6_announce(
 ) -> u64
     ensures { AnnounceCall ipv6 (settings_in allow_no_destination) (origin_of originator)
         (record {
-          table = table.entry.now;
+          table = table.old;
           routes = routes.now;
           rule = rule.now;
           communities = communities.now;
@@ -311,7 +311,7 @@ pub extern "C" fn flowspec6_announce(
         })
         result
         (record {
-          table = table.exit.now;
+          table = table.new;
           routes = routes.now;
           rule = rule.now;
           communities = communities.now;
@@ -334,9 +334,9 @@ pub extern "C" fn flowspec6_announce(
 #[unsafe(no_mangle)]
 pub extern "C" fn flowspec6_withdraw(table: &mut [u8], rule: &[u8]) -> u64
     ensures { WithdrawCall ipv6
-        (record { table = table.entry.now; rule = rule.now })
+        (record { table = table.old; rule = rule.now })
         result
-        (record { table = table.exit.now; rule = rule.now }) }
+        (record { table = table.new; rule = rule.now }) }
 {
     calls::withdraw(AddressFamily::Ipv6, table, rule)
 }
@@ -355,7 +355,7 @@ pub extern "C" fn flowspec6_reach(
 ) -> u64
     ensures { ReachCall ipv6 (settings_in allow_no_destination) (origin_of originator)
         (record {
-          table = table.entry.now;
+          table = table.old;
           routes = routes.now;
           attribute = attribute.now;
           communities = communities.now;
@@ -364,7 +364,7 @@ pub extern "C" fn flowspec6_reach(
         })
         result
         (record {
-          table = table.exit.now;
+          table = table.new;
           routes = routes.now;
           attribute = attribute.now;
           communities = communities.now;
@@ -395,14 +395,14 @@ pub extern "C" fn flowspec6_unreach(
 ) -> u64
     ensures { UnreachCall ipv6
         (record {
-          table = table.entry.now;
+          table = table.old;
           attribute = attribute.now;
           answers = answers.old;
           out = out.old;
         })
         result
         (record {
-          table = table.exit.now;
+          table = table.new;
           attribute = attribute.now;
           answers = answers.new;
           out = out.new;
@@ -415,9 +415,9 @@ pub extern "C" fn flowspec6_unreach(
 #[unsafe(no_mangle)]
 pub extern "C" fn flowspec6_lookup(table: &[u8], packet: &[u8], out: &mut [u64; 7]) -> u64
     ensures { LookupCall ipv6
-        (record { table = table.entry.now; packet = packet.now; out = out.old })
+        (record { table = table.now; packet = packet.now; out = out.old })
         result
-        (record { table = table.exit.now; packet = packet.now; out = out.new }) }
+        (record { table = table.now; packet = packet.now; out = out.new }) }
 {
     calls::lookup(AddressFamily::Ipv6, table, packet, out)
 }
@@ -426,9 +426,9 @@ pub extern "C" fn flowspec6_lookup(table: &[u8], packet: &[u8], out: &mut [u64; 
 #[unsafe(no_mangle)]
 pub extern "C" fn flowspec6_first_match(table: &[u8], packet: &[u8], out: &mut [u64; 2]) -> u64
     ensures { FirstMatchCall ipv6
-        (record { table = table.entry.now; packet = packet.now; out = out.old })
+        (record { table = table.now; packet = packet.now; out = out.old })
         result
-        (record { table = table.exit.now; packet = packet.now; out = out.new }) }
+        (record { table = table.now; packet = packet.now; out = out.new }) }
 {
     calls::first_match(AddressFamily::Ipv6, table, packet, out)
 }

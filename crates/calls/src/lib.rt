@@ -70,9 +70,9 @@ fn words_of(verdict: Verdict) -> [u64; 7]
 // Reads one rule. out: where its value starts, and its length.
 pub fn read(family: AddressFamily, rule: &[u8], out: &mut [u64; 2]) -> u64
     ensures { ReadCall (family_of family)
-        (record { rule = rule.entry.now; out = out.old })
+        (record { rule = rule.now; out = out.old })
         result
-        (record { rule = rule.exit.now; out = out.new }) }
+        (record { rule = rule.now; out = out.new }) }
 {
     match flowspec::read_rule(family, rule) {
         Reading::Refused { number, place } => word_of(number, place),
@@ -86,9 +86,9 @@ pub fn read(family: AddressFamily, rule: &[u8], out: &mut [u64; 2]) -> u64
 // Writes one rule from its value to the front of a buffer. out: how many octets were written.
 pub fn write(family: AddressFamily, value: &[u8], buf: &mut [u8], out: &mut [u64; 1]) -> u64
     ensures { WriteCall (family_of family)
-        (record { value = value.entry.now; buf = buf.old; out = out.old })
+        (record { value = value.now; buf = buf.old; out = out.old })
         result
-        (record { value = value.exit.now; buf = buf.new; out = out.new }) }
+        (record { value = value.now; buf = buf.new; out = out.new }) }
 {
     match flowspec::write_rule(family, value, buf) {
         Writing::Refused { number, place } => word_of(number, place),
@@ -102,9 +102,9 @@ pub fn write(family: AddressFamily, value: &[u8], buf: &mut [u8], out: &mut [u64
 // Compares two rules by their precedence. out: 1 where `a` comes first, 2 where `b` does, 3 where they are the same rule.
 pub fn compare(family: AddressFamily, a: &[u8], b: &[u8], out: &mut [u64; 1]) -> u64
     ensures { CompareCall (family_of family)
-        (record { a = a.entry.now; b = b.now; out = out.old })
+        (record { a = a.now; b = b.now; out = out.old })
         result
-        (record { a = a.exit.now; b = b.now; out = out.new }) }
+        (record { a = a.now; b = b.now; out = out.new }) }
 {
     match flowspec::compare_rules(family, a, b) {
         Comparison::Refused { number, place } => word_of(number, place),
@@ -132,9 +132,9 @@ pub fn feasible(
     originator: u32,
 ) -> u64
     ensures { FeasibleCall (family_of family) (settings_in allow_no_destination) (origin_of originator)
-        (record { routes = routes.entry.now; rule = rule.now })
+        (record { routes = routes.now; rule = rule.now })
         result
-        (record { routes = routes.exit.now; rule = rule.now }) }
+        (record { routes = routes.now; rule = rule.now }) }
 {
     let settings = settings_in(allow_no_destination);
     let origin = Origin { originator };
@@ -147,9 +147,9 @@ pub fn feasible(
 // Reads the filtering actions of a rule's communities. out: flags, DSCP, byte rate, packet rate, redirect, notes.
 pub fn actions(communities: &[u8], out: &mut [u64; 6]) -> u64
     ensures { ActionsCall
-        (record { communities = communities.entry.now; out = out.old })
+        (record { communities = communities.now; out = out.old })
         result
-        (record { communities = communities.exit.now; out = out.new }) }
+        (record { communities = communities.now; out = out.new }) }
 {
     match flowspec::read_actions(communities) {
         action::Reading::Unsound => word_of(13, 0),
@@ -173,7 +173,7 @@ pub fn announce(
 ) -> u64
     ensures { AnnounceCall (family_of family) (settings_in allow_no_destination) (origin_of originator)
         (record {
-          table = table.entry.now;
+          table = table.old;
           routes = routes.now;
           rule = rule.now;
           communities = communities.now;
@@ -181,7 +181,7 @@ pub fn announce(
         })
         result
         (record {
-          table = table.exit.now;
+          table = table.new;
           routes = routes.now;
           rule = rule.now;
           communities = communities.now;
@@ -202,9 +202,9 @@ pub fn announce(
 // Withdraws a rule from a table.
 pub fn withdraw(family: AddressFamily, table: &mut [u8], rule: &[u8]) -> u64
     ensures { WithdrawCall (family_of family)
-        (record { table = table.entry.now; rule = rule.now })
+        (record { table = table.old; rule = rule.now })
         result
-        (record { table = table.exit.now; rule = rule.now }) }
+        (record { table = table.new; rule = rule.now }) }
 {
     let answer = flowspec::withdraw(family, table, rule);
     withdrawn_word(answer)
@@ -225,7 +225,7 @@ pub fn reach(
 ) -> u64
     ensures { ReachCall (family_of family) (settings_in allow_no_destination) (origin_of originator)
         (record {
-          table = table.entry.now;
+          table = table.old;
           routes = routes.now;
           attribute = attribute.now;
           communities = communities.now;
@@ -234,7 +234,7 @@ pub fn reach(
         })
         result
         (record {
-          table = table.exit.now;
+          table = table.new;
           routes = routes.now;
           attribute = attribute.now;
           communities = communities.now;
@@ -272,14 +272,14 @@ pub fn unreach(
 ) -> u64
     ensures { UnreachCall (family_of family)
         (record {
-          table = table.entry.now;
+          table = table.old;
           attribute = attribute.now;
           answers = answers.old;
           out = out.old;
         })
         result
         (record {
-          table = table.exit.now;
+          table = table.new;
           attribute = attribute.now;
           answers = answers.new;
           out = out.new;
@@ -297,9 +297,9 @@ pub fn unreach(
 // Looks a packet up in a table. out: the count, 0 where unmatched, and the merged actions' values, 0 where unmatched.
 pub fn lookup(family: AddressFamily, table: &[u8], packet: &[u8], out: &mut [u64; 7]) -> u64
     ensures { LookupCall (family_of family)
-        (record { table = table.entry.now; packet = packet.now; out = out.old })
+        (record { table = table.now; packet = packet.now; out = out.old })
         result
-        (record { table = table.exit.now; packet = packet.now; out = out.new }) }
+        (record { table = table.now; packet = packet.now; out = out.new }) }
 {
     match flowspec::lookup(family, table, packet) {
         Looked::Refused { number, place } => word_of(number, place),
@@ -313,9 +313,9 @@ pub fn lookup(family: AddressFamily, table: &[u8], packet: &[u8], out: &mut [u64
 // Locates the first match's record. out: its start in the table and its length, 0 and 0 where nothing matches.
 pub fn first_match(family: AddressFamily, table: &[u8], packet: &[u8], out: &mut [u64; 2]) -> u64
     ensures { FirstMatchCall (family_of family)
-        (record { table = table.entry.now; packet = packet.now; out = out.old })
+        (record { table = table.now; packet = packet.now; out = out.old })
         result
-        (record { table = table.exit.now; packet = packet.now; out = out.new }) }
+        (record { table = table.now; packet = packet.now; out = out.new }) }
 {
     let found = flowspec::first_match_place(family, table, packet);
     if found.number != 0 {
