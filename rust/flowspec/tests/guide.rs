@@ -19,7 +19,7 @@ fn quoted() -> Vec<String> {
 
 /// The words of the quoted pieces, as names are written.
 fn words() -> BTreeSet<String> {
-    let part_of_name = |c: char| c.is_alphanumeric() || "_-·′".contains(c);
+    let part_of_name = |c: char| c.is_alphanumeric() || "_-'".contains(c);
     let pieces = quoted();
     let found = pieces
         .iter()
@@ -115,18 +115,41 @@ fn laws() -> BTreeSet<String> {
     found
 }
 
-/// Whether a piece is written as the name of a law: words joined by hyphens.
+/// The words of the code, of the header and of the paths of crates' files.
+fn words_of_code() -> BTreeSet<String> {
+    let part_of_name = |c: char| c.is_alphanumeric() || c == '_';
+    let mut texts = vec![page("include/flowspec.h"), page("crates.txt")];
+    for path in files("src", ".rt") {
+        texts.push(read(&path));
+    }
+    let words = texts
+        .iter()
+        .flat_map(|text| text.split(|c| !part_of_name(c)));
+    words.map(str::to_string).collect()
+}
+
+/// Whether a piece is written as the name of a law: words joined by hyphens or low lines.
 fn names_a_law(piece: &str) -> bool {
     let is_word = |word: &str| !word.is_empty() && word.chars().all(char::is_alphanumeric);
-    piece.contains('-') && piece.starts_with(char::is_lowercase) && piece.split('-').all(is_word)
+    piece.contains(['-', '_'])
+        && piece.starts_with(char::is_lowercase)
+        && piece.split(['-', '_']).all(is_word)
 }
 
 #[test]
 fn every_law_named_is_there() {
     let laws = laws();
+    let code = words_of_code();
+    let edits: BTreeSet<String> = files("must-fail", ".edit").into_iter().map(stem).collect();
     let mut gone = quoted();
     gone.retain(|piece| names_a_law(piece) && !laws.contains(piece));
+    gone.retain(|piece| !code.contains(piece) && !edits.contains(piece));
     assert!(gone.is_empty(), "the guide names {gone:?}");
+}
+
+/// A file's name without its ending.
+fn stem(path: PathBuf) -> String {
+    path.file_stem().unwrap().to_string_lossy().into_owned()
 }
 
 #[test]
@@ -167,10 +190,9 @@ fn every_function_named_is_there() {
 #[test]
 fn every_edit_is_named() {
     let words = words();
-    let label = |path: PathBuf| path.file_stem().unwrap().to_string_lossy().into_owned();
     let missing: Vec<String> = files("must-fail", ".edit")
         .into_iter()
-        .map(label)
+        .map(stem)
         .filter(|edit| !words.contains(edit))
         .collect();
     assert!(missing.is_empty(), "not in the guide: {missing:?}");

@@ -11,15 +11,15 @@ use tree::page;
 
 /// The function that answers the number of the interface, and the definition of that number.
 const INTERFACE: &str = "flowspec_interface";
-const INTERFACE_NUMBER: &str = "interfaceNumber";
+const INTERFACE_NUMBER: &str = "interface_number";
 
 /// The one call that is told no family, since communities have no addresses.
 const WITHOUT_FAMILY: &str = "actions";
 
 /// The parameters that are numbers, and the definition by which a promise takes each.
 const NUMBERS: [(&str, &str); 2] = [
-    ("allow_no_destination", "settingsIn"),
-    ("originator", "originOf"),
+    ("allow_no_destination", "settings_in"),
+    ("originator", "origin_of"),
 ];
 
 /// A parameter's name and type.
@@ -57,7 +57,7 @@ fn parameters(list: &str) -> Vec<Parameter> {
         .collect()
 }
 
-/// A function from its text behind `#[no_mangle]`.
+/// A function from its text behind `#[unsafe(no_mangle)]`.
 fn function(text: &str) -> Function {
     assert_eq!(text.matches("fn ").count(), 1, "two functions in {text}");
     let (marks, text) = parted(text, "fn ");
@@ -83,7 +83,7 @@ fn function(text: &str) -> Function {
 /// and that which answers the number of the interface.
 fn texts() -> (Vec<String>, Vec<String>) {
     let code = code("crates/c_api/src/lib.rt");
-    let mut parts = code.split("#[no_mangle]").map(str::to_string);
+    let mut parts = code.split("#[unsafe(no_mangle)]").map(str::to_string);
     let head = parts.next().unwrap();
     assert!(!head.contains("fn "), "a function that C cannot call");
     assert!(!head.contains(" as "), "a name that stands for another");
@@ -114,10 +114,14 @@ impl Function {
         words.collect::<String>() + "Call"
     }
 
-    /// The buffers as a promise has them at a moment, each by its own name.
-    fn buffers_at(&self, moment: &str) -> String {
+    /// The buffers as a promise has them at entry or at exit, each by its own name: what is lent to be
+    /// read is one value at both.
+    fn buffers_at(&self, changed: &str) -> String {
         let fields = self.parameters.iter().filter(|(_, kind)| kind != "u32");
-        let fields = fields.map(|(name, _)| format!("{name} = now ({name} .{moment})"));
+        let fields = fields.map(|(name, kind)| {
+            let moment = if kind.starts_with("&mut ") { changed } else { "now" };
+            format!("{name} = {name}.{moment}")
+        });
         format!(
             "(record {{ {} }})",
             fields.collect::<Vec<String>>().join("; ")
@@ -141,11 +145,11 @@ impl Function {
         terms.extend(family);
         terms.extend(self.numbers());
         terms.extend([
-            self.buffers_at("entry"),
-            "r".to_string(),
-            self.buffers_at("exit"),
+            self.buffers_at("old"),
+            "result".to_string(),
+            self.buffers_at("new"),
         ]);
-        format!("ensures {{ λ r. ⌜ {} ⌝ }}", terms.join(" "))
+        format!("ensures {{ {} }}", terms.join(" "))
     }
 
     /// The call that this function is to make.
@@ -285,7 +289,7 @@ fn the_interface_has_the_number_of_the_header() {
     let [made] = &made[..] else {
         panic!("one function answers the number of the interface")
     };
-    let promised = format!("ensures {{ λ r. ⌜ r ≡ {INTERFACE_NUMBER} ⌝ }}");
+    let promised = format!("ensures {{ result ≡ {INTERFACE_NUMBER} }}");
     let expected = format!("pub extern \"C\" fn {INTERFACE}() -> u64 {promised} {{ {number} }}");
     assert_eq!(words(made), words(&expected));
     assert_eq!(number.parse(), Ok(ffi::INTERFACE));
