@@ -109,7 +109,9 @@ fn laws() -> BTreeSet<String> {
         let text = read(&path);
         let heads = text.lines().filter_map(|line| line.split_once(" :"));
         found.extend(
-            heads.map(|(head, _)| head.trim_start().trim_start_matches("pub ").to_string()),
+            heads
+                .filter_map(|(head, _)| head.split(' ').next_back())
+                .map(str::to_string),
         );
     }
     found

@@ -119,7 +119,11 @@ impl Function {
     fn buffers_at(&self, changed: &str) -> String {
         let fields = self.parameters.iter().filter(|(_, kind)| kind != "u32");
         let fields = fields.map(|(name, kind)| {
-            let moment = if kind.starts_with("&mut ") { changed } else { "now" };
+            let moment = if kind.starts_with("&mut ") {
+                changed
+            } else {
+                "now"
+            };
             format!("{name} = {name}.{moment}")
         });
         format!(
