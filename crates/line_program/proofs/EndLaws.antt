@@ -1,5 +1,5 @@
 -- The end of the input: what it prints, and what a state is that was served. Assumes nothing.
-use Rattle.std.proofs.Common.{◌≡◌, ℕ, ◌+◌, List, [], ◌++◌, None, Some, IfSome, sym, ap, subst, ◌∙◌, append-nil, length, take, length-take, arith, min}
+use Rattle.std.proofs.Common.{◌≡◌, ℕ, ◌+◌, ◌<◌, ◌≤◌, List, [], ◌++◌, None, Some, IfSome, sym, ap, subst, ◌∙◌, append-nil, length, take, length-append, length-take, arith, min}
 use Rattle.std.specs.Prelude.{Option}
 use Rattle.std.specs.Io.KnownBytes.{Consumes, Appends, IsAtEnd}
 use Rattle.std.proofs.KnownBytes.{Consumes-trans, Appends-trans}
@@ -47,6 +47,18 @@ all-given : (source rest : Option (List ℕ)) (input : List ℕ) (P : List ℕ �
 all-given None rest input P r e p = tt
 all-given (Some xs) None input P r e p = absurd r
 all-given (Some xs) (Some ys) input P r e p = subst P (sym (r ∙ ap (λ l. input ++ l) e ∙ append-nil input)) p
+
+-- one octet more at least
+pub longer : (input more : List ℕ) (n : ℕ) → n ≤ length input → 0 < length more → n + 1 ≤ length (input ++ more)
+longer input more n h k = simp length-append (omega arith)
+
+-- a reader that gave n octets had no fewer
+pub too-short : (n : ℕ) (source rest : Option (List ℕ)) (input : List ℕ) (P : List ℕ → Type 0) → Consumes source rest input → n ≤ length input
+    → IfSome source (λ t. length t < n → P t)
+too-short n None rest input P r h = tt
+too-short n (Some xs) None input P r h = absurd r
+too-short n (Some xs) (Some ys) input P r h =
+    λ less. let e : length xs ≡ length input + length ys = ap length r ∙ length-append input ys in absurd (omega arith)
 
 -- so did one that was read once more and gave nothing
 pub all-read : (source left rest : Option (List ℕ)) (input buffer : List ℕ) (count : ℕ) (P : List ℕ → Type 0) → Consumes source left input
