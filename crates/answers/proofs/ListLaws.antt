@@ -1,5 +1,5 @@
 -- Going down a table to count its records and to print them: what was done and what is left give the whole. Assumes nothing.
-use mathlib.Core.Path.{◌≡◌, refl, refl, ap, sym, ◌∙◌}
+use mathlib.Core.Path.{◌≡◌, refl, ap, sym, ◌∙◌}
 use mathlib.Core.Bool.{Bool, true, false}
 use mathlib.Core.List.{List, [], ◌∷◌, ◌++◌}
 use Prim.Native.Nat.{ℕ, ◌+◌, ◌-◌, ◌*◌, ◌/◌, ◌≤◌}
