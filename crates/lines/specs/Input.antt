@@ -1,7 +1,7 @@
 -- What is to be printed for a whole input, and what it leaves: the lines of the input are served one after the other, from an empty state
 -- on. The table may have any length; the program's has `program_octets`. That the text is the same however the input is cut into blocks
--- (Blocks.antt) is shown in proofs/InputLaws.antt; that the program hands it to the operating system is run, as no contract can say what is
--- written.
+-- (Blocks.antt) is shown in proofs/InputLaws.antt; that the program writes it, wherever the bytes of a reader and a writer are known, is what
+-- `line_program::run` promises.
 use Rattle.std.specs.Prelude.{ℕ, cond, List, [], ◌∷◌, ◌++◌, eqb, replicate}
 use Rattle.text.specs.Field.{in_first}
 use Rattle.lines.specs.Serve.{most_words, served}
