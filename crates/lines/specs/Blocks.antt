@@ -1,6 +1,6 @@
 -- How the program comes to what a whole input prints, by blocks of any length: where it stands between two octets, what an octet, a block
 -- and the end of the input print and leave, and how its buffers hold where it stands. The contracts of `line_program` speak of that: of
--- its buffers, routes and table.
+-- its buffers, routes and table, and of what is written.
 use Rattle.std.specs.Prelude.{ℕ, ◌+◌, ◌≤◌, ◌≡◌, cond, List, [], ◌∷◌, ◌++◌, eqb, length, take}
 use Rattle.line.specs.Line.{most_signs}
 use Rattle.lines.specs.Input.{State, state_of, first_state, line_text, after_line}

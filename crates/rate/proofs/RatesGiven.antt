@@ -12,7 +12,7 @@ use lib.Pow.{shl_lt, shr_lt, pow_mono, pow_pos, high, low}
 use Rattle.octets.proofs.Cases.{by-test, both}
 use Rattle.rate.specs.declared.Rate.{Rate}
 use Rattle.rate.specs.declared.Rate.TheVariants.{Number, NotANumber}
-use Rattle.rate.specs.Rate.{exact, rounded_down, raised, capped, taken_as_zero, scaled, whole_part, value_rate, is_not_aNumber, rate_of_parts, rate_of, fits_significand, is_single, rate_given}
+use Rattle.rate.specs.Rate.{exact, rounded_down, raised, capped, taken_as_zero, scaled, whole_part, value_rate, is_not_a_number, rate_of_parts, rate_of, fits_significand, is_single, rate_given}
 use Rattle.rate.proofs.Rates.{whole_over, multiple, both-times, rate-zero, rate-negative, rate-below-one, rate-limit, rate-past-limit, rate-whole, whole-up, whole-down}
 
 -- Above 2^63 nothing is a single, and up to it the halvings decide.
@@ -179,7 +179,7 @@ unfolding rate_of rate_of_parts
 rate-passes single =
     let e = single / 2 ^ 23 % 2 ^ 8 in
     let f = single % 2 ^ 23 in
-    by-test (is_not_aNumber e f)
+    by-test (is_not_a_number e f)
     (λ h. rw h)
     (λ h. rw h (value_passes (not (eqb (single / 2 ^ 31) 0)) e f (mod-lt single (lit< tt))))
 

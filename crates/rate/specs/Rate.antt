@@ -45,13 +45,13 @@ value_rate negative value =
     (cond (ltb (2 ^ 63 * 2 ^ 149) value) (Number (2 ^ 63) capped) (whole_part value))))
 
 -- Exponent 255 with a fraction is not a number, whatever the sign (IEEE 754-1985 section 3.2.1).
-abbrev pub is_not_aNumber : ℕ → ℕ → Bool
-is_not_aNumber exponent fraction = eqb exponent 255 && not (eqb fraction 0)
+abbrev pub is_not_a_number : ℕ → ℕ → Bool
+is_not_a_number exponent fraction = eqb exponent 255 && not (eqb fraction 0)
 
 -- 01: "Not-a-number of either sign is 13", before all else.
 unfoldable pub rate_of_parts : ℕ → ℕ → ℕ → Rate
 rate_of_parts sign exponent fraction =
-    cond (is_not_aNumber exponent fraction) NotANumber (value_rate (not (eqb sign 0)) (scaled exponent fraction))
+    cond (is_not_a_number exponent fraction) NotANumber (value_rate (not (eqb sign 0)) (scaled exponent fraction))
 
 -- A rate, cut into sign, exponent and fraction.
 unfoldable pub rate_of : ℕ → Rate
