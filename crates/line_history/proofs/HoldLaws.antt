@@ -2,7 +2,7 @@
 -- announcement, by the routes in use at that line, each with that call's actions, once, in precedence order (`input-holds`); and each line
 -- that makes a call prints the answer of that call (`calls-printed`). Assumes nothing.
 use mathlib.Core.Path.{◌≡◌, refl, sym, ap, subst, ◌∙◌}
-use mathlib.Core.List.{List, [], ◌∷◌, ◌++◌}
+use mathlib.Core.List.{List, [], ◌∷◌}
 use Prim.Native.Nat.{ℕ, ◌≤◌}
 use native.Mathlib.Omega.{arith}
 use lib.ListN.{take}
@@ -16,7 +16,7 @@ use Rattle.line.proofs.SaidLaws.{announced-could}
 use Rattle.lines.specs.Serve.{Serving, route_fits, setting_off, served_as, served}
 use Rattle.answers.specs.Answer.{change_text}
 use Rattle.lines.specs.Input.{State, line_text, program_octets, first_state, lines_of, after_line, after_lines, left_by}
-use Rattle.history.specs.History.{Call, announcement, withdrawal, answer_told, Made, CanBe, EachCanBe, Happened, end_of, outcome_of, history_of, empty_table, FromEmpty, HoldsExactly}
+use Rattle.history.specs.History.{Call, announcement, withdrawal, answer_told, CanBe, EachCanBe, Happened, end_of, outcome_of, history_of, empty_table, FromEmpty, HoldsExactly}
 use Rattle.history.proofs.HistoryLaws.{history-holds}
 use Rattle.history.proofs.Happens.{end-append, given-append, happened-append, happens, each-given}
 use Rattle.line_history.specs.Calls.{calls_of, made_by}

@@ -27,7 +27,6 @@ use Rattle.packet.specs.declared.Packet.{Packet}
 use Rattle.entry.specs.Entry.{Entry, entry_key, possible}
 use Rattle.entry.specs.Record.{record_of}
 use Rattle.entry.proofs.ValueLaws.{is-possible}
-use Rattle.table.specs.Walk.{entries}
 use Rattle.table.specs.Sound.{cost, table_of, Encodes}
 use Rattle.table.specs.Change.{changed}
 use Rattle.table.proofs.SpliceLaws.{table-record}

@@ -1,7 +1,7 @@
 -- Whether a packet matches a rule hangs on the rule's plain spelling alone: what the plain spelling clears decides no pair, the first
 -- AND of a list is no matter, and of a prefix only the bits of its pattern are compared. Assumes nothing.
 use mathlib.Core.Path.{◌≡◌, refl, sym, ap, ◌∙◌}
-use mathlib.Core.Bool.{Bool, true, false, cond, ◌&&◌, ◌||◌}
+use mathlib.Core.Bool.{Bool, true, false, ◌&&◌}
 use mathlib.Core.List.{List, [], ◌∷◌, map}
 use Prim.Native.Nat.{ℕ, ◌<◌}
 use lib.Bits.{bit_and}

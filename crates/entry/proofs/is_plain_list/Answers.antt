@@ -1,6 +1,5 @@
 -- What is left of the list decides whether all of it is plain: the pairs passed are.
 use borrow.Author.Rules.{rules}
-use Prim.Native.Nat.{◌-◌}
 use Rattle.entry.proofs.BodyLaws.{list-starts, list_done, value-some, list-out, list_on}
 use Rattle.entry.proofs.is_plain_list.Goals as goal
 

@@ -1,6 +1,5 @@
 -- The components from the place on decide what all of them do: those before it are plain. A component that was found lies in the value.
 use borrow.Author.Rules.{rules}
-use Prim.Native.Nat.{◌-◌}
 use native.Mathlib.Omega.{arith}
 use Rattle.rule.proofs.ValueLaws.{ends-behind, ends-inside}
 use Rattle.entry.proofs.ValueLaws.{value-outside, value-starts, body-found, value-nearer, value_on, value_out, value-end, value-cut}

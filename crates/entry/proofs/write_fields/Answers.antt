@@ -1,6 +1,5 @@
 -- The invariant is that what is left to write gives the same; one more field is one more store right behind the last.
 use borrow.Author.Rules.{rules}
-use Prim.Native.Nat.{◌-◌}
 use native.Mathlib.Omega.{arith}
 use Rattle.entry.proofs.RecordLaws.{writing-starts, field_room, writing-on, written_all}
 use Rattle.entry.proofs.write_fields.Goals as goal

@@ -1,5 +1,4 @@
 -- Parts are passed plus by plus, and each is spelled behind those before it: that never passes the room.
-use Prim.Native.Nat.{◌-◌}
 use native.Mathlib.Omega.{arith}
 use Rattle.fields.proofs.put_field.Goals as goal
 

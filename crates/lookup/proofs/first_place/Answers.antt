@@ -1,5 +1,4 @@
 -- The walk has met no match so far.
-use Prim.Native.Nat.{◌-◌}
 use mathlib.Core.Path.{◌≡◌, sym, ◌∙◌}
 use native.Mathlib.Omega.{arith}
 use Rattle.table.specs.declared.NextRecord.TheVariants.{Record}

@@ -1,6 +1,5 @@
 -- What was collected and what is left of the table give the verdict.
 use borrow.Author.Rules.{rules}
-use Prim.Native.Nat.{◌-◌}
 use mathlib.Core.Path.{◌≡◌, sym, ◌∙◌}
 use native.Mathlib.Omega.{arith}
 use Rattle.table.specs.declared.NextRecord.TheVariants.{Record}

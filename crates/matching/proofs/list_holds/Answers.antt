@@ -1,6 +1,5 @@
 -- The list judged so far with the pairs still to come gives what the whole list gives; each turn judges one pair.
 use borrow.Author.Rules.{rules}
-use Prim.Native.Nat.{◌-◌}
 use Rattle.matching.proofs.ListLaws.{body-start, list_on, list-last, list-cut, more-inside, last-inside, more-nearer}
 use Rattle.matching.proofs.list_holds.Goals as goal
 

@@ -1,6 +1,5 @@
 -- The components from the place on decide what all of them do: those before it match. A component that was found lies in the value.
 use borrow.Author.Rules.{rules}
-use Prim.Native.Nat.{◌-◌}
 use Rattle.rule.proofs.ValueLaws.{ends-behind, ends-inside}
 use Rattle.matching.proofs.MatchLaws.{from_start, rule-on, rule-out, rule-nearer, rule_end, rule-cut}
 use Rattle.matching.proofs.matches_rule.Goals as goal

@@ -1,6 +1,5 @@
 -- The components passed tie, so that the order of both values is the order of what is left of them.
 use borrow.Author.Rules.{rules}
-use Prim.Native.Nat.{◌-◌}
 use mathlib.Core.Path.{refl}
 use native.Mathlib.Omega.{arith}
 use Rattle.rule.specs.Value.{components}
