@@ -3,11 +3,7 @@ use native.Mathlib.Omega.{arith}
 use Rattle.text.proofs.DecimalLaws.{decimal-short}
 use Rattle.answers.specs.Answer.{count_text}
 use Rattle.answers.proofs.PrintLaws.{printed-then}
-use Rattle.answers.proofs.put_count.Goals.{Start}
 use Rattle.answers.proofs.put_count.Goals as goal
-
--- ALIAS dropped: abbrev start : tie.After-put-decimal-arg → tie.Start
--- start c = c.before.before.before.before.before.before.before
 
 pub put_decimal-end-requires : goal.put_decimal-end-requires
 put_decimal-end-requires c = omega (arith, decimal-short c.args.count (omega arith))

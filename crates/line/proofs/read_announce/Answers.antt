@@ -5,11 +5,8 @@ use Rattle.line.specs.Line.{is_rule}
 use Rattle.line.specs.Form.{Fielded, Numbered}
 use Rattle.line.proofs.FormLaws.{was-there, was-number, field-fails, number-fails, passes, goes_on}
 use Rattle.line.proofs.ReadLaws.{no-announce, announce-read}
-use Rattle.line.proofs.read_announce.Goals.{In-At, In-At-field_behind, In-Read, Start}
+use Rattle.line.proofs.read_announce.Goals.{In-At, In-At-field_behind, In-Read}
 use Rattle.line.proofs.read_announce.Goals as goal
-
--- ALIAS dropped: abbrev start : tie.After-known-told → tie.Start
--- start c = c.before.before.before.before.before
 
 there : (c : In-At) → Fielded is_rule c.args.line.now c.args.word c.in-At.start c.in-At.end
 there c = was-there _ _ _ _ c.field_behind.ensures _ _ c.in-At.is
@@ -27,10 +24,21 @@ pub returns-in_default-number_behind : goal.returns-in_default-number_behind
 returns-in_default-number_behind c = no-announce _ _ (passes _ _ _ _ _ _ (there (goal.at.returns-in_default-number_behind c).In-At) ∙ number-fails _ _ _ c.number_behind.ensures _ c.in_default-number_behind.is)
 
 pub returns-in_default-field_behind : goal.returns-in_default-field_behind
-returns-in_default-field_behind c = no-announce _ _ (passes _ _ _ _ _ _ (there (goal.at.returns-in_default-field_behind c).In-At) ∙ passes _ _ _ _ _ _ (numbered (goal.at.returns-in_default-field_behind c).In-Read).there ∙ field-fails _ _ _ _ c.field_behind-2.ensures _ c.in_default-field_behind.is)
+returns-in_default-field_behind c =
+    let k = goal.at.returns-in_default-field_behind c in
+    no-announce _ _ (passes _ _ _ _ _ _ (there k.In-At)
+    ∙ passes _ _ _ _ _ _ (numbered k.In-Read).there
+    ∙ field-fails _ _ _ _ c.field_behind-2.ensures _ c.in_default-field_behind.is)
 
 pub returns-then-last-line : goal.returns-then-last-line
-returns-then-last-line c = no-announce _ _ (passes _ _ _ _ _ _ (there (goal.at.returns-then-last-line c).In-At) ∙ passes _ _ _ _ _ _ (numbered (goal.at.returns-then-last-line c).In-Read).there ∙ passes _ _ _ _ _ _ (behind-it (goal.at.returns-then-last-line c).In-At-field_behind) ∙ goes_on _ _ c.if-last-line.true)
+returns-then-last-line c =
+    let k = goal.at.returns-then-last-line c in
+    no-announce _ _ (passes _ _ _ _ _ _ (there k.In-At)
+    ∙ passes _ _ _ _ _ _ (numbered k.In-Read).there
+    ∙ passes _ _ _ _ _ _ (behind-it k.In-At-field_behind)
+    ∙ goes_on _ _ c.if-last-line.true)
 
 pub returns : goal.returns
-returns c = announce-read _ _ _ _ (there (goal.at.returns c).In-At) _ _ (numbered (goal.at.returns c).In-Read) _ _ (behind-it (goal.at.returns c).In-At-field_behind) c.if-last-line.false
+returns c =
+    let k = goal.at.returns c in
+    announce-read _ _ _ _ (there k.In-At) _ _ (numbered k.In-Read) _ _ (behind-it k.In-At-field_behind) c.if-last-line.false

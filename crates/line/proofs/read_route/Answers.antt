@@ -28,14 +28,28 @@ pub returns-in_default-number_behind : goal.returns-in_default-number_behind
 returns-in_default-number_behind c = no-route _ _ (passes _ _ _ _ _ _ (there (goal.at.returns-in_default-number_behind c).In-At) ∙ number-fails _ _ _ c.number_behind.ensures _ c.in_default-number_behind.is)
 
 pub returns-in_default-number_behind-2 : goal.returns-in_default-number_behind-2
-returns-in_default-number_behind-2 c = no-route _ _ (passes _ _ _ _ _ _ (there (goal.at.returns-in_default-number_behind-2 c).In-At) ∙ passes _ _ _ _ _ _ (sized (goal.at.returns-in_default-number_behind-2 c).In-Read).there ∙ number-fails _ _ _ c.number_behind-2.ensures _ c.in_default-number_behind-2.is)
+returns-in_default-number_behind-2 c =
+    let k = goal.at.returns-in_default-number_behind-2 c in
+    no-route _ _ (passes _ _ _ _ _ _ (there k.In-At)
+    ∙ passes _ _ _ _ _ _ (sized k.In-Read).there
+    ∙ number-fails _ _ _ c.number_behind-2.ensures _ c.in_default-number_behind-2.is)
 
 pub returns-in_default-number_behind-3 : goal.returns-in_default-number_behind-3
-returns-in_default-number_behind-3 c = no-route _ _ (passes _ _ _ _ _ _ (there (goal.at.returns-in_default-number_behind-3 c).In-At) ∙ passes _ _ _ _ _ _ (sized (goal.at.returns-in_default-number_behind-3 c).In-Read).there ∙ passes _ _ _ _ _ _ (from (goal.at.returns-in_default-number_behind-3 c).In-Read-number_behind).there ∙ number-fails _ _ _ c.number_behind-3.ensures _ c.in_default-number_behind-3.is)
+returns-in_default-number_behind-3 c =
+    let k = goal.at.returns-in_default-number_behind-3 c in
+    no-route _ _ (passes _ _ _ _ _ _ (there k.In-At)
+    ∙ passes _ _ _ _ _ _ (sized k.In-Read).there
+    ∙ passes _ _ _ _ _ _ (from k.In-Read-number_behind).there
+    ∙ number-fails _ _ _ c.number_behind-3.ensures _ c.in_default-number_behind-3.is)
 
 pub returns-then-last-line : goal.returns-then-last-line
-returns-then-last-line c = no-route _ _ (passes _ _ _ _ _ _ (there (goal.at.returns-then-last-line c).In-At) ∙ passes _ _ _ _ _ _ (sized (goal.at.returns-then-last-line c).In-Read).there ∙ passes _ _ _ _ _ _ (from (goal.at.returns-then-last-line c).In-Read-number_behind).there
-    ∙ passes _ _ _ _ _ _ (by (goal.at.returns-then-last-line c).In-Read-number_behind-2).there ∙ goes_on _ _ c.if-last-line.true)
+returns-then-last-line c =
+    let k = goal.at.returns-then-last-line c in
+    no-route _ _ (passes _ _ _ _ _ _ (there k.In-At)
+    ∙ passes _ _ _ _ _ _ (sized k.In-Read).there
+    ∙ passes _ _ _ _ _ _ (from k.In-Read-number_behind).there
+    ∙ passes _ _ _ _ _ _ (by k.In-Read-number_behind-2).there
+    ∙ goes_on _ _ c.if-last-line.true)
 
 pub slice_bounds-word_in-count : goal.slice_bounds-word_in-count
 slice_bounds-word_in-count c = omega (arith, there (goal.at.slice_bounds-word_in-count c).In-At)
@@ -47,4 +61,6 @@ pub slice_bounds-word_in-end : goal.slice_bounds-word_in-end
 slice_bounds-word_in-end c = omega (arith, there (goal.at.slice_bounds-word_in-end c).In-At)
 
 pub returns : goal.returns
-returns c = route-read _ _ _ _ (there (goal.at.returns c).In-At) _ _ (sized (goal.at.returns c).In-Read) _ _ (from (goal.at.returns c).In-Read-number_behind) _ _ (by (goal.at.returns c).In-Read-number_behind-2) c.if-last-line.false _ c.word_in-address.ensures
+returns c =
+    let k = goal.at.returns c in
+    route-read _ _ _ _ (there k.In-At) _ _ (sized k.In-Read) _ _ (from k.In-Read-number_behind) _ _ (by k.In-Read-number_behind-2) c.if-last-line.false _ c.word_in-address.ensures

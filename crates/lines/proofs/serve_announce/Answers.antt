@@ -2,7 +2,6 @@
 use Rattle.flowspec.specs.declared.Announced.TheVariants.{Held, Refused}
 use Rattle.lines.proofs.ServeLaws.{read-within, read-size, read_is, announce-printed}
 use native.Mathlib.Omega.{arith}
-use Rattle.lines.proofs.serve_announce.Goals.{After-announce, Start}
 use Rattle.lines.proofs.serve_announce.Goals as goal
 
 pub slice_bounds-octets-end : goal.slice_bounds-octets-end
@@ -16,9 +15,6 @@ slice_bounds-actions-end c = read-within _ _ _ _ c.read_octets-count.ensures (om
 
 pub slice_bounds-announce-end-2 : goal.slice_bounds-announce-end-2
 slice_bounds-announce-end-2 c = read-size _ _ _ _ c.read_octets-count.ensures (omega arith)
-
--- ALIAS dropped: abbrev start : tie.After-announce → tie.Start
--- start c = c.before.before.before.before.before.before.before.before.before.before.before.before.before.before.before
 
 pub returns-in-Held : goal.returns-in-Held
 returns-in-Held c =

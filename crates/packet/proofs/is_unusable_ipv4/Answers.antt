@@ -2,7 +2,6 @@
 use native.Mathlib.Omega.{arith}
 use Rattle.packet.proofs.HeaderLaws.{words-bounded, too_few, other-version, short-header, by_total}
 use borrow.Author.Rules.{rules}
-use Rattle.packet.proofs.is_unusable_ipv4.Goals.{Start}
 use Rattle.packet.proofs.is_unusable_ipv4.Goals as goal
 
 pub returns-then-octets-lt20 : goal.returns-then-octets-lt20
@@ -13,9 +12,6 @@ returns-then-version-family c = search (other-version, rules)
 
 pub returns-then-words-lt5 : goal.returns-then-words-lt5
 returns-then-words-lt5 c = search (short-header, rules)
-
--- ALIAS dropped: abbrev start : tie.After-number-at → tie.Start
--- start c = c.before.before.before.before.before.before.before
 
 pub overflow_cast-header : goal.overflow_cast-header
 overflow_cast-header c = omega (arith, words-bounded c.args.octets.now)
