@@ -7,6 +7,7 @@ use native.Mathlib.Omega.{arith}
 use lib.Dec.{leb, eqb}
 use lib.ListN.{length}
 use borrow.Author.Tests.{eqb-false}
+use Rattle.std.proofs.Common.{Option, Some, None}
 use Rattle.octets.specs.Order.{ordered}
 use Rattle.octets.specs.declared.Order.{Order}
 use Rattle.octets.specs.declared.Order.TheVariants.{First as OrderFirst, Second as OrderSecond, Same as OrderSame}
@@ -28,8 +29,7 @@ use Rattle.action.specs.declared.Actions.{Actions}
 use Rattle.action.specs.declared.Reading.{Reading as ActionsReading}
 use Rattle.action.specs.declared.Reading.TheVariants.{Read, Unsound}
 use Rattle.action.specs.Actions.{actions_of}
-use Rattle.packet.specs.declared.Reading.{Reading as PacketReading}
-use Rattle.packet.specs.declared.Reading.TheVariants.{Usable, Unusable}
+use Rattle.packet.specs.declared.Packet.{Packet}
 use Rattle.packet.specs.Packet.{packet_of}
 use Rattle.entry.specs.Entry.{Entry, entry_key}
 use Rattle.table.specs.Walk.{entries}
@@ -198,6 +198,6 @@ unfolding looking_up opening
 not-looked-up family t octets number place e =
     subst Looks e (by-test (sound_table family t) (λ s. rw s (go (packet_of family octets))) (λ s. rw s (placeless 10 (omega arith) (omega arith))))
   where
-    go : (s : PacketReading) → Looks (looked_up family t (opening_of s))
-    go Unusable = placeless 12 (omega arith) (omega arith)
-    go (Usable packet) = tt
+    go : (s : Option Packet) → Looks (looked_up family t (opening_of s))
+    go None = placeless 12 (omega arith) (omega arith)
+    go (Some packet) = tt

@@ -5,14 +5,14 @@ use mathlib.Core.List.{List, [], ◌∷◌}
 use Prim.Native.Nat.{ℕ}
 use lib.Dec.{eqb}
 use lib.ListN.{length}
+use Rattle.std.proofs.Common.{Option, Some, None}
 use Rattle.octets.proofs.Cases.{by-test}
 use Rattle.rule.specs.declared.Family.{Family}
 use Rattle.action.specs.declared.Actions.{Actions}
 use Rattle.action.specs.Actions.{no_actions}
 use Rattle.action.specs.Merging.{merged}
 use Rattle.action.proofs.MergingLaws.{merged-no-T}
-use Rattle.packet.specs.declared.Reading.{Reading as PacketReading}
-use Rattle.packet.specs.declared.Reading.TheVariants.{Usable, Unusable}
+use Rattle.packet.specs.declared.Packet.{Packet}
 use Rattle.packet.specs.Packet.{packet_of}
 use Rattle.entry.specs.Entry.{Entry}
 use Rattle.lookup.specs.declared.Verdict.TheVariants.{Unmatched, Matched}
@@ -38,8 +38,8 @@ pub lookup-no-T : (family : Family) (t octets : List ℕ) → NoT (looking_up fa
 unfolding looking_up opening verdict_for verdict_of
 lookup-no-T family t octets = by-test (sound_table family t) (λ s. rw s (go (packet_of family octets))) (λ s. rw s tt)
   where
-    go : (s : PacketReading) → NoT (looked_up family t (opening_of s))
-    go Unusable = tt
-    go (Usable packet) =
+    go : (s : Option Packet) → NoT (looked_up family t (opening_of s))
+    go None = tt
+    go (Some packet) =
         let es = collected (hit family no_head packet) (entries t) in
         by-test (eqb (length es) 0) (λ z. rw z tt) (λ z. rw z (onto-no-T no_actions es refl))

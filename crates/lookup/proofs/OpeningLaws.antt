@@ -2,10 +2,9 @@
 use mathlib.Core.Path.{◌≡◌}
 use mathlib.Core.List.{List}
 use Prim.Native.Nat.{ℕ}
+use Rattle.std.proofs.Common.{Option, Some, None}
 use Rattle.rule.specs.declared.Family.{Family}
 use Rattle.packet.specs.declared.Packet.{Packet}
-use Rattle.packet.specs.declared.Reading.{Reading as PacketReading}
-use Rattle.packet.specs.declared.Reading.TheVariants.{Usable, Unusable}
 use Rattle.packet.specs.Packet.{packet_of}
 use Rattle.table.specs.declared.Soundness.{Soundness}
 use Rattle.table.specs.declared.Soundness.TheVariants.{Sound, Unsound}
@@ -19,11 +18,11 @@ module _ (family : Family) (t octets : List ℕ) (s : Soundness) (is : s ≡ sou
   unfolding opening
   see-unsound e = rw (was-unsound family t s is e)
 
-  module _ (used : ℕ) (e : s ≡ Sound used) (sight : PacketReading) (shows : sight ≡ packet_of family octets) where
-    pub see-unusable : sight ≡ Unusable → NotOpened 12 ≡ opening family t octets
+  module _ (used : ℕ) (e : s ≡ Sound used) (sight : Option Packet) (shows : sight ≡ packet_of family octets) where
+    pub see-unusable : sight ≡ None → NotOpened 12 ≡ opening family t octets
     unfolding opening
     see-unusable f = rw ((was-sound family t s is used e).0, ← shows, f)
 
-    pub see-usable : (packet : Packet) → sight ≡ Usable packet → With packet ≡ opening family t octets
+    pub see-usable : (packet : Packet) → sight ≡ Some packet → With packet ≡ opening family t octets
     unfolding opening
     see-usable packet f = rw ((was-sound family t s is used e).0, ← shows, f)

@@ -46,8 +46,8 @@ pub fn open_lookup(family: Family, table: &[u8], packet: &[u8]) -> Opening
     match table::sound_table(family, table) {
         Soundness::Unsound => Opening::Refused(10),
         Soundness::Sound(_) => match packet::packet_of(family, packet) {
-            packet::Reading::Unusable => Opening::Refused(12),
-            packet::Reading::Usable(shown) => Opening::With(shown),
+            None => Opening::Refused(12),
+            Some(shown) => Opening::With(shown),
         },
     }
 }

@@ -4,6 +4,7 @@ use mathlib.Core.Path.{◌≡◌, refl}
 use mathlib.Core.Bool.{Bool, true, false, not, ◌&&◌}
 use mathlib.Core.List.{List, [], ◌∷◌, ◌++◌}
 use Prim.Native.Nat.{ℕ}
+use Rattle.std.proofs.Common.{Option, Some, None}
 use Rattle.octets.specs.Test.{every, one_holds, same_list}
 use Rattle.octets.specs.Number.{number_at}
 use Rattle.octets.specs.Walk.{walk}
@@ -14,10 +15,7 @@ use Rattle.rule.specs.Operator.{ends_list, size_of}
 use Rattle.rule.specs.Component.{pair_at, pairs_from, lead_of, offset_at, prefix_end, body_end, component_at}
 use Rattle.rule.specs.Value.{components_from, components}
 use Rattle.spelling.specs.Plain.{plain_operand}
-use Rattle.packet.specs.declared.Field.TheVariants.{Shown, Hidden}
 use Rattle.packet.specs.declared.Packet.{Packet}
-use Rattle.packet.specs.declared.Reading.{Reading}
-use Rattle.packet.specs.declared.Reading.TheVariants.{Usable, Unusable}
 use Rattle.packet.specs.Header.{ipv4_unusable}
 use Rattle.packet.specs.Transport.{transport_octets, transport_fields}
 use Rattle.packet.specs.Packet.{fragment_data, ipv4_fields, is_unusable, fields_of, packet_of}
@@ -30,9 +28,9 @@ use Rattle.matching.specs.Match.{holds_for, body_holds, field_matches, fields_fo
 abbrev met : List ℕ → List ℕ → Bool
 met octets value = seen (packet_of ipv4 octets)
   where
-    seen : Reading → Bool
-    seen (Usable packet) = matches ipv4 value packet
-    seen Unusable = false
+    seen : Option Packet → Bool
+    seen (Some packet) = matches ipv4 value packet
+    seen None = false
 
 -- TCP's header from port 1024 to port 80, of five words, with SYN
 abbrev syn : List ℕ
@@ -178,19 +176,19 @@ seen =
     record {
       destination = record { high = 0x20010db800000000; low = 0x123456789a000001 };
       source = record { high = 0x20010db800000000; low = 2 };
-      protocol = Hidden;
+      protocol = None;
       length = 65575;
       dscp = 0;
       fragment = 0;
       transport =
           record {
-            source_port = Hidden;
-            destination_port = Hidden;
-            icmp_type = Shown 128;
-            icmp_code = Shown 0;
-            flags = Hidden;
+            source_port = None;
+            destination_port = None;
+            icmp_type = Some 128;
+            icmp_code = Some 0;
+            flags = None;
           };
-      label = Shown 0x12345;
+      label = Some 0x12345;
     }
 
 -- RFC 8956 section 3.8's pattern from bit 64 up to 104, and others with and without an offset; the lowest bit of a fragment value is ignored;

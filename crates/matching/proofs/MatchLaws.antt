@@ -7,6 +7,7 @@ use native.Mathlib.Omega.{arith}
 use lib.Dec.{ltb, eqb}
 use lib.ListN.{length}
 use borrow.Author.Tests.{ltb-true, ne_eqb, not-true, not-false}
+use Rattle.std.proofs.Common.{Option, Some}
 use Rattle.octets.specs.Test.{every, one_holds}
 use Rattle.octets.specs.Walk.{Walk}
 use Rattle.octets.proofs.Cases.{by-test}
@@ -20,20 +21,8 @@ use Rattle.rule.specs.Shape.{shape_of}
 use Rattle.rule.specs.Component.{component_at}
 use Rattle.rule.specs.Value.{Component, between, components_from, components, component}
 use Rattle.rule.proofs.ValueLaws.{was-found, components-more, components-none, components-refused}
-use Rattle.packet.specs.declared.Field.{Field}
-use Rattle.packet.specs.declared.Field.TheVariants.{Shown, Hidden}
 use Rattle.packet.specs.declared.Packet.{Packet}
 use Rattle.matching.specs.Match.{body_holds, field_matches, fields_for, body_covers, address_for, component_matches, matches}
-
--- how `field_matches` comes to each of its answers
-module _ (shape : Shape) (body : List ℕ) (field : Field) where
-  pub shown-matches : (number : ℕ) (r : Bool) → field ≡ Shown number → r ≡ body_holds shape body number → r ≡ field_matches shape body field
-  unfolding field_matches
-  shown-matches number r e f = rw e f
-
-  pub hidden-matches : field ≡ Hidden → false ≡ field_matches shape body field
-  unfolding field_matches
-  hidden-matches e = rw e
 
 -- how `body_covers` comes to its answer
 pub covered : (family : Family) (body : List ℕ) (address : ℕ) (pattern : Pattern) (r : Bool) → pattern ≡ pattern_in family.width family.offsets body
@@ -62,7 +51,7 @@ module _ (family : Family) (kind : ℕ) (body : List ℕ) (packet : Packet) wher
 
   -- n is the type of a row of the fields, at which that definition computes
   module _ (n : ℕ) (is : kind ≡ n) (list : ltb 2 n ≡ true) (shape : Shape) (has : shape ≡ shape_of family kind) where
-    row_holds : (fields : List Field) → fields_for n packet ≡ fields → component_matches family packet (component kind body) ≡ one_holds (field_matches shape body) fields
+    row_holds : (fields : List (Option ℕ)) → fields_for n packet ≡ fields → component_matches family packet (component kind body) ≡ one_holds (field_matches shape body) fields
     unfolding component_matches
     row_holds fields row =
         let above = ltb-true 2 n list in
@@ -70,19 +59,20 @@ module _ (family : Family) (kind : ℕ) (body : List ℕ) (packet : Packet) wher
         ap (λ (prefix : Bool). cond prefix (body_covers family body (address_of (address_for kind packet))) (one_holds (field_matches (shape_of family kind) body) (fields_for kind packet))) none
         ∙ rw (← has, is, row)
 
-    pub on-field : (field : Field) (r : Bool) → fields_for n packet ≡ field ∷ [] → r ≡ field_matches shape body field
+    pub on-field : (field : Option ℕ) (r : Bool) → fields_for n packet ≡ field ∷ [] → r ≡ field_matches shape body field
         → r ≡ component_matches family packet (component kind body)
     unfolding one_holds
     on-field field r row e = e ∙ sym (row_holds (field ∷ []) row ∙ or-false (field_matches shape body field))
 
-    pub on-either : (one other : Field) (a b : Bool) → fields_for n packet ≡ one ∷ other ∷ [] → a ≡ field_matches shape body one
+    pub on-either : (one other : Option ℕ) (a b : Bool) → fields_for n packet ≡ one ∷ other ∷ [] → a ≡ field_matches shape body one
         → b ≡ field_matches shape body other → a || b ≡ component_matches family packet (component kind body)
     unfolding one_holds
     on-either one other a b row e f = rw (e, f) (sym (row_holds (one ∷ other ∷ []) row ∙ rw (or-false (field_matches shape body other))))
 
-    pub on-number : («data» : ℕ) (r : Bool) → fields_for n packet ≡ Shown «data» ∷ [] → r ≡ body_holds shape body «data»
+    pub on-number : («data» : ℕ) (r : Bool) → fields_for n packet ≡ Some «data» ∷ [] → r ≡ body_holds shape body «data»
         → r ≡ component_matches family packet (component kind body)
-    on-number «data» r row e = on-field (Shown «data») r row (shown-matches shape body (Shown «data») «data» r refl e)
+    unfolding field_matches
+    on-number «data» r row e = on-field (Some «data») r row e
 
 -- a type that has no row matches nothing
 pub on-nothing : (family : Family) (kind : ℕ) (body : List ℕ) (packet : Packet) → (kind ≡ 1 → ⊥) → (kind ≡ 2 → ⊥) → (kind ≡ 3 → ⊥) → (kind ≡ 4 → ⊥) → (kind ≡ 5 → ⊥)

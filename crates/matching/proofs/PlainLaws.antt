@@ -5,6 +5,7 @@ use mathlib.Core.Bool.{Bool, true, false, ◌&&◌}
 use mathlib.Core.List.{List, [], ◌∷◌, map}
 use Prim.Native.Nat.{ℕ, ◌<◌}
 use lib.Bits.{bit_and}
+use Rattle.std.proofs.Common.{Option, Some, None}
 use Rattle.octets.specs.Test.{every, one_holds, Each}
 use Rattle.octets.proofs.Cases.{by-test}
 use Rattle.octets.proofs.Facts.{Octets, octet}
@@ -22,8 +23,6 @@ use Rattle.rule.proofs.ComponentLaws.{pairs-ind}
 use Rattle.spelling.proofs.ClearedLaws.{operator-small, operand-again}
 use Rattle.spelling.proofs.SpellingLaws.{pairs-plain, components-plain}
 use Rattle.rule.proofs.ComponentsLaws.{PrefixBody, SoundComponent, each-octets, each-sound}
-use Rattle.packet.specs.declared.Field.{Field}
-use Rattle.packet.specs.declared.Field.TheVariants.{Shown, Hidden}
 use Rattle.packet.specs.declared.Packet.{Packet}
 use Rattle.matching.specs.PairList.{list_holds}
 use Rattle.matching.specs.Match.{holds_for, pair_holds, body_holds, field_matches, fields_for, body_covers, address_for, component_matches, matches}
@@ -97,13 +96,13 @@ module _ (family : Family) (kind : ℕ) (body : List ℕ) (o : Octets body) wher
   unfolding body_holds
   body-plain «data» = rw (pairs-plain family kind body o) (list-plain shape «data» (pairs_from shape.largest body 0).items (pairs_small shape «data» body o))
 
-  field_plain : (field : Field) → field_matches shape spelled field ≡ field_matches shape body field
+  field_plain : (field : Option ℕ) → field_matches shape spelled field ≡ field_matches shape body field
   unfolding field_matches
-  field_plain (Shown «data») = body-plain «data»
-  field_plain Hidden = refl
+  field_plain (Some «data») = body-plain «data»
+  field_plain None = refl
 
   -- and one of several fields
-  fields-plain : (fields : List Field) → one_holds (field_matches shape spelled) fields ≡ one_holds (field_matches shape body) fields
+  fields-plain : (fields : List (Option ℕ)) → one_holds (field_matches shape spelled) fields ≡ one_holds (field_matches shape body) fields
   unfolding one_holds
   fields-plain [] = refl
   fields-plain (field ∷ fields) = rw (field_plain field, fields-plain fields)

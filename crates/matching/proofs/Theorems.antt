@@ -10,6 +10,7 @@ use lib.Bits.{bit_and, and_mask, and_block, and_zero_r}
 use lib.Dec.{leb, ltb, eqb}
 use lib.ListN.{length, get_or}
 use borrow.Author.Tests.{eqb-true, eqb-false, leb-true, lt-leb}
+use Rattle.std.proofs.Common.{Some, None}
 use Rattle.octets.specs.Test.{every, one_holds, Each}
 use Rattle.octets.specs.Number.{number_at}
 use Rattle.octets.proofs.Cases.{by-test, apart, both}
@@ -24,9 +25,7 @@ use Rattle.spelling.specs.Plain.{plain_operand}
 use Rattle.spelling.proofs.PlainLaws.{operand_small}
 use Rattle.rule.proofs.ComponentsLaws.{each-found}
 use Rattle.packet.specs.declared.Packet.{Packet}
-use Rattle.packet.specs.declared.Reading.TheVariants.{Usable}
 use Rattle.packet.specs.Header.{fragment_field, fragment_offset}
-use Rattle.packet.specs.declared.Field.TheVariants.{Hidden}
 use Rattle.packet.specs.Header6.{counted}
 use Rattle.packet.specs.Packet.{fields_of, packet_of}
 use Rattle.packet.specs.Transport.{hidden}
@@ -96,7 +95,7 @@ module _ (family : Family) (packet : Packet) (shows : packet.transport ≡ hidde
   never_met value = one-fails family packet asks_transport never-matches (components family value)
 
   -- the same of the protocol or upper layer and the transport header, where both are hidden
-  module _ (none : packet.protocol ≡ Hidden) where
+  module _ (none : packet.protocol ≡ None) where
     no-upper-matches : (component : Component) → asks_upper component ≡ true → component_matches family packet component ≡ false
     unfolding component_matches shape_of fields_for field_matches one_holds
     no-upper-matches component asks =
@@ -108,14 +107,14 @@ module _ (family : Family) (packet : Packet) (shows : packet.transport ≡ hidde
     no-upper value = one-fails family packet asks_upper no-upper-matches (components family value)
 
 -- a later fragment meets no rule with a port, ICMP or flags component, whatever its operators
-pub later-fragment : (value s : List ℕ) (packet : Packet) → packet_of ipv4 s ≡ Usable packet → (fragment_offset (fragment_field s) ≡ 0 → ⊥)
+pub later-fragment : (value s : List ℕ) (packet : Packet) → packet_of ipv4 s ≡ Some packet → (fragment_offset (fragment_field s) ≡ 0 → ⊥)
     → one_holds asks_transport (components ipv4 value) ≡ true → matches ipv4 value packet ≡ false
 unfolding fields_of
 later-fragment value s packet seen later asks =
     never_met ipv4 packet (ap (λ (p : Packet). p.transport) (usable-fields ipv4 s packet seen) ∙ later-hidden ipv4 s later) value asks
 
 -- the same of IPv6
-pub later-fragment-six : (value s : List ℕ) (packet : Packet) → packet_of ipv6 s ≡ Usable packet
+pub later-fragment-six : (value s : List ℕ) (packet : Packet) → packet_of ipv6 s ≡ Some packet
     → (offset_of_fragment (upper_layer (counted s)).progress.field ≡ 0 → ⊥)
     → one_holds asks_transport (components ipv6 value) ≡ true → matches ipv6 value packet ≡ false
 unfolding fields_of
@@ -123,7 +122,7 @@ later-fragment-six value s packet seen later asks =
     never_met ipv6 packet (ap (λ (p : Packet). p.transport) (usable-fields ipv6 s packet seen) ∙ later-six-hidden ipv6 s later) value asks
 
 -- a packet in which the walk finds no upper layer meets no rule with a component of the types 3 to 9, whatever its operators
-pub lost-walk : (value s : List ℕ) (packet : Packet) → packet_of ipv6 s ≡ Usable packet → (upper_layer (counted s)).found ≡ false
+pub lost-walk : (value s : List ℕ) (packet : Packet) → packet_of ipv6 s ≡ Some packet → (upper_layer (counted s)).found ≡ false
     → one_holds asks_upper (components ipv6 value) ≡ true → matches ipv6 value packet ≡ false
 unfolding fields_of
 lost-walk value s packet seen lost asks =

@@ -1,6 +1,6 @@
 -- Whether a packet matches a rule (RFC 8955 section 4.2): when it matches each of the rule's components. A prefix is matched
 -- by an address that it covers, a list of pairs by a field of the packet; a field that the packet hides matches no list.
-use Rattle.std.specs.Prelude.{ℕ, Bool, false, cond, List, [], ◌∷◌, eqb}
+use Rattle.std.specs.Prelude.{ℕ, Bool, false, cond, List, [], ◌∷◌, eqb, Option, Some, None}
 use Rattle.octets.specs.Test.{every, one_holds}
 use Rattle.prefix.specs.declared.Address.{Address}
 use Rattle.prefix.specs.Prefix.{address_of, covers_address, pattern_in}
@@ -10,8 +10,6 @@ use Rattle.rule.specs.Shape.{shape_of}
 use Rattle.rule.specs.Component.{Pair, pairs_from}
 use Rattle.rule.specs.Value.{Component, components}
 use Rattle.spelling.specs.Plain.{plain_operand}
-use Rattle.packet.specs.declared.Field.{Field}
-use Rattle.packet.specs.declared.Field.TheVariants.{Shown, Hidden}
 use Rattle.packet.specs.declared.Packet.{Packet}
 use Rattle.matching.specs.Operator.{numeric_holds, bitmask_holds}
 use Rattle.matching.specs.PairList.{list_holds}
@@ -32,18 +30,18 @@ unfoldable pub body_holds : Shape → List ℕ → ℕ → Bool
 body_holds shape body «data» = list_holds (pair_holds shape «data») (pairs_from shape.largest body 0).items
 
 -- Whether the list holds of a field. 01: "Otherwise that component never matches, whatever its operators": so of a hidden one.
-unfoldable pub field_matches : Shape → List ℕ → Field → Bool
-field_matches shape body (Shown «data») = body_holds shape body «data»
-field_matches shape body Hidden = false
+unfoldable pub field_matches : Shape → List ℕ → Option ℕ → Bool
+field_matches shape body (Some «data») = body_holds shape body «data»
+field_matches shape body None = false
 
 -- What a type that has no row here is judged on: no field, so that it matches no packet. No component of a rule comes to it (`has-field` in
 -- proofs/Theorems.antt).
-abbrev pub no_field : List Field
+abbrev pub no_field : List (Option ℕ)
 no_field = []
 
 -- The fields that a list of the given type is judged on, in the order of sections 4.2.2.3 to 4.2.2.12, and RFC 8956 section 3.7 for the flow
 -- label; one of them must match. 01: "For type 4 the whole list is judged on one port, then on the other."
-unfoldable pub fields_for : ℕ → Packet → List Field
+unfoldable pub fields_for : ℕ → Packet → List (Option ℕ)
 fields_for kind packet =
     cond (eqb kind 3) (packet.protocol ∷ [])
     (cond (eqb kind 4) (packet.transport.source_port ∷ packet.transport.destination_port ∷ [])
@@ -52,9 +50,9 @@ fields_for kind packet =
     (cond (eqb kind 7) (packet.transport.icmp_type ∷ [])
     (cond (eqb kind 8) (packet.transport.icmp_code ∷ [])
     (cond (eqb kind 9) (packet.transport.flags ∷ [])
-    (cond (eqb kind 10) (Shown packet.length ∷ [])
-    (cond (eqb kind 11) (Shown packet.dscp ∷ [])
-    (cond (eqb kind 12) (Shown packet.fragment ∷ [])
+    (cond (eqb kind 10) (Some packet.length ∷ [])
+    (cond (eqb kind 11) (Some packet.dscp ∷ [])
+    (cond (eqb kind 12) (Some packet.fragment ∷ [])
     (cond (eqb kind 13) (packet.label ∷ []) no_field))))))))))
 
 -- Whether the prefix that a body spells covers an address.

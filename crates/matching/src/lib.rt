@@ -10,7 +10,7 @@ ghost use Rattle.matching.specs.Evaluation.{with_pair, evaluate_pair};
 ghost use Rattle.matching.specs.Match.{holds_for, body_holds, field_matches, body_covers, component_matches, matches};
 
 use octets::{number_at, octet_at};
-use packet::{Field, Packet};
+use packet::Packet;
 use prefix::Address;
 use rule::{Family, Next, NextPair, Shape};
 
@@ -131,13 +131,10 @@ fn list_holds(shape: Shape, body: &[u8], data: u64) -> bool
 // ---- Components and rules (section 4.2) ----
 
 // Whether the list that a body is holds of a field; of a hidden one it never does.
-fn field_matches(shape: Shape, body: &[u8], field: Field) -> bool
+fn field_matches(shape: Shape, body: &[u8], field: Option<u32>) -> bool
     ensures { result ≡ field_matches shape body.now field }
 {
-    match field {
-        Field::Shown(number) => list_holds(shape, body, number as u64),
-        Field::Hidden => false,
-    }
+    field.is_some_and(|number| list_holds(shape, body, number as u64))
 }
 
 // Whether the prefix that a body spells covers an address.
@@ -155,28 +152,22 @@ fn matches_component(family: Family, kind: u8, body: &[u8], packet: Packet) -> b
     ensures { result ≡ component_matches family packet (component kind body.now) }
 {
     let shape = rule::shape_of(family, kind);
-    let protocol = packet.protocol;
     let transport = packet.transport;
-    let source_port = transport.source_port;
-    let destination_port = transport.destination_port;
-    let icmp_type = transport.icmp_type;
-    let icmp_code = transport.icmp_code;
-    let flags = transport.flags;
-    let label = packet.label;
     match kind {
         1 => body_covers(family, body, packet.destination),
         2 => body_covers(family, body, packet.source),
-        3 => field_matches(shape, body, protocol),
-        4 => field_matches(shape, body, source_port) | field_matches(shape, body, destination_port),
-        5 => field_matches(shape, body, destination_port),
-        6 => field_matches(shape, body, source_port),
-        7 => field_matches(shape, body, icmp_type),
-        8 => field_matches(shape, body, icmp_code),
-        9 => field_matches(shape, body, flags),
+        3 => field_matches(shape, body, packet.protocol),
+        4 => field_matches(shape, body, transport.source_port)
+            | field_matches(shape, body, transport.destination_port),
+        5 => field_matches(shape, body, transport.destination_port),
+        6 => field_matches(shape, body, transport.source_port),
+        7 => field_matches(shape, body, transport.icmp_type),
+        8 => field_matches(shape, body, transport.icmp_code),
+        9 => field_matches(shape, body, transport.flags),
         10 => list_holds(shape, body, packet.length as u64),
         11 => list_holds(shape, body, packet.dscp as u64),
         12 => list_holds(shape, body, packet.fragment as u64),
-        13 => field_matches(shape, body, label),
+        13 => field_matches(shape, body, packet.label),
         // No component of a rule has another type.
         _ => false,
     }

@@ -6,13 +6,12 @@ use mathlib.Core.List.Memᴰ
 use mathlib.Core.List.{List, [], ◌∷◌, ◌++◌, map}
 use Prim.Native.Nat.{ℕ}
 use lib.ListN.{take, replicate}
+use Rattle.std.proofs.Common.{Option, Some, None}
 use Rattle.octets.specs.Number.{number_at}
 use Rattle.octets.specs.Walk.{walk}
 use Rattle.octets.proofs.Cases.{apart}
 use Rattle.rule.specs.Family.{ipv6}
 use Rattle.extension.specs.Extension.{offset_of_fragment, extension_at, fragment_at, header_at, headers_from, upper_layer, walked_over, before_fragment}
-use Rattle.packet.specs.declared.Field.{Field}
-use Rattle.packet.specs.declared.Field.TheVariants.{Shown, Hidden}
 use Rattle.packet.specs.declared.Packet.{Packet}
 use Rattle.packet.specs.Header6.{ipv6_unusable, counted, upper_octets}
 use Rattle.packet.specs.Transport.{has_ports, has_icmp, transport_fields}
@@ -42,11 +41,11 @@ usable = refl
 
 -- what is shown of the upper layer's number, of fragments, and of the source port
 pub record Seen : Type 0 where
-  pub protocol : Field
+  pub protocol : Option ℕ
   pub fragment : ℕ
-  pub port : Field
+  pub port : Option ℕ
 
-abbrev seen : Field → ℕ → Field → Seen
+abbrev seen : Option ℕ → ℕ → Option ℕ → Seen
 seen protocol fragment port = record { protocol = protocol; fragment = fragment; port = port }
 
 abbrev seen_in : List ℕ → Seen
@@ -64,14 +63,14 @@ pub chains : map seen_in
     ∷ own 0x60 12 0 (options 6 (3 ∷ 232 ∷ 0 ∷ []))
     ∷ own 0x60 4 50 ports ∷ own 0x60 4 51 ports ∷ own 0x60 4 59 ports ∷ own 0x60 4 135 ports
     ∷ [])
-    ≡ seen (Shown 6) 0 Hidden
-    ∷ seen (Shown 6) 0 Hidden
-    ∷ seen (Shown 6) 0 (Shown 1000)
-    ∷ seen (Shown 6) 0 (Shown 1000)
-    ∷ seen (Shown 17) 0 (Shown 1000)
-    ∷ seen (Shown 6) 0 Hidden
-    ∷ seen (Shown 6) 0 Hidden
-    ∷ seen (Shown 50) 0 Hidden ∷ seen (Shown 51) 0 Hidden ∷ seen (Shown 59) 0 Hidden ∷ seen (Shown 135) 0 Hidden
+    ≡ seen (Some 6) 0 None
+    ∷ seen (Some 6) 0 None
+    ∷ seen (Some 6) 0 (Some 1000)
+    ∷ seen (Some 6) 0 (Some 1000)
+    ∷ seen (Some 17) 0 (Some 1000)
+    ∷ seen (Some 6) 0 None
+    ∷ seen (Some 6) 0 None
+    ∷ seen (Some 50) 0 None ∷ seen (Some 51) 0 None ∷ seen (Some 59) 0 None ∷ seen (Some 135) 0 None
     ∷ []
 unfolding number_at walk extension_at fragment_at header_at headers_from upper_layer upper_octets transport_fields fragment_data ipv6_fields
 chains = refl
@@ -86,7 +85,7 @@ pub lost : map seen_in
     ∷ own 0x60 7 44 (fragment 6 1 ports)
     ∷ own 0x60 8 44 (take 7 (fragment 6 1 []))
     ∷ [])
-    ≡ seen Hidden 0 Hidden ∷ seen Hidden 0 Hidden ∷ seen Hidden 0 Hidden ∷ seen Hidden 0 Hidden ∷ seen Hidden 0 Hidden ∷ seen Hidden 0 Hidden ∷ []
+    ≡ seen None 0 None ∷ seen None 0 None ∷ seen None 0 None ∷ seen None 0 None ∷ seen None 0 None ∷ seen None 0 None ∷ []
 unfolding number_at walk extension_at fragment_at header_at headers_from upper_layer upper_octets transport_fields fragment_data ipv6_fields
 lost = refl
 
@@ -102,14 +101,14 @@ pub fragments : map seen_in
     ∷ own 0x60 20 44 (fragment 60 8 (options 6 ports))
     ∷ own 0x60 20 44 (fragment 44 1 (fragment 6 8 ports))
     ∷ [])
-    ≡ seen (Shown 6) 0 (Shown 1000)
-    ∷ seen (Shown 6) 0 (Shown 1000)
-    ∷ seen (Shown 6) 0x04 (Shown 1000)
-    ∷ seen (Shown 6) 0x02 Hidden
-    ∷ seen (Shown 6) 0x0a Hidden
-    ∷ seen (Shown 6) 0x04 (Shown 1000)
-    ∷ seen Hidden 0x0a Hidden
-    ∷ seen (Shown 44) 0x04 Hidden
+    ≡ seen (Some 6) 0 (Some 1000)
+    ∷ seen (Some 6) 0 (Some 1000)
+    ∷ seen (Some 6) 0x04 (Some 1000)
+    ∷ seen (Some 6) 0x02 None
+    ∷ seen (Some 6) 0x0a None
+    ∷ seen (Some 6) 0x04 (Some 1000)
+    ∷ seen None 0x0a None
+    ∷ seen (Some 44) 0x04 None
     ∷ []
 unfolding number_at walk extension_at fragment_at header_at headers_from upper_layer upper_octets transport_fields fragment_data ipv6_fields
 fragments = refl
@@ -130,7 +129,7 @@ middle-offset = refl
 pub middle-later : LaterFragment middle 48
 middle-later = record { walked = rw middle-walk (Memᴰ.tail (Memᴰ.head refl)); later = λ z. apart (sym z ∙ middle-offset) }
 
-pub middle-seen : seen_in middle ≡ seen (Shown 17) 0x02 Hidden
+pub middle-seen : seen_in middle ≡ seen (Some 17) 0x02 None
 unfolding number_at walk extension_at fragment_at header_at headers_from upper_layer upper_octets transport_fields fragment_data ipv6_fields
 middle-seen = refl
 

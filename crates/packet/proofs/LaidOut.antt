@@ -13,12 +13,12 @@ use lib.Bits.{and_mask, and_high}
 use lib.Dec.{ltb, eqb}
 use lib.ListN.{length, take, length-append}
 use borrow.Author.Tests.{le-ltb, le-leb, lt-leb, eq-eqb, ne_eqb, eqb-true}
+use Rattle.std.proofs.Common.{Some, None}
 use Rattle.octets.specs.Number.{number_at, octets_of}
 use Rattle.octets.specs.Bit.{bit_if}
 use Rattle.octets.proofs.Cases.{by-test}
 use Rattle.octets.proofs.NumberLaws.{number-octets, length-octets_of}
 use Rattle.rule.specs.declared.Family.{Family}
-use Rattle.packet.specs.declared.Field.TheVariants.{Shown, Hidden}
 use Rattle.packet.specs.Header.{version, header_words, dscp, total_length, fragment_field, dont_fragment, more_fragments, fragment_offset, protocol, source, destination, ipv4_unusable}
 use Rattle.packet.specs.Transport.{has_ports, has_icmp, has_flags, transport_octets, transport_fields}
 use Rattle.packet.specs.Packet.{fragment_data, one_word, ipv4_fields}
@@ -171,14 +171,14 @@ module _ (h : Header) (sized : Sized h) (rest : List ℕ) where
       ≡ record {
         destination = one_word h.destination;
         source = one_word h.source;
-        protocol = Shown h.protocol;
+        protocol = Some h.protocol;
         length = h.total;
         dscp = h.dscp;
         fragment =
             bit_if (eqb h.dont_fragment 1) 0x01 + bit_if (not (eqb h.offset 0)) 0x02 + bit_if (eqb h.offset 0 && eqb h.more_fragments 1) 0x04
             + bit_if (not (eqb h.offset 0) && not (eqb h.more_fragments 1)) 0x08;
         transport = transport_fields family h.protocol (transport_octets (laid_out h rest));
-        label = Hidden;
+        label = None;
       }
   unfolding ipv4_fields fragment_data
   fields_back family =
@@ -213,8 +213,8 @@ module _ (from to : ℕ) (small : from < 65536) (also : to < 65536) (rest : List
 
 -- TCP's header (RFC 793 section 3.1) and UDP's (RFC 768) begin with the ports: both are shown, however few octets follow
 pub ports-back : (family : Family) (protocol from to : ℕ) (rest : List ℕ) → (protocol ≡ 6) ⊎ (protocol ≡ 17) → from < 65536 → to < 65536
-    → ((transport_fields family protocol (octets_of 2 from ++ (octets_of 2 to ++ rest))).source_port ≡ Shown from)
-    × ((transport_fields family protocol (octets_of 2 from ++ (octets_of 2 to ++ rest))).destination_port ≡ Shown to)
+    → ((transport_fields family protocol (octets_of 2 from ++ (octets_of 2 to ++ rest))).source_port ≡ Some from)
+    × ((transport_fields family protocol (octets_of 2 from ++ (octets_of 2 to ++ rest))).destination_port ≡ Some to)
 unfolding transport_fields octets_of
 ports-back family protocol from to rest which small also =
     let t : List ℕ = octets_of 2 from ++ (octets_of 2 to ++ rest) in
@@ -226,7 +226,7 @@ ports-back family protocol from to rest which small also =
 
 -- TCP's control bits (RFC 793 section 3.1), six reserved bits among them, stand below the data offset, behind twelve octets
 pub flags-back : (family : Family) (before rest : List ℕ) (offset flags : ℕ) → 12 ≡ length before → offset < 16 → flags < 4096
-    → (transport_fields family 6 (before ++ octets_of 2 (offset * 4096 + flags) ++ rest)).flags ≡ Shown flags
+    → (transport_fields family 6 (before ++ octets_of 2 (offset * 4096 + flags) ++ rest)).flags ≡ Some flags
 unfolding transport_fields
 flags-back family before rest offset flags twelve few small =
     let t : List ℕ = before ++ octets_of 2 (offset * 4096 + flags) ++ rest in
@@ -237,12 +237,12 @@ flags-back family before rest offset flags twelve few small =
       number-octets before 2 (offset * 4096 + flags) rest (omega arith),
       and_mask (offset * 4096 + flags) 12,
     )
-    (ap Shown (omega arith))
+    (ap Some (omega arith))
 
 -- ICMP's header (RFC 792) begins with type and code
 pub icmp-back : (family : Family) (kind code : ℕ) (rest : List ℕ)
-    → ((transport_fields family family.icmp (kind ∷ code ∷ rest)).icmp_type ≡ Shown kind)
-    × ((transport_fields family family.icmp (kind ∷ code ∷ rest)).icmp_code ≡ Shown code)
+    → ((transport_fields family family.icmp (kind ∷ code ∷ rest)).icmp_type ≡ Some kind)
+    × ((transport_fields family family.icmp (kind ∷ code ∷ rest)).icmp_code ≡ Some code)
 unfolding transport_fields
 icmp-back family kind code rest =
     let two = le-leb 2 (length (kind ∷ code ∷ rest)) (omega arith) in
@@ -252,7 +252,7 @@ icmp-back family kind code rest =
 -- too few octets hide a field, and so does another protocol
 module _ (family : Family) (protocol : ℕ) (t : List ℕ) where
   pub ports-hidden : (length t < 4) ⊎ ((protocol ≡ 6 → ⊥) × (protocol ≡ 17 → ⊥))
-      → ((transport_fields family protocol t).source_port ≡ Hidden) × ((transport_fields family protocol t).destination_port ≡ Hidden)
+      → ((transport_fields family protocol t).source_port ≡ None) × ((transport_fields family protocol t).destination_port ≡ None)
   unfolding transport_fields
   ports-hidden why =
       let no : has_ports protocol (length t) ≡ false =
@@ -260,14 +260,14 @@ module _ (family : Family) (protocol : ℕ) (t : List ℕ) where
       (rw no, rw no)
 
   pub icmp-hidden : (length t < 2) ⊎ (protocol ≡ family.icmp → ⊥)
-      → ((transport_fields family protocol t).icmp_type ≡ Hidden) × ((transport_fields family protocol t).icmp_code ≡ Hidden)
+      → ((transport_fields family protocol t).icmp_type ≡ None) × ((transport_fields family protocol t).icmp_code ≡ None)
   unfolding transport_fields
   icmp-hidden why =
       let no : has_icmp family protocol (length t) ≡ false =
       ⊎_elim (λ few. simp (lt-leb 2 (length t) few, and-false)) (λ other. rw (ne_eqb protocol family.icmp other)) why in
       (rw no, rw no)
 
-  pub flags-hidden : (length t < 14) ⊎ (protocol ≡ 6 → ⊥) → (transport_fields family protocol t).flags ≡ Hidden
+  pub flags-hidden : (length t < 14) ⊎ (protocol ≡ 6 → ⊥) → (transport_fields family protocol t).flags ≡ None
   unfolding transport_fields
   flags-hidden why =
       let no : has_flags protocol (length t) ≡ false =

@@ -12,16 +12,17 @@ use lib.Dec.{eqb}
 use lib.ListN.{length, get_or, take, drop, length-append}
 use lib.Seq.{take_all, take-append-add, drop-append_seam}
 use borrow.Author.Tests.{le-ltb}
+use Rattle.std.proofs.Common.{Some}
+use Rattle.std.specs.Bool.{then_some}
 use Rattle.octets.specs.Number.{number_at, octets_of}
 use Rattle.octets.proofs.NumberLaws.{number-octets, number_behind, length-octets_of}
 use Rattle.prefix.specs.declared.Address.{Address}
 use Rattle.rule.specs.declared.Family.{Family}
 use Rattle.extension.specs.Extension.{is_walked, offset_of_fragment, more_flag, ended, upper_layer}
 use Rattle.extension.proofs.LaidOut.{Extension, AllWhole, first_of, size_of_all, laid_out as extension_octets, laid-append, laid-length, whole-packet}
-use Rattle.packet.specs.declared.Field.TheVariants.{Shown}
 use Rattle.packet.specs.Header.{version}
 use Rattle.packet.specs.Header6.{traffic_class, flow_label, payload_length, source_address, destination_address, ipv6_unusable, counted, upper_octets}
-use Rattle.packet.specs.Transport.{shown_if, transport_fields}
+use Rattle.packet.specs.Transport.{transport_fields}
 use Rattle.packet.specs.Packet.{fragment_data, ipv6_fields}
 use Rattle.packet.proofs.HeaderLaws.{too-few-six}
 
@@ -170,7 +171,7 @@ module _ (h : Header) (sized : Sized h) (rest : List ℕ) where
       × (((ipv6_fields family (laid_out h rest)).source ≡ h.source)
       × (((ipv6_fields family (laid_out h rest)).length ≡ h.payload + 40)
       × (((ipv6_fields family (laid_out h rest)).dscp ≡ h.dscp)
-      × ((ipv6_fields family (laid_out h rest)).label ≡ Shown h.label))))
+      × ((ipv6_fields family (laid_out h rest)).label ≡ Some h.label))))
   unfolding ipv6_fields
   fields_back family = (destination-back, (source-back, (rw payload-back, (class_back, rw label-back))))
 
@@ -182,7 +183,7 @@ module _ (family : Family) (s : List ℕ) (all : length s ≡ payload_length s +
   counts : upper_layer (counted s) ≡ ended found (record { kind = kind; at = at; fragmented = fragmented; field = field })
   counts = rw (take_all (payload_length s + 40) s (omega arith)) walk
 
-  pub protocol-shown : (ipv6_fields family s).protocol ≡ shown_if found kind
+  pub protocol-shown : (ipv6_fields family s).protocol ≡ then_some found kind
   unfolding ipv6_fields
   protocol-shown = rw counts refl
 
@@ -239,7 +240,7 @@ module _ (family : Family) (h : Header) (sized : Sized h) (es : List Extension) 
       own-append h (extension_octets es upper rest) ∙ rw (laid-append es upper rest) (sym (append_assoc (laid_out h []) (extension_octets es upper []) rest)) in
       rw (cut, ← at) (drop-append_seam (laid_out h [] ++ extension_octets es upper []) rest)
 
-  pub chain-shown : ((ipv6_fields family chained).protocol ≡ Shown upper)
+  pub chain-shown : ((ipv6_fields family chained).protocol ≡ Some upper)
       × (((ipv6_fields family chained).fragment ≡ 0) × ((ipv6_fields family chained).transport ≡ transport_fields family upper rest))
   unfolding fragment_data
   chain-shown = (

@@ -9,14 +9,12 @@ use Prim.Native.Nat.{ℕ, ◌*◌, min}
 use lib.Dec.{eqb}
 use lib.ListN.{length}
 use borrow.Author.Tests.{ne_eqb}
+use Rattle.std.proofs.Common.{Option, Some, None}
 use Rattle.octets.proofs.Cases.{by-test, apart}
 use Rattle.rule.specs.declared.Family.{Family}
 use Rattle.rule.specs.Value.{between}
-use Rattle.packet.specs.declared.Field.TheVariants.{Shown, Hidden}
 use Rattle.packet.specs.declared.Transport.{Transport}
 use Rattle.packet.specs.declared.Packet.{Packet}
-use Rattle.packet.specs.declared.Reading.{Reading}
-use Rattle.packet.specs.declared.Reading.TheVariants.{Usable, Unusable}
 use Rattle.packet.specs.Header.{header_words, total_length, fragment_field, dont_fragment, fragment_offset, more_fragments, ipv4_unusable, destination, source, protocol, dscp}
 use Rattle.packet.specs.Transport.{transport_octets, transport_fields, hidden}
 use Rattle.packet.specs.Packet.{fragment_data, one_word, ipv4_fields, packet_of}
@@ -33,17 +31,17 @@ fields_before family s =
     record {
       destination = one_word (destination s);
       source = one_word (source s);
-      protocol = Shown (protocol s);
+      protocol = Some (protocol s);
       length = total_length s;
       dscp = dscp s;
       fragment = fragment_data (dont_fragment (fragment_field s)) (eqb (fragment_offset (fragment_field s)) 0) (more_fragments (fragment_field s));
       transport = transport_fields family (protocol s) (octets_before s);
-      label = Hidden;
+      label = None;
     }
 
 -- what octets showed as a packet
-abbrev pub packet_before : Family → List ℕ → Reading
-packet_before family s = cond (ipv4_unusable family s) Unusable (Usable (fields_before family s))
+abbrev pub packet_before : Family → List ℕ → Option Packet
+packet_before family s = cond (ipv4_unusable family s) None (Some (fields_before family s))
 
 -- a packet with another transport header
 abbrev pub with_transport : Packet → Transport → Packet
@@ -61,14 +59,14 @@ with_transport packet transport =
 
 module _ (family : Family) (four : family.version ≡ 4) (s : List ℕ) where
   -- octets are unusable as a packet where they were
-  pub as-unusable : (packet_before family s ≡ Unusable) ↔ (packet_of family s ≡ Unusable)
+  pub as-unusable : (packet_before family s ≡ None) ↔ (packet_of family s ≡ None)
   as-unusable =
       rw (four-read family s four)
       (by-test (ipv4_unusable family s)
       (λ t. (λ e. rw t, λ e. rw t))
       (λ t. (
-        λ e. let z : Usable (fields_before family s) ≡ Unusable = rw t at e in apart (cc),
-        λ e. let z : Usable (ipv4_fields family s) ≡ Unusable = rw t at e in apart (cc),
+        λ e. let z : Some (fields_before family s) ≡ None = rw t at e in apart (cc),
+        λ e. let z : Some (ipv4_fields family s) ≡ None = rw t at e in apart (cc),
       )))
 
   -- every field but those of the transport header is as it was
@@ -82,7 +80,7 @@ module _ (family : Family) (four : family.version ≡ 4) (s : List ℕ) where
   same-octets e =
       rw (four-read family s four)
       (ap
-      (λ (t : List ℕ). cond (ipv4_unusable family s) Unusable (Usable (with_transport (fields_before family s) (transport_fields family (protocol s) t))))
+      (λ (t : List ℕ). cond (ipv4_unusable family s) None (Some (with_transport (fields_before family s) (transport_fields family (protocol s) t))))
       e)
 
   -- a packet with a header of five words shows what it showed

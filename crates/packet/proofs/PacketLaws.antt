@@ -10,6 +10,8 @@ use lib.Dec.{ltb, eqb}
 use lib.ListN.{length, get_or, take, drop, length-drop, length-take}
 use lib.Seq.{take_all, take-length}
 use borrow.Author.Tests.{eq-eqb, ne_eqb, ltb-false}
+use Rattle.std.proofs.Common.{Option, Some, None}
+use Rattle.std.specs.Bool.{then_some}
 use Rattle.octets.proofs.Cases.{neither}
 use Rattle.octets.specs.Bit.{has}
 use Rattle.octets.specs.Number.{number_at}
@@ -18,27 +20,24 @@ use Rattle.rule.specs.declared.Family.{Family}
 use Rattle.extension.specs.declared.Ended.{Ended}
 use Rattle.extension.specs.Extension.{upper_layer}
 use Rattle.extension.proofs.ExtensionLaws.{upper-within}
-use Rattle.packet.specs.declared.Field.{Field}
-use Rattle.packet.specs.declared.Field.TheVariants.{Shown, Hidden}
 use Rattle.packet.specs.declared.Transport.{Transport}
-use Rattle.packet.specs.declared.Reading.{Reading}
-use Rattle.packet.specs.declared.Reading.TheVariants.{Usable, Unusable}
+use Rattle.packet.specs.declared.Packet.{Packet}
 use Rattle.packet.specs.Header.{version, ipv4_unusable}
 use Rattle.packet.specs.Header6.{traffic_class, flow_label, packet_length, address_at, ipv6_unusable, counted, upper_found, upper_octets}
-use Rattle.packet.specs.Transport.{transport_octets, shown_if, transport_fields}
+use Rattle.packet.specs.Transport.{transport_octets, transport_fields}
 use Rattle.packet.specs.Packet.{fragment_data, ipv4_fields, ipv6_fields, reading_of, is_unusable, fields_of, packet_of}
 use Rattle.packet.proofs.TransportLaws.{empty}
 
 -- how `ipv4_packet` comes to each of its answers
 module _ (family : Family) (s : List ℕ) (no-use : Bool) (says : no-use ≡ ipv4_unusable family s) where
-  pub not-usable : no-use ≡ true → Unusable ≡ reading_of (ipv4_unusable family s) (ipv4_fields family s)
+  pub not-usable : no-use ≡ true → None ≡ reading_of (ipv4_unusable family s) (ipv4_fields family s)
   not-usable h = rw (← says, h)
 
   pub usable : (t : List ℕ) (d o p l x f g : ℕ) (transport : Transport) → no-use ≡ false
       → d ≡ number_at 4 s 16 → o ≡ number_at 4 s 12 → p ≡ get_or s 9 0 → l ≡ number_at 2 s 2 → x ≡ get_or s 1 0 → f ≡ number_at 2 s 6
       → g ≡ fragment_data (has f 0x4000) (eqb (bit_and f 0x1fff) 0) (has f 0x2000)
       → t ≡ transport_octets s → transport ≡ transport_fields family p t
-      → Usable (record { destination = record { high = 0; low = d }; source = record { high = 0; low = o }; protocol = Shown p; length = l; dscp = x / 4; fragment = g; transport = transport; label = Hidden }) ≡ reading_of (ipv4_unusable family s) (ipv4_fields family s)
+      → Some (record { destination = record { high = 0; low = d }; source = record { high = 0; low = o }; protocol = Some p; length = l; dscp = x / 4; fragment = g; transport = transport; label = None }) ≡ reading_of (ipv4_unusable family s) (ipv4_fields family s)
   unfolding ipv4_fields
   usable t d o p l x f g transport h d' o' p' l' x' f' g' t' r' = rw (← says, h, d', o', r', p', l', x', g', f', t')
 
@@ -82,20 +81,20 @@ module _ (s : List ℕ) (upper : Ended) where
 
 -- how `ipv6_packet` comes to each of its answers
 module _ (family : Family) (s : List ℕ) (no-use : Bool) (says : no-use ≡ ipv6_unusable family s) where
-  pub not-usable-six : no-use ≡ true → Unusable ≡ reading_of (ipv6_unusable family s) (ipv6_fields family s)
+  pub not-usable-six : no-use ≡ true → None ≡ reading_of (ipv6_unusable family s) (ipv6_fields family s)
   not-usable-six h = rw (← says, h)
 
-  pub usable-six : (e t : List ℕ) (d o : Address) (upper : Ended) (p : Field) (l c m g : ℕ) (transport : Transport) → no-use ≡ false → e ≡ counted s
+  pub usable-six : (e t : List ℕ) (d o : Address) (upper : Ended) (p : Option ℕ) (l c m g : ℕ) (transport : Transport) → no-use ≡ false → e ≡ counted s
       → d ≡ address_at s 24 → o ≡ address_at s 8 → l ≡ number_at 2 s 4 → c ≡ traffic_class s → m ≡ flow_label s
-      → upper ≡ upper_layer e → p ≡ shown_if upper.found upper.progress.kind
+      → upper ≡ upper_layer e → p ≡ then_some upper.found upper.progress.kind
       → g ≡ fragment_data false (eqb (upper.progress.field / 8) 0) (has upper.progress.field 1)
       → t ≡ upper_octets e upper → transport ≡ transport_fields family upper.progress.kind t
-      → Usable (record { destination = d; source = o; protocol = p; length = l + 40; dscp = c / 4; fragment = g; transport = transport; label = Shown m }) ≡ reading_of (ipv6_unusable family s) (ipv6_fields family s)
+      → Some (record { destination = d; source = o; protocol = p; length = l + 40; dscp = c / 4; fragment = g; transport = transport; label = Some m }) ≡ reading_of (ipv6_unusable family s) (ipv6_fields family s)
   unfolding ipv6_fields
   usable-six e t d o upper p l c m g transport h e' d' o' l' c' m' u' p' g' t' r' = rw (← says, h, d', o', r', t', p', g', u', e', l', c', m')
 
 -- how `packet_of` comes to each of its answers
-module _ (family : Family) (s : List ℕ) (reading : Reading) where
+module _ (family : Family) (s : List ℕ) (reading : Option Packet) where
   pub four-packet : family.version ≡ 4 → reading ≡ reading_of (ipv4_unusable family s) (ipv4_fields family s) → reading ≡ packet_of family s
   unfolding packet_of is_unusable fields_of
   four-packet h e = e ∙ rw (eq-eqb family.version 4 h)

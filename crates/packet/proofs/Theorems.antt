@@ -10,13 +10,13 @@ use native.Mathlib.Omega.{arith}
 use native.Mathlib.Decide.{dec_lt}
 use lib.ListN.{length, take, drop, length-append, get_or-append}
 use lib.Seq.{take_all, take-length, drop-append_seam}
+use Rattle.std.proofs.Common.{Some, None}
 use Rattle.octets.proofs.Cases.{by-test, apart}
 use Rattle.octets.proofs.NumberLaws.{number-before}
 use borrow.Author.Tests.{eq-eqb}
 use Rattle.rule.specs.declared.Family.{Family}
 use Rattle.rule.specs.Family.{ipv6}
 use Rattle.packet.specs.declared.Packet.{Packet}
-use Rattle.packet.specs.declared.Reading.TheVariants.{Usable, Unusable}
 use Rattle.packet.specs.Header.{header_words, total_length, fragment_field, fragment_offset, ipv4_unusable, protocol}
 use Rattle.packet.specs.Header6.{ipv6_unusable}
 use Rattle.packet.specs.Transport.{transport_found, transport_octets, transport_fields, hidden}
@@ -29,18 +29,18 @@ unfolding transport_fields
 no-octets family protocol = simp and-false
 
 -- a usable packet shows the fields of its octets
-pub usable-fields : (family : Family) (s : List ℕ) (packet : Packet) → packet_of family s ≡ Usable packet → packet ≡ fields_of family s
+pub usable-fields : (family : Family) (s : List ℕ) (packet : Packet) → packet_of family s ≡ Some packet → packet ≡ fields_of family s
 unfolding packet_of
 usable-fields family s packet e =
     by-test (is_unusable family s)
-    (λ t. let z : Unusable ≡ Usable packet = rw t at e in apart (cc))
-    (λ t. let z : Usable (fields_of family s) ≡ Usable packet = rw t at e in cc)
+    (λ t. let z : None ≡ Some packet = rw t at e in apart (cc))
+    (λ t. let z : Some (fields_of family s) ≡ Some packet = rw t at e in cc)
 
 -- octets are refused as a packet exactly where they are unusable
-pub unusable-exactly : (family : Family) (s : List ℕ) → (packet_of family s ≡ Unusable) ↔ (is_unusable family s ≡ true)
+pub unusable-exactly : (family : Family) (s : List ℕ) → (packet_of family s ≡ None) ↔ (is_unusable family s ≡ true)
 unfolding packet_of
 unusable-exactly family s =
-    by-test (is_unusable family s) (λ t. (λ e. t, λ u. rw t)) (λ t. (λ e. let z : Usable (fields_of family s) ≡ Unusable = rw t at e in apart (cc), λ u. apart (cc)))
+    by-test (is_unusable family s) (λ t. (λ e. t, λ u. rw t)) (λ t. (λ e. let z : Some (fields_of family s) ≡ None = rw t at e in apart (cc), λ u. apart (cc)))
 
 -- packets of IPv4 are read by the header of RFC 791, and those of IPv6 by that of RFC 8200
 pub four-read : (family : Family) (s : List ℕ) → family.version ≡ 4 → packet_of family s ≡ reading_of (ipv4_unusable family s) (ipv4_fields family s)

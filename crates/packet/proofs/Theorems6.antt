@@ -9,15 +9,14 @@ use native.Mathlib.Omega.{arith}
 use lib.Dec.{eqb}
 use lib.ListN.{length, get_or, drop, take-append-drop, get_or-append}
 use borrow.Author.Tests.{ne_eqb}
+use Rattle.std.proofs.Common.{Some, None}
 use Rattle.octets.specs.Number.{number_at}
 use Rattle.octets.proofs.Cases.{by-test}
 use Rattle.octets.proofs.NumberLaws.{number-before}
 use Rattle.rule.specs.declared.Family.{Family}
 use Rattle.rule.specs.Family.{ipv6}
 use Rattle.extension.specs.Extension.{is_walked, offset_of_fragment, more_flag, ended, upper_layer, past_fragment}
-use Rattle.packet.specs.declared.Field.TheVariants.{Shown, Hidden}
 use Rattle.packet.specs.declared.Packet.{Packet}
-use Rattle.packet.specs.declared.Reading.TheVariants.{Usable}
 use Rattle.packet.specs.Header6.{packet_length, counted, upper_octets}
 use Rattle.packet.specs.Transport.{hidden}
 use Rattle.packet.specs.Later.{LaterFragment, ShownLater}
@@ -28,12 +27,12 @@ use Rattle.packet.proofs.Theorems.{no-octets, usable-fields}
 
 module _ (family : Family) (s : List ℕ) where
   -- 2026-04: a walk that "finds none, so types 3 to 9 don't match"
-  pub lost-hidden : (upper_layer (counted s)).found ≡ false → ((ipv6_fields family s).protocol ≡ Hidden) × ((ipv6_fields family s).transport ≡ hidden)
+  pub lost-hidden : (upper_layer (counted s)).found ≡ false → ((ipv6_fields family s).protocol ≡ None) × ((ipv6_fields family s).transport ≡ hidden)
   unfolding ipv6_fields upper_octets
   lost-hidden lost = (rw lost, rw lost (no-octets family (upper_layer (counted s)).progress.kind))
 
   -- a walk that ends at an upper layer shows its number
-  pub found-shown : (upper_layer (counted s)).found ≡ true → (ipv6_fields family s).protocol ≡ Shown (upper_layer (counted s)).progress.kind
+  pub found-shown : (upper_layer (counted s)).found ≡ true → (ipv6_fields family s).protocol ≡ Some (upper_layer (counted s)).progress.kind
   unfolding ipv6_fields
   found-shown found = rw found
 
@@ -87,7 +86,7 @@ module _ (s : List ℕ) (place : ℕ) (f : LaterFragment s place) where
       }
 
   -- the same of a packet that is read
-  pub later-usable : (packet : Packet) → packet_of ipv6 s ≡ Usable packet → ShownLater s place packet
+  pub later-usable : (packet : Packet) → packet_of ipv6 s ≡ Some packet → ShownLater s place packet
   unfolding fields_of
   later-usable packet seen = subst (ShownLater s place) (sym (usable-fields ipv6 s packet seen)) (later-six ipv6)
 

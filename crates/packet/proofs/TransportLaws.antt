@@ -7,10 +7,11 @@ use native.Mathlib.Omega.{arith}
 use lib.Bits.{bit_and}
 use lib.ListN.{length, get_or, take, drop}
 use borrow.Author.Tests.{ne_eqb}
+use Rattle.std.proofs.Common.{Option}
+use Rattle.std.specs.Bool.{then_some}
 use Rattle.octets.specs.Number.{number_at}
 use Rattle.rule.specs.declared.Family.{Family}
-use Rattle.packet.specs.declared.Field.{Field}
-use Rattle.packet.specs.Transport.{transport_found, transport_octets, shown_if, has_ports, has_icmp, has_flags, transport_fields}
+use Rattle.packet.specs.Transport.{transport_found, transport_octets, has_ports, has_icmp, has_flags, transport_fields}
 
 -- behind a fragment offset that is not 0 the transport header is not found
 pub later-not-found : (offset : ℕ) → (offset ≡ 0 → ⊥) → transport_found offset ≡ false
@@ -36,10 +37,10 @@ module _ (s : List ℕ) (field : ℕ) (says : field ≡ number_at 2 s 6) where
     found_none h = empty s end end (omega arith) ∙ sym (empty s (4 * bit_and first 15) end (omega arith)) ∙ found-octets
 
 -- the fields are what the calls answer
-pub fields-shown : (family : Family) (protocol : ℕ) (t : List ℕ) (ports icmp control : Bool) (a b c d e : ℕ) (source destination kind code flags : Field)
+pub fields-shown : (family : Family) (protocol : ℕ) (t : List ℕ) (ports icmp control : Bool) (a b c d e : ℕ) (source destination kind code flags : Option ℕ)
     → ports ≡ has_ports protocol (length t) → icmp ≡ has_icmp family protocol (length t) → control ≡ has_flags protocol (length t)
     → a ≡ number_at 2 t 0 → b ≡ number_at 2 t 2 → c ≡ get_or t 0 0 → d ≡ get_or t 1 0 → e ≡ number_at 2 t 12
-    → source ≡ shown_if ports a → destination ≡ shown_if ports b → kind ≡ shown_if icmp c → code ≡ shown_if icmp d → flags ≡ shown_if control (bit_and e 4095)
+    → source ≡ then_some ports a → destination ≡ then_some ports b → kind ≡ then_some icmp c → code ≡ then_some icmp d → flags ≡ then_some control (bit_and e 4095)
     → record { source_port = source; destination_port = destination; icmp_type = kind; icmp_code = code; flags = flags } ≡ transport_fields family protocol t
 unfolding transport_fields
 fields-shown family protocol t ports icmp control a b c d e source destination kind code flags p i f a' b' c' d' e' s1 s2 s3 s4 s5 =

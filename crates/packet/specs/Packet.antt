@@ -1,16 +1,14 @@
 -- What octets show as a packet: its fields, or that they are unusable as one. A family's packets have the header of its version of IP.
-use Rattle.std.specs.Prelude.{ℕ, ◌+◌, ◌/◌, Bool, false, not, cond, ◌&&◌, List, eqb}
+use Rattle.std.specs.Prelude.{ℕ, ◌+◌, ◌/◌, Bool, false, not, cond, ◌&&◌, List, eqb, Option, Some, None}
+use Rattle.std.specs.Bool.{then_some}
 use Rattle.octets.specs.Bit.{bit_if}
 use Rattle.prefix.specs.declared.Address.{Address}
 use Rattle.rule.specs.declared.Family.{Family}
 use Rattle.extension.specs.Extension.{offset_of_fragment, more_flag, upper_layer}
-use Rattle.packet.specs.declared.Field.TheVariants.{Shown, Hidden}
 use Rattle.packet.specs.declared.Packet.{Packet}
-use Rattle.packet.specs.declared.Reading.{Reading}
-use Rattle.packet.specs.declared.Reading.TheVariants.{Usable, Unusable}
 use Rattle.packet.specs.Header.{ipv4_unusable, destination, source, protocol, total_length, dscp, fragment_field, dont_fragment, fragment_offset, more_fragments}
 use Rattle.packet.specs.Header6.{traffic_class, flow_label, packet_length, source_address, destination_address, ipv6_unusable, counted, upper_octets}
-use Rattle.packet.specs.Transport.{transport_octets, shown_if, transport_fields}
+use Rattle.packet.specs.Transport.{transport_octets, transport_fields}
 
 -- RFC 8955 section 4.2.2.12, RFC 8956 section 3.6, and 01: "0x01 DF, 0x02 offset not 0, 0x04 offset 0 and MF, 0x08 offset not 0 and MF clear";
 -- `first` says that the offset is 0.
@@ -28,12 +26,12 @@ ipv4_fields family s =
     record {
       destination = one_word (destination s);
       source = one_word (source s);
-      protocol = Shown (protocol s);
+      protocol = Some (protocol s);
       length = total_length s;
       dscp = dscp s;
       fragment = fragment_data (dont_fragment field) (eqb (fragment_offset field) 0) (more_fragments field);
       transport = transport_fields family (protocol s) (transport_octets s);
-      label = Hidden;
+      label = None;
     }
 
 -- The fields of a usable IPv6 packet. RFC 8956 section 3.3: the protocol is that of the upper layer, hidden where the walk finds none; the
@@ -45,12 +43,12 @@ ipv6_fields family s =
     record {
       destination = destination_address s;
       source = source_address s;
-      protocol = shown_if upper.found upper.progress.kind;
+      protocol = then_some upper.found upper.progress.kind;
       length = packet_length s;
       dscp = traffic_class s / 4;
       fragment = fragment_data false (eqb (offset_of_fragment field) 0) (more_flag field);
       transport = transport_fields family upper.progress.kind (upper_octets (counted s) upper);
-      label = Shown (flow_label s);
+      label = Some (flow_label s);
     }
 
 -- Whether a family's packets are those of IP version 4; else they are those of version 6.
@@ -66,9 +64,9 @@ unfoldable pub fields_of : Family → List ℕ → Packet
 fields_of family s = cond (is_version4 family) (ipv4_fields family s) (ipv6_fields family s)
 
 -- What is read where octets are unusable, and else by their fields.
-abbrev pub reading_of : Bool → Packet → Reading
-reading_of unusable fields = cond unusable Unusable (Usable fields)
+abbrev pub reading_of : Bool → Packet → Option Packet
+reading_of unusable fields = cond unusable None (Some fields)
 
 -- What octets show as a packet.
-unfoldable pub packet_of : Family → List ℕ → Reading
+unfoldable pub packet_of : Family → List ℕ → Option Packet
 packet_of family s = reading_of (is_unusable family s) (fields_of family s)

@@ -1,12 +1,11 @@
 -- The transport header (RFC 8955 sections 4.2.2.4 to 4.2.2.9): which of its octets are there behind an IPv4 header, and what transport
 -- octets show in either family. What they do not show is hidden, and a component that asks for it never matches.
-use Rattle.std.specs.Prelude.{ℕ, ◌*◌, min, Bool, cond, ◌&&◌, ◌||◌, List, [], leb, eqb, length, get_or}
+use Rattle.std.specs.Prelude.{ℕ, ◌*◌, min, Bool, cond, ◌&&◌, ◌||◌, List, [], leb, eqb, length, get_or, None}
+use Rattle.std.specs.Bool.{then_some}
 use Rattle.std.specs.Int.Bits.{bit_and}
 use Rattle.octets.specs.Number.{number_at}
 use Rattle.rule.specs.declared.Family.{Family}
 use Rattle.rule.specs.Value.{between}
-use Rattle.packet.specs.declared.Field.{Field}
-use Rattle.packet.specs.declared.Field.TheVariants.{Shown, Hidden}
 use Rattle.packet.specs.declared.Transport.{Transport}
 use Rattle.packet.specs.Header.{header_words, total_length, fragment_field, fragment_offset}
 
@@ -32,22 +31,18 @@ has_icmp family protocol there = eqb protocol family.icmp && leb 2 there
 abbrev pub has_flags : ℕ → ℕ → Bool
 has_flags protocol there = eqb protocol 6 && leb 14 there
 
--- A field that is shown where a test holds.
-abbrev pub shown_if : Bool → ℕ → Field
-shown_if holds number = cond holds (Shown number) Hidden
-
 -- A transport header of which nothing is shown.
 abbrev pub hidden : Transport
-hidden = record { source_port = Hidden; destination_port = Hidden; icmp_type = Hidden; icmp_code = Hidden; flags = Hidden }
+hidden = record { source_port = None; destination_port = None; icmp_type = None; icmp_code = None; flags = None }
 
 -- The fields that transport octets show. Flags are in their two-octet form, 01: "octets 12 and 13 with the top four bits as 0"; a value of
 -- one octet asks for no bit above those of octet 13 (`flags-octet` in matching/proofs/Theorems.antt).
 unfoldable pub transport_fields : Family → ℕ → List ℕ → Transport
 transport_fields family protocol t =
     record {
-      source_port = shown_if (has_ports protocol (length t)) (number_at 2 t 0);
-      destination_port = shown_if (has_ports protocol (length t)) (number_at 2 t 2);
-      icmp_type = shown_if (has_icmp family protocol (length t)) (get_or t 0 0);
-      icmp_code = shown_if (has_icmp family protocol (length t)) (get_or t 1 0);
-      flags = shown_if (has_flags protocol (length t)) (bit_and (number_at 2 t 12) 0x0fff);
+      source_port = then_some (has_ports protocol (length t)) (number_at 2 t 0);
+      destination_port = then_some (has_ports protocol (length t)) (number_at 2 t 2);
+      icmp_type = then_some (has_icmp family protocol (length t)) (get_or t 0 0);
+      icmp_code = then_some (has_icmp family protocol (length t)) (get_or t 1 0);
+      flags = then_some (has_flags protocol (length t)) (bit_and (number_at 2 t 12) 0x0fff);
     }

@@ -5,7 +5,7 @@
 ghost use Rattle.std.specs.Prelude.{◌≡◌, ◌≤◌, length};
 ghost use Rattle.packet.specs.Header.{ipv4_unusable};
 ghost use Rattle.packet.specs.Header6.{traffic_class, flow_label, address_at, ipv6_unusable, counted, upper_octets};
-ghost use Rattle.packet.specs.Transport.{transport_octets, shown_if, has_ports, has_icmp, has_flags, transport_fields};
+ghost use Rattle.packet.specs.Transport.{transport_octets, has_ports, has_icmp, has_flags, transport_fields};
 ghost use Rattle.packet.specs.Packet.{fragment_data, ipv4_fields, ipv6_fields, reading_of, packet_of};
 
 use extension::Ended;
@@ -15,21 +15,14 @@ use rule::Family;
 
 // ---- Answers ----
 
-// A field of a packet: its number, or nothing where the packet does not show it.
-#[derive(Clone, Copy)]
-pub enum Field {
-    Shown(u32),
-    Hidden,
-}
-
-// The fields of the transport header.
+// The fields of the transport header: of each its number, or none where the packet does not show it.
 #[derive(Clone, Copy)]
 pub struct Transport {
-    pub source_port: Field,
-    pub destination_port: Field,
-    pub icmp_type: Field,
-    pub icmp_code: Field,
-    pub flags: Field,
+    pub source_port: Option<u32>,
+    pub destination_port: Option<u32>,
+    pub icmp_type: Option<u32>,
+    pub icmp_code: Option<u32>,
+    pub flags: Option<u32>,
 }
 
 // What a packet shows.
@@ -37,19 +30,12 @@ pub struct Transport {
 pub struct Packet {
     pub destination: Address,
     pub source: Address,
-    pub protocol: Field,
+    pub protocol: Option<u32>,
     pub length: u32,
     pub dscp: u8,
     pub fragment: u8,
     pub transport: Transport,
-    pub label: Field,
-}
-
-// What is seen in octets: a packet, or that they are unusable as one.
-#[derive(Clone, Copy)]
-pub enum Reading {
-    Usable(Packet),
-    Unusable,
+    pub label: Option<u32>,
 }
 
 // ---- What is shown in either family ----
@@ -63,23 +49,6 @@ fn fragment_data(dont: bool, first: bool, more: bool) -> u8
     let begins = bit_if(first & more, 0x04);
     let ends = bit_if(!first & !more, 0x08);
     whole + later + begins + ends
-}
-
-// A field that is shown where a test holds.
-fn shown_if(holds: bool, number: u32) -> Field
-    ensures { result ≡ shown_if holds number }
-{
-    if holds {
-        return Field::Shown(number);
-    }
-    Field::Hidden
-}
-
-// An octet that is shown where a test holds.
-fn shown_octet(holds: bool, octet: u8) -> Field
-    ensures { result ≡ shown_if holds octet }
-{
-    shown_if(holds, octet as u32)
 }
 
 // Whether ports are shown, by the protocol and how many transport octets are there.
@@ -112,11 +81,11 @@ fn transport_fields(family: Family, protocol: u8, octets: &[u8]) -> Transport
     let control = has_flags(protocol, octets.len());
     let flags = number_at(2, octets, 12) as u32;
     Transport {
-        source_port: shown_if(ports, number_at(2, octets, 0) as u32),
-        destination_port: shown_if(ports, number_at(2, octets, 2) as u32),
-        icmp_type: shown_if(icmp, octet_at(octets, 0) as u32),
-        icmp_code: shown_if(icmp, octet_at(octets, 1) as u32),
-        flags: shown_if(control, flags & 0x0fff),
+        source_port: ports.then_some(number_at(2, octets, 0) as u32),
+        destination_port: ports.then_some(number_at(2, octets, 2) as u32),
+        icmp_type: icmp.then_some(octet_at(octets, 0) as u32),
+        icmp_code: icmp.then_some(octet_at(octets, 1) as u32),
+        flags: control.then_some(flags & 0x0fff),
     }
 }
 
@@ -163,17 +132,17 @@ fn transport_octets(octets: &[u8]) -> &[u8]
 }
 
 // What octets show as an IPv4 packet.
-fn ipv4_packet(family: Family, octets: &[u8]) -> Reading
+fn ipv4_packet(family: Family, octets: &[u8]) -> Option<Packet>
     ensures { result ≡ reading_of (ipv4_unusable family octets.now) (ipv4_fields family octets.now) }
 {
     if is_unusable_ipv4(family, octets) {
-        return Reading::Unusable;
+        return None;
     }
     let protocol = octet_at(octets, 9);
     let transport = transport_fields(family, protocol, transport_octets(octets));
     let field = number_at(2, octets, 6);
     let first = field & 0x1fff == 0;
-    Reading::Usable(Packet {
+    Some(Packet {
         destination: Address {
             high: 0,
             low: number_at(4, octets, 16),
@@ -182,12 +151,12 @@ fn ipv4_packet(family: Family, octets: &[u8]) -> Reading
             high: 0,
             low: number_at(4, octets, 12),
         },
-        protocol: Field::Shown(protocol as u32),
+        protocol: Some(protocol as u32),
         length: number_at(2, octets, 2) as u32,
         dscp: octet_at(octets, 1) >> 2,
         fragment: fragment_data(field & 0x4000 != 0, first, field & 0x2000 != 0),
         transport,
-        label: Field::Hidden,
+        label: None,
     })
 }
 
@@ -253,11 +222,11 @@ fn address_at(octets: &[u8], at: usize) -> Address
 }
 
 // What octets show as an IPv6 packet.
-fn ipv6_packet(family: Family, octets: &[u8]) -> Reading
+fn ipv6_packet(family: Family, octets: &[u8]) -> Option<Packet>
     ensures { result ≡ reading_of (ipv6_unusable family octets.now) (ipv6_fields family octets.now) }
 {
     if is_unusable_ipv6(family, octets) {
-        return Reading::Unusable;
+        return None;
     }
     let counted = counted_octets(octets);
     let upper = extension::upper_layer(counted);
@@ -265,22 +234,22 @@ fn ipv6_packet(family: Family, octets: &[u8]) -> Reading
     let field = upper.progress.field;
     let first = field >> 3 == 0;
     let transport = transport_fields(family, kind, upper_octets(counted, upper));
-    Reading::Usable(Packet {
+    Some(Packet {
         destination: address_at(octets, 24),
         source: address_at(octets, 8),
-        protocol: shown_octet(upper.found, kind),
+        protocol: upper.found.then_some(kind as u32),
         length: number_at(2, octets, 4) as u32 + 40,
         dscp: traffic_class(octets) >> 2,
         fragment: fragment_data(false, first, field & 1 != 0),
         transport,
-        label: Field::Shown(flow_label(octets)),
+        label: Some(flow_label(octets)),
     })
 }
 
 // ---- Either ----
 
 // What octets show as a packet of a family.
-pub fn packet_of(family: Family, octets: &[u8]) -> Reading
+pub fn packet_of(family: Family, octets: &[u8]) -> Option<Packet>
     ensures { result ≡ packet_of family octets.now }
 {
     if family.version == 4 {

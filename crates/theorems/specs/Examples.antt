@@ -1,6 +1,6 @@
 -- 01's examples marked P, in one list, and rates with the notes of 2026-05 in another: each asks a definition something and expects numbers
 -- of it. proofs/Examples.antt has one claim about each list.
-use Rattle.std.specs.Prelude.{ℕ, ◌^◌, Bool, true, false, List, [], ◌∷◌}
+use Rattle.std.specs.Prelude.{ℕ, ◌^◌, Bool, true, false, List, [], ◌∷◌, Option, Some, None}
 use Rattle.octets.specs.Order.{ordered}
 use Rattle.rule.specs.declared.Checked.{Checked}
 use Rattle.rule.specs.declared.Checked.TheVariants.{Accepted, Refused}
@@ -12,8 +12,7 @@ use Rattle.order.specs.Precedence.{precedence}
 use Rattle.rate.specs.declared.Rate.{Rate}
 use Rattle.rate.specs.declared.Rate.TheVariants.{Number, NotANumber}
 use Rattle.rate.specs.Rate.{rate_of}
-use Rattle.packet.specs.declared.Reading.{Reading as PacketReading}
-use Rattle.packet.specs.declared.Reading.TheVariants.{Usable, Unusable}
+use Rattle.packet.specs.declared.Packet.{Packet}
 use Rattle.packet.specs.Packet.{packet_of}
 use Rattle.matching.specs.Match.{matches}
 use Rattle.order.specs.Compare.{comparison_of}
@@ -40,9 +39,9 @@ rated_as (Number number note) = 0 ∷ number ∷ note ∷ []
 rated_as NotANumber = 13 ∷ []
 
 -- 1 where the packet matches, 0 where it does not, 12 where it is unusable.
-abbrev pub matched_as : List ℕ → PacketReading → List ℕ
-matched_as v Unusable = 12 ∷ []
-matched_as v (Usable packet) = to_number (matches ipv4 v packet)
+abbrev pub matched_as : List ℕ → Option Packet → List ℕ
+matched_as v None = 12 ∷ []
+matched_as v (Some packet) = to_number (matches ipv4 v packet)
   where
     to_number : Bool → List ℕ
     to_number true = 1 ∷ []

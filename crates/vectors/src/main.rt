@@ -180,8 +180,8 @@ fn check_and_match(family: AddressFamily, octets: &[u8], middle: usize, end: usi
 fn verdict_of(family: AddressFamily, value: &[u8], packet: &[u8]) -> u64 {
     let family = rule::family_of(family);
     match packet::packet_of(family, packet) {
-        packet::Reading::Unusable => 12,
-        packet::Reading::Usable(opening) => matching::matches_rule(family, value, opening) as u64,
+        None => 12,
+        Some(shown) => matching::matches_rule(family, value, shown) as u64,
     }
 }
 

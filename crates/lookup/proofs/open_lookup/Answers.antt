@@ -6,8 +6,8 @@ use Rattle.lookup.proofs.open_lookup.Goals as goal
 pub returns-in-Unsound : goal.returns-in-Unsound
 returns-in-Unsound c = search (see-unsound, rules)
 
-pub returns-in-Unusable : goal.returns-in-Unusable
-returns-in-Unusable c = search (see-unusable, rules)
+pub returns-in-None : goal.returns-in-None
+returns-in-None c = search (see-unusable, rules)
 
-pub returns-in-Usable : goal.returns-in-Usable
-returns-in-Usable c = search (see-usable, rules)
+pub returns-in-Some : goal.returns-in-Some
+returns-in-Some c = search (see-usable, rules)
