@@ -15,11 +15,11 @@ use lib.ListN.{length, get_or, length-append, get_or-append}
 use lib.Seq.{get_or-append-add}
 use mathlib.Core.Logic.{◌⊎◌, inl, inr}
 use borrow.Author.Tests.{lt-ltb, ne_eqb, eqb-true}
+use Rattle.std.proofs.Common.{Some, Ok, Err}
 use Rattle.octets.proofs.Cases.{by-test}
 use Rattle.octets.specs.Number.{number_at, octets_of}
 use Rattle.octets.proofs.NumberLaws.{number-octets, number_behind, length-octets_of}
 use Rattle.extension.specs.declared.Progress.{Progress}
-use Rattle.extension.specs.declared.NextHeader.TheVariants.{Another, Lost}
 use Rattle.extension.specs.Extension.{is_walked, is_first_fragment, offset_of_fragment, more_flag, extension_size, extension_at, fragment_at, header_at, ended, headers_from, upper_layer}
 use Rattle.extension.proofs.ExtensionLaws.{extension-later, extension-whole, fragment-whole, header-walked, header-fragment, header-upper, headers-on, headers-upper, headers-lost, upper-start}
 
@@ -71,15 +71,15 @@ behind pre s at n is = rw is (get_or-append-add pre s n 0)
 -- one header is walked over
 one-over : (pre rest content : List ℕ) (next units : ℕ) (p : Progress) → is_walked p.kind ≡ true → length content ≡ units * 8 + 6
     → p.at ≡ length pre → offset_of_fragment p.field ≡ 0
-    → header_at (pre ++ (next ∷ units ∷ (content ++ rest))) p ≡ Another (moved p next ((units + 1) * 8))
+    → header_at (pre ++ (next ∷ units ∷ (content ++ rest))) p ≡ Ok (Some (moved p next ((units + 1) * 8)))
 one-over pre rest content next units p walked sized is first =
     let s : List ℕ = pre ++ (next ∷ units ∷ (content ++ rest)) in
     let long : length s ≡ length pre + (2 + (length content + length rest)) = simp length-append (omega arith) in
     let number : get_or s (p.at + 0) 0 ≡ next = behind pre (next ∷ units ∷ (content ++ rest)) p.at 0 is in
     let same : get_or s p.at 0 ≡ next = rw (add-zero p.at) at number in
     let says : get_or s (p.at + 1) 0 ≡ units = behind pre (next ∷ units ∷ (content ++ rest)) p.at 1 is in
-    sym (header-walked s p (is_walked p.kind) refl (Another (moved p next ((units + 1) * 8))) walked
-    (ap (λ (kind : ℕ). Another (moved p kind ((units + 1) * 8))) (sym same) ∙ extension-whole s p first units (sym says) (omega arith) (omega arith)))
+    sym (header-walked s p (is_walked p.kind) refl (Ok (moved p next ((units + 1) * 8))) walked
+    (ap (λ (kind : ℕ). Ok (moved p kind ((units + 1) * 8))) (sym same) ∙ extension-whole s p first units (sym says) (omega arith) (omega arith)))
 
 -- **headers 0, 43 and 60 are walked over**, from wherever a walk has come to that is behind no fragment offset but 0
 pub over-extensions : (es : List Extension) (upper : ℕ) (pre rest : List ℕ) (p : Progress) → AllWhole es → p.kind ≡ first_of es upper
@@ -95,7 +95,7 @@ over-extensions (e ∷ es) upper pre rest p all kind is first =
     let front : List ℕ = pre ++ (next ∷ e.units ∷ e.content) in
     let cut : front ++ laid_out es upper rest ≡ s = simp append_assoc in
     let long : length front ≡ length pre + (2 + length e.content) = simp length-append (omega arith) in
-    let step : header_at s p ≡ Another q = one-over pre (laid_out es upper rest) e.content next e.units p (rw kind all.0.walked) all.0.sized is first in
+    let step : header_at s p ≡ Ok (Some q) = one-over pre (laid_out es upper rest) e.content next e.units p (rw kind all.0.walked) all.0.sized is first in
     let on = ap (λ w. w.ending) (headers-on s p q step) in
     let rest-on = over-extensions es upper front rest q all.1 refl (omega (arith, all.0.sized)) first in
     on ∙ rw cut at rest-on ∙ ap (λ (at : ℕ). (headers_from s (record { kind = upper; at = at; fragmented = p.fragmented; field = p.field })).ending) (omega arith)
@@ -154,7 +154,7 @@ module _ (f : Fragment) (sized : Sized f) where
 
   -- **the first header 44 is walked over**
   pub over-fragment : (pre rest : List ℕ) (next : ℕ) (p : Progress) → p.kind ≡ 44 → p.fragmented ≡ false → p.at ≡ length pre
-      → header_at (pre ++ fragment_octets f next rest) p ≡ Another (behind_fragment p next)
+      → header_at (pre ++ fragment_octets f next rest) p ≡ Ok (Some (behind_fragment p next))
   over-fragment pre rest next p kind none is =
       let t : List ℕ = fragment_octets f next rest in
       let s : List ℕ = pre ++ t in
@@ -165,8 +165,8 @@ module _ (f : Fragment) (sized : Sized f) where
       rw is
       (sym (number_behind 2 pre t 2 ∙ number-octets (next ∷ f.reserved ∷ []) 2 (field_of f) (octets_of 4 f.identification ++ rest) (omega (arith, sized.offset, sized.between, sized.more)))) in
       let walked : is_walked p.kind ≡ false = rw kind refl in
-      sym (header-fragment s p (is_walked p.kind) refl (Another (behind_fragment p next)) walked (rw (kind, none) refl)
-      (ap (λ (k : ℕ). Another (behind_fragment p k)) (sym same) ∙ fragment-whole s p (field_of f) field (omega arith) (omega arith)))
+      sym (header-fragment s p (is_walked p.kind) refl (Ok (behind_fragment p next)) walked (rw (kind, none) refl)
+      (ap (λ (k : ℕ). Ok (behind_fragment p k)) (sym same) ∙ fragment-whole s p (field_of f) field (omega arith) (omega arith)))
 
 -- **any other header is the upper layer**, a second 44 among them, however many octets are behind it
 pub upper-here : (s : List ℕ) (p : Progress) → is_walked p.kind ≡ false → is_first_fragment p ≡ false → (headers_from s p).ending ≡ ended true p
@@ -178,21 +178,21 @@ second-fragment p seen = rw seen (and-false (eqb p.kind 44))
 -- **behind a fragment offset that is not 0 no header 0, 43 or 60 is found**
 pub later-lost : (s : List ℕ) (p : Progress) → is_walked p.kind ≡ true → (offset_of_fragment p.field ≡ 0 → ⊥) → (headers_from s p).ending ≡ ended false p
 later-lost s p walked later =
-    ap (λ w. w.ending) (headers-lost s p (sym (header-walked s p (is_walked p.kind) refl Lost walked (extension-later s p later))))
+    ap (λ w. w.ending) (headers-lost s p p (sym (header-walked s p (is_walked p.kind) refl (Err p) walked (extension-later s p later))))
 
 -- **nor is one of which the last octet is missing**
 pub cut-lost : (s : List ℕ) (p : Progress) → is_walked p.kind ≡ true → offset_of_fragment p.field ≡ 0 → length s < p.at + extension_size s p.at
     → (headers_from s p).ending ≡ ended false p
 unfolding extension_at
 cut-lost s p walked first short =
-    let lost : Lost ≡ extension_at s p = rw (first, lt-ltb (length s) (p.at + extension_size s p.at) short) in
-    ap (λ w. w.ending) (headers-lost s p (sym (header-walked s p (is_walked p.kind) refl Lost walked lost)))
+    let lost : Err p ≡ extension_at s p = rw (first, lt-ltb (length s) (p.at + extension_size s p.at) short) in
+    ap (λ w. w.ending) (headers-lost s p p (sym (header-walked s p (is_walked p.kind) refl (Err p) walked lost)))
 
 pub cut-fragment-lost : (s : List ℕ) (p : Progress) → p.kind ≡ 44 → p.fragmented ≡ false → length s < p.at + 8 → (headers_from s p).ending ≡ ended false p
 unfolding fragment_at
 cut-fragment-lost s p kind none short =
-    let lost : Lost ≡ fragment_at s p = rw (lt-ltb (length s) (p.at + 8) short) in
-    ap (λ w. w.ending) (headers-lost s p (sym (header-fragment s p (is_walked p.kind) refl Lost (rw kind refl) (rw (kind, none) refl) lost)))
+    let lost : Err p ≡ fragment_at s p = rw (lt-ltb (length s) (p.at + 8) short) in
+    ap (λ w. w.ending) (headers-lost s p p (sym (header-fragment s p (is_walked p.kind) refl (Err p) (rw kind refl) (rw (kind, none) refl) lost)))
 
 -- a packet's own header, and how its octet 6 tells what stands behind it
 module _ (own rest : List ℕ) (forty : length own ≡ 40) where

@@ -17,21 +17,6 @@ pub struct Progress {
     pub field: u64,
 }
 
-// What stands at a place of the walk: a header to walk over, with what is behind it; the upper layer; or nothing that is found.
-#[derive(Clone, Copy)]
-pub enum NextHeader {
-    Another(Progress),
-    Upper,
-    Lost,
-}
-
-// How a walk ended: whether at an upper layer, and how far it had come.
-#[derive(Clone, Copy)]
-pub struct Ended {
-    pub found: bool,
-    pub progress: Progress,
-}
-
 // Whether headers of this number are walked over, whichever stood before: Hop-by-Hop Options, Routing and Destination Options.
 fn is_walked(kind: u8) -> bool
     ensures { result ≡ is_walked kind }
@@ -39,23 +24,23 @@ fn is_walked(kind: u8) -> bool
     ((kind == 0) | (kind == 43)) | (kind == 60)
 }
 
-// A header 0, 43 or 60: not found behind a fragment offset that is not 0, nor where the octets end before it does.
-fn extension_at(octets: &[u8], progress: Progress) -> NextHeader
+// Walks over a header 0, 43 or 60; is lost behind a fragment offset that is not 0, and where the octets end before the header does.
+fn extension_at(octets: &[u8], progress: Progress) -> Result<Progress, Progress>
     ensures { result ≡ extension_at octets.now progress }
 {
     let at = progress.at;
     if progress.field >> 3 != 0 {
-        return NextHeader::Lost;
+        return Err(progress);
     }
     if octets.len() <= at {
-        return NextHeader::Lost;
+        return Err(progress);
     }
     let units = octet_at(octets, at + 1) as usize + 1;
     let size = units * 8;
     if octets.len() - at < size {
-        return NextHeader::Lost;
+        return Err(progress);
     }
-    NextHeader::Another(Progress {
+    Ok(Progress {
         kind: octets[at],
         at: at + size,
         fragmented: progress.fragmented,
@@ -63,18 +48,18 @@ fn extension_at(octets: &[u8], progress: Progress) -> NextHeader
     })
 }
 
-// A fragment header: not found where the octets end before it does.
-fn fragment_at(octets: &[u8], progress: Progress) -> NextHeader
+// Walks over a fragment header; is lost where the octets end before it does.
+fn fragment_at(octets: &[u8], progress: Progress) -> Result<Progress, Progress>
     ensures { result ≡ fragment_at octets.now progress }
 {
     let at = progress.at;
     if octets.len() <= at {
-        return NextHeader::Lost;
+        return Err(progress);
     }
     if octets.len() - at < 8 {
-        return NextHeader::Lost;
+        return Err(progress);
     }
-    NextHeader::Another(Progress {
+    Ok(Progress {
         kind: octets[at],
         at: at + 8,
         fragmented: true,
@@ -82,21 +67,21 @@ fn fragment_at(octets: &[u8], progress: Progress) -> NextHeader
     })
 }
 
-// What stands at a place of the walk.
-fn header_at(octets: &[u8], progress: Progress) -> NextHeader
+// Walks over what stands at a place: a header, or none where that is the upper layer; is lost where the header is.
+fn header_at(octets: &[u8], progress: Progress) -> Result<Option<Progress>, Progress>
     ensures { result ≡ header_at octets.now progress }
 {
     if is_walked(progress.kind) {
-        return extension_at(octets, progress);
+        return extension_at(octets, progress).map(Some);
     }
     if (progress.kind == 44) & !progress.fragmented {
-        return fragment_at(octets, progress);
+        return fragment_at(octets, progress).map(Some);
     }
-    NextHeader::Upper
+    Ok(None)
 }
 
-// Walks from an IPv6 packet's own header to its upper layer.
-pub fn upper_layer(octets: &[u8]) -> Ended
+// Walks from an IPv6 packet's own header to its upper layer; the error of a walk that is lost is how far it had come.
+pub fn upper_layer(octets: &[u8]) -> Result<Progress, Progress>
     ensures { result ≡ upper_layer octets.now }
 {
     let mut progress = Progress {
@@ -105,24 +90,8 @@ pub fn upper_layer(octets: &[u8]) -> Ended
         fragmented: false,
         field: 0,
     };
-    loop {
-        let next = header_at(octets, progress);
-        match next {
-            NextHeader::Another(behind) => {
-                progress = behind;
-            }
-            NextHeader::Upper => {
-                return Ended {
-                    found: true,
-                    progress,
-                };
-            }
-            NextHeader::Lost => {
-                return Ended {
-                    found: false,
-                    progress,
-                };
-            }
-        }
+    while let Some(behind) = header_at(octets, progress)? {
+        progress = behind;
     }
+    Ok(progress)
 }

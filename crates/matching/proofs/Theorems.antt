@@ -11,6 +11,7 @@ use lib.Dec.{leb, ltb, eqb}
 use lib.ListN.{length, get_or}
 use borrow.Author.Tests.{eqb-true, eqb-false, leb-true, lt-leb}
 use Rattle.std.proofs.Common.{Some, None}
+use Rattle.std.specs.Result.{is_ok}
 use Rattle.octets.specs.Test.{every, one_holds, Each}
 use Rattle.octets.specs.Number.{number_at}
 use Rattle.octets.proofs.Cases.{by-test, apart, both}
@@ -31,7 +32,7 @@ use Rattle.packet.specs.Packet.{fields_of, packet_of}
 use Rattle.packet.specs.Transport.{hidden}
 use Rattle.packet.proofs.Theorems.{usable-fields, later-hidden}
 use Rattle.packet.proofs.Theorems6.{lost-hidden, later-six-hidden}
-use Rattle.extension.specs.Extension.{offset_of_fragment, upper_layer}
+use Rattle.extension.specs.Extension.{offset_of_fragment, reached, upper_layer}
 use Rattle.matching.specs.Operator.{bitmask_holds}
 use Rattle.matching.specs.PairList.{joins, list_holds}
 use Rattle.matching.specs.Match.{holds_for, pair_holds, field_matches, no_field, fields_for, component_matches, matches}
@@ -115,14 +116,14 @@ later-fragment value s packet seen later asks =
 
 -- the same of IPv6
 pub later-fragment-six : (value s : List ℕ) (packet : Packet) → packet_of ipv6 s ≡ Some packet
-    → (offset_of_fragment (upper_layer (counted s)).progress.field ≡ 0 → ⊥)
+    → (offset_of_fragment (reached (upper_layer (counted s))).field ≡ 0 → ⊥)
     → one_holds asks_transport (components ipv6 value) ≡ true → matches ipv6 value packet ≡ false
 unfolding fields_of
 later-fragment-six value s packet seen later asks =
     never_met ipv6 packet (ap (λ (p : Packet). p.transport) (usable-fields ipv6 s packet seen) ∙ later-six-hidden ipv6 s later) value asks
 
 -- a packet in which the walk finds no upper layer meets no rule with a component of the types 3 to 9, whatever its operators
-pub lost-walk : (value s : List ℕ) (packet : Packet) → packet_of ipv6 s ≡ Some packet → (upper_layer (counted s)).found ≡ false
+pub lost-walk : (value s : List ℕ) (packet : Packet) → packet_of ipv6 s ≡ Some packet → is_ok (upper_layer (counted s)) ≡ false
     → one_holds asks_upper (components ipv6 value) ≡ true → matches ipv6 value packet ≡ false
 unfolding fields_of
 lost-walk value s packet seen lost asks =

@@ -18,7 +18,8 @@ use Rattle.octets.specs.Number.{number_at, octets_of}
 use Rattle.octets.proofs.NumberLaws.{number-octets, number_behind, length-octets_of}
 use Rattle.prefix.specs.declared.Address.{Address}
 use Rattle.rule.specs.declared.Family.{Family}
-use Rattle.extension.specs.Extension.{is_walked, offset_of_fragment, more_flag, ended, upper_layer}
+use Rattle.extension.specs.Extension.{is_walked, offset_of_fragment, more_flag, ended, reached, upper_layer}
+use Rattle.extension.proofs.ExtensionLaws.{reached-ended, found-ended}
 use Rattle.extension.proofs.LaidOut.{Extension, AllWhole, first_of, size_of_all, laid_out as extension_octets, laid-append, laid-length, whole-packet}
 use Rattle.packet.specs.Header.{version}
 use Rattle.packet.specs.Header6.{traffic_class, flow_label, payload_length, source_address, destination_address, ipv6_unusable, counted, upper_octets}
@@ -183,17 +184,21 @@ module _ (family : Family) (s : List ℕ) (all : length s ≡ payload_length s +
   counts : upper_layer (counted s) ≡ ended found (record { kind = kind; at = at; fragmented = fragmented; field = field })
   counts = rw (take_all (payload_length s + 40) s (omega arith)) walk
 
+  come : reached (ended found (record { kind = kind; at = at; fragmented = fragmented; field = field }))
+      ≡ record { kind = kind; at = at; fragmented = fragmented; field = field }
+  come = reached-ended found (record { kind = kind; at = at; fragmented = fragmented; field = field })
+
   pub protocol-shown : (ipv6_fields family s).protocol ≡ then_some found kind
   unfolding ipv6_fields
-  protocol-shown = rw counts refl
+  protocol-shown = rw (counts, come, found-ended found _) refl
 
   pub fragment-shown : (ipv6_fields family s).fragment ≡ fragment_data false (eqb (offset_of_fragment field) 0) (more_flag field)
   unfolding ipv6_fields
-  fragment-shown = rw counts refl
+  fragment-shown = rw (counts, come) refl
 
   pub transport-shown : (ipv6_fields family s).transport ≡ transport_fields family kind (cond (found && eqb (offset_of_fragment field) 0) (drop at s) [])
   unfolding ipv6_fields upper_octets
-  transport-shown = rw (counts, take_all (payload_length s + 40) s (omega arith)) refl
+  transport-shown = rw (counts, come, found-ended found _, take_all (payload_length s + 40) s (omega arith)) refl
 
 -- a header is 40 octets, whatever follows
 own-append : (h : Header) (rest : List ℕ) → laid_out h rest ≡ laid_out h [] ++ rest

@@ -23,9 +23,9 @@ empty s from to h = let e : to - from ≡ 0 = omega arith in rw e
 
 -- how `transport_octets` comes to each of its answers
 module _ (s : List ℕ) (field : ℕ) (says : field ≡ number_at 2 s 6) where
-  pub not_found : (end : ℕ) → (bit_and field 8191 ≡ 0 → ⊥) → take (end - end) (drop end s) ≡ transport_octets s
+  pub not_found : (bit_and field 8191 ≡ 0 → ⊥) → [] ≡ transport_octets s
   unfolding transport_octets
-  not_found end later = empty s end end (omega arith) ∙ rw (← says, later-not-found (bit_and field 8191) later)
+  not_found later = rw (← says, later-not-found (bit_and field 8191) later)
 
   module _ (first total end : ℕ) (is : first ≡ get_or s 0 0) (sum : total ≡ number_at 2 s 2) (least : end ≡ min (length s) total)
       (found : bit_and field 8191 ≡ 0) where
@@ -33,8 +33,8 @@ module _ (s : List ℕ) (field : ℕ) (says : field ≡ number_at 2 s 6) where
     unfolding transport_octets
     found-octets = rw (least, ← sum, ← is, ← says, found)
 
-    pub found_none : end < 4 * bit_and first 15 → take (end - end) (drop end s) ≡ transport_octets s
-    found_none h = empty s end end (omega arith) ∙ sym (empty s (4 * bit_and first 15) end (omega arith)) ∙ found-octets
+    pub found_none : end < 4 * bit_and first 15 → [] ≡ transport_octets s
+    found_none h = sym (empty s (4 * bit_and first 15) end (omega arith)) ∙ found-octets
 
 -- the fields are what the calls answer
 pub fields-shown : (family : Family) (protocol : ℕ) (t : List ℕ) (ports icmp control : Bool) (a b c d e : ℕ) (source destination kind code flags : Option ℕ)

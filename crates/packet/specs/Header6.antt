@@ -1,12 +1,13 @@
 -- The IPv6 header (RFC 8200 section 3) at the front of a packet's octets, by the names of its fields there; when octets are unusable as a
 -- packet; and what is behind the headers that are walked over (crate extension). An octet that is not there counts as 0.
-use Rattle.std.specs.Prelude.{ℕ, ◌+◌, ◌/◌, Bool, cond, not, ◌&&◌, ◌||◌, List, [], ltb, eqb, length, take, drop}
+use Rattle.std.specs.Prelude.{ℕ, ◌+◌, ◌/◌, Bool, cond, not, ◌&&◌, ◌||◌, List, [], ltb, eqb, length, take, drop, Result}
+use Rattle.std.specs.Result.{is_ok}
 use Rattle.std.specs.Int.Bits.{bit_and}
 use Rattle.octets.specs.Number.{number_at}
 use Rattle.prefix.specs.declared.Address.{Address}
 use Rattle.rule.specs.declared.Family.{Family}
-use Rattle.extension.specs.declared.Ended.{Ended}
-use Rattle.extension.specs.Extension.{offset_of_fragment}
+use Rattle.extension.specs.declared.Progress.{Progress}
+use Rattle.extension.specs.Extension.{offset_of_fragment, reached}
 use Rattle.packet.specs.Header.{version}
 
 -- "Traffic Class", the 8 bits behind the version.
@@ -46,9 +47,9 @@ abbrev pub counted : List ℕ → List ℕ
 counted s = take (packet_length s) s
 
 -- Whether octets of the upper layer count: it is found, and not behind a fragment offset that is not 0.
-abbrev pub upper_found : Ended → Bool
-upper_found upper = upper.found && eqb (offset_of_fragment upper.progress.field) 0
+abbrev pub upper_found : Result Progress Progress → Bool
+upper_found upper = is_ok upper && eqb (offset_of_fragment (reached upper).field) 0
 
 -- The octets from the upper layer's first one on, of those that count.
-unfoldable pub upper_octets : List ℕ → Ended → List ℕ
-upper_octets s upper = cond (upper_found upper) (drop upper.progress.at s) []
+unfoldable pub upper_octets : List ℕ → Result Progress Progress → List ℕ
+upper_octets s upper = cond (upper_found upper) (drop (reached upper).at s) []

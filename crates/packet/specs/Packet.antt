@@ -1,10 +1,11 @@
 -- What octets show as a packet: its fields, or that they are unusable as one. A family's packets have the header of its version of IP.
 use Rattle.std.specs.Prelude.{ℕ, ◌+◌, ◌/◌, Bool, false, not, cond, ◌&&◌, List, eqb, Option, Some, None}
 use Rattle.std.specs.Bool.{then_some}
+use Rattle.std.specs.Result.{is_ok}
 use Rattle.octets.specs.Bit.{bit_if}
 use Rattle.prefix.specs.declared.Address.{Address}
 use Rattle.rule.specs.declared.Family.{Family}
-use Rattle.extension.specs.Extension.{offset_of_fragment, more_flag, upper_layer}
+use Rattle.extension.specs.Extension.{offset_of_fragment, more_flag, reached, upper_layer}
 use Rattle.packet.specs.declared.Packet.{Packet}
 use Rattle.packet.specs.Header.{ipv4_unusable, destination, source, protocol, total_length, dscp, fragment_field, dont_fragment, fragment_offset, more_fragments}
 use Rattle.packet.specs.Header6.{traffic_class, flow_label, packet_length, source_address, destination_address, ipv6_unusable, counted, upper_octets}
@@ -39,15 +40,15 @@ ipv4_fields family s =
 unfoldable pub ipv6_fields : Family → List ℕ → Packet
 ipv6_fields family s =
     let upper = upper_layer (counted s) in
-    let field = upper.progress.field in
+    let progress = reached upper in
     record {
       destination = destination_address s;
       source = source_address s;
-      protocol = then_some upper.found upper.progress.kind;
+      protocol = then_some (is_ok upper) progress.kind;
       length = packet_length s;
       dscp = traffic_class s / 4;
-      fragment = fragment_data false (eqb (offset_of_fragment field) 0) (more_flag field);
-      transport = transport_fields family upper.progress.kind (upper_octets (counted s) upper);
+      fragment = fragment_data false (eqb (offset_of_fragment progress.field) 0) (more_flag progress.field);
+      transport = transport_fields family progress.kind (upper_octets (counted s) upper);
       label = Some (flow_label s);
     }
 

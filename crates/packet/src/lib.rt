@@ -3,12 +3,13 @@
 #![tactic(auto)]
 
 ghost use Rattle.std.specs.Prelude.{◌≡◌, ◌≤◌, length};
+ghost use Rattle.extension.specs.Extension.{reached};
 ghost use Rattle.packet.specs.Header.{ipv4_unusable};
 ghost use Rattle.packet.specs.Header6.{traffic_class, flow_label, address_at, ipv6_unusable, counted, upper_octets};
 ghost use Rattle.packet.specs.Transport.{transport_octets, has_ports, has_icmp, has_flags, transport_fields};
 ghost use Rattle.packet.specs.Packet.{fragment_data, ipv4_fields, ipv6_fields, reading_of, packet_of};
 
-use extension::Ended;
+use extension::Progress;
 use octets::{bit_if, least, number_at, octet_at};
 use prefix::Address;
 use rule::Family;
@@ -123,10 +124,10 @@ fn transport_octets(octets: &[u8]) -> &[u8]
     let start = 4 * words as usize;
     let end = least(octets.len(), total as usize);
     if offset != 0 {
-        return &octets[end..end];
+        return &[];
     }
     if end < start {
-        return &octets[end..end];
+        return &[];
     }
     &octets[start..end]
 }
@@ -194,20 +195,18 @@ fn counted_octets(octets: &[u8]) -> &[u8]
 {
     let length = number_at(2, octets, 4) as usize + 40;
     let end = least(octets.len(), length);
-    &octets[0..end]
+    &octets[..end]
 }
 
 // The octets from the upper layer's first one on; none where it is not found or behind a fragment offset that is not 0.
-fn upper_octets(octets: &[u8], upper: Ended) -> &[u8]
-    requires { upper.progress.at ≤ length octets.now }
+fn upper_octets(octets: &[u8], upper: Result<Progress, Progress>) -> &[u8]
+    requires { (reached upper).at ≤ length octets.now }
     ensures { result.now ≡ upper_octets octets.now upper }
 {
-    let end = octets.len();
-    if upper.found & (upper.progress.field >> 3 == 0) {
-        let from = upper.progress.at;
-        return &octets[from..end];
+    match upper {
+        Ok(progress) if progress.field >> 3 == 0 => &octets[progress.at..],
+        _ => &[],
     }
-    &octets[end..end]
 }
 
 // An address of 128 bits that begins at a place.
@@ -230,17 +229,16 @@ fn ipv6_packet(family: Family, octets: &[u8]) -> Option<Packet>
     }
     let counted = counted_octets(octets);
     let upper = extension::upper_layer(counted);
-    let kind = upper.progress.kind;
-    let field = upper.progress.field;
-    let first = field >> 3 == 0;
-    let transport = transport_fields(family, kind, upper_octets(counted, upper));
+    let (Ok(progress) | Err(progress)) = upper;
+    let first = progress.field >> 3 == 0;
+    let transport = transport_fields(family, progress.kind, upper_octets(counted, upper));
     Some(Packet {
         destination: address_at(octets, 24),
         source: address_at(octets, 8),
-        protocol: upper.found.then_some(kind as u32),
+        protocol: upper.is_ok().then_some(progress.kind as u32),
         length: number_at(2, octets, 4) as u32 + 40,
         dscp: traffic_class(octets) >> 2,
-        fragment: fragment_data(false, first, field & 1 != 0),
+        fragment: fragment_data(false, first, progress.field & 1 != 0),
         transport,
         label: Some(flow_label(octets)),
     })

@@ -1,10 +1,8 @@
 -- The fields are what the calls answer.
-use Rattle.packet.proofs.PacketLaws.{not-usable, usable}
+use Rattle.packet.specs.Packet.{ipv4_fields}
 use borrow.Author.Rules.{rules}
 use Rattle.packet.proofs.ipv4_packet.Goals as goal
 
-pub returns-then-is_unusable_ipv4 : goal.returns-then-is_unusable_ipv4
-returns-then-is_unusable_ipv4 c = search (not-usable, rules)
-
 pub returns : goal.returns
-returns c = search (usable, rules)
+unfolding ipv4_fields
+returns c = search rules
