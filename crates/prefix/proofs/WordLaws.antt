@@ -3,6 +3,9 @@ use mathlib.Core.Path.{◌≡◌, ap, sym, ◌∙◌}
 use Prim.Native.Nat.{ℕ, ◌+◌, ◌-◌, ◌*◌, ◌/◌, ◌%◌, ◌^◌, ◌≤◌, ◌<◌}
 use native.Mathlib.Omega.{arith}
 use native.Mathlib.Nat.{zero-add, mul_assoc, mul-mod_left, mul-add-div_right, div-eq_of_lt, div-one, lt_of_lt_of_le}
+use native.Mathlib.Decide.{dec_lt}
+use borrow.Author.Tests.{lt-ltb, le-ltb}
+use Rattle.std.proofs.Common.{if◌then◌else◌, nat_lt}
 use lib.Bits.{bit_or, or_shifted}
 use lib.Pow.{pow_pos, pow_mono, pow-add, shr-shr, shr_lt, shl-shr, high, mod-pow-add, split}
 use Rattle.prefix.specs.declared.Address.{Address}
@@ -12,8 +15,10 @@ use Rattle.prefix.specs.Prefix.{address_of}
 wide : (k n x : ℕ) → k ≤ n → x < 2 ^ k → x < 2 ^ n
 wide k n x h l = lt_of_lt_of_le l (pow_mono h)
 
-pub high-none : (k n x : ℕ) → k ≤ n → x < 2 ^ k → 0 ≡ x / 2 ^ n
-high-none k n x h l = sym (div-eq_of_lt (wide k n x h l))
+-- and so nothing is left where it is shifted by k or more
+no-more : (k n x : ℕ) → x < 2 ^ k → (if nat_lt n k then x / 2 ^ n else 0) ≡ x / 2 ^ n
+no-more k n x l =
+    elim (dec_lt n k) [ yes h ↦ rw (lt-ltb n k h) | no h ↦ rw (le-ltb n k (omega arith), div-eq_of_lt (wide k n x (omega arith) l)) ]
 
 module _ (k h l : ℕ) (word : l < 2 ^ k) where
   -- shifted by at least a word, only the high one counts
@@ -41,8 +46,10 @@ module _ (n : ℕ) (a : Address) (fits : a.low < 2 ^ 64) where
   pub not-shifted : n ≡ 0 → address_of a ≡ address_of a / 2 ^ n
   not-shifted e = rw e (sym (div-one (address_of a)))
 
-  pub shifted-far : (rest : ℕ) → 64 ≤ n → rest ≡ a.high / 2 ^ (n - 64) → address_of (record { high = 0; low = rest }) ≡ address_of a / 2 ^ n
-  shifted-far rest h e = zero-add rest ∙ rw e (sym (shift-far 64 a.high a.low fits n (n - 64) (omega arith)))
+  pub shifted-far : a.high < 2 ^ 64 → (rest : ℕ) → 64 ≤ n → rest ≡ (if nat_lt (n - 64) 64 then a.high / 2 ^ (n - 64) else 0)
+      → address_of (record { high = 0; low = rest }) ≡ address_of a / 2 ^ n
+  shifted-far word rest h e =
+      zero-add rest ∙ e ∙ no-more 64 (n - 64) a.high word ∙ sym (shift-far 64 a.high a.low fits n (n - 64) (omega arith))
 
   pub shifted-near : n < 64
       → address_of (record { high = a.high / 2 ^ n; low = bit_or (a.high * 2 ^ (64 - n) % 2 ^ 64) (a.low / 2 ^ n) }) ≡ address_of a / 2 ^ n

@@ -49,7 +49,7 @@ fn mask_between(highest: u32, lowest: u32) -> u64
     ensures { result ≡ 2 ^ min highest 64 - 2 ^ min lowest 64 }
 {
     let below = low_mask(lowest);
-    low_mask(highest) & (u64::MAX - below)
+    low_mask(highest) & !below
 }
 
 // Whether two words agree under a mask.
@@ -181,16 +181,6 @@ fn address_at(count: usize, s: &[u8], at: usize) -> Address
     Address { high, low }
 }
 
-// A word without its lowest bits.
-fn high_part(count: u32, word: u64) -> u64
-    ensures { result ≡ word / 2 ^ count }
-{
-    if 64 <= count {
-        return 0;
-    }
-    word >> count
-}
-
 // An address shifted to the right.
 fn shifted(count: u32, address: Address) -> Address
     ensures { address_of result ≡ address_of address / 2 ^ count }
@@ -201,7 +191,7 @@ fn shifted(count: u32, address: Address) -> Address
     if 64 <= count {
         return Address {
             high: 0,
-            low: high_part(count - 64, address.high),
+            low: address.high.unbounded_shr(count - 64),
         };
     }
     let back = 64 - count;
