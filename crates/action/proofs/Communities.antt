@@ -9,22 +9,20 @@ use borrow.Author.Tests.{ne_eqb, ltb-false, eqb-true, not-false}
 use lib.Bits.{bit_and, and_mask}
 use lib.Dec.{ltb, eqb}
 use lib.ListN.{length}
+use Rattle.std.proofs.Common.{Option, Some, None, option_and_then}
 use Rattle.octets.specs.Bit.{has}
 use Rattle.octets.specs.Number.{number_at}
 use Rattle.octets.proofs.Cases.{neither}
 use Rattle.rate.specs.declared.Rate.{Rate}
-use Rattle.rate.specs.declared.Rate.TheVariants.{Number, NotANumber}
 use Rattle.action.specs.declared.Actions.{Actions}
 use Rattle.action.specs.declared.Given.{Given}
 use Rattle.action.specs.declared.Kind.{Kind}
 use Rattle.action.specs.declared.Kind.TheVariants.{ByteRate, PacketRate, TrafficAction, Redirect, Marking, Other}
 use Rattle.action.specs.declared.Limit.{Limit}
-use Rattle.action.specs.declared.Reading.{Reading}
-use Rattle.action.specs.declared.Reading.TheVariants.{Read, Unsound}
 use Rattle.action.specs.Given.{given, first_of}
 use Rattle.action.specs.Limit.{limit, smaller_of}
 use Rattle.action.specs.Actions.{no_actions, is_redirect, rate_in, communities_at, wrong_length, actions_of}
-use Rattle.action.specs.Reading.{kind_of, with_byte_rate, with_packet_rate, with_flags, with_marking, with_redirect, with_rate, with_kind, with_community, with_communities, and_then}
+use Rattle.action.specs.Reading.{kind_of, with_byte_rate, with_packet_rate, with_flags, with_marking, with_redirect, with_rate, with_kind, with_community, with_communities}
 use Rattle.action.proofs.ReadingLaws.{by-reading}
 
 -- A type that is none of the four single ones is a redirect or is skipped.
@@ -36,45 +34,45 @@ last-kind type r b p t m h =
 
 -- What a community c, read as x, adds to the actions a, by its kind: they become b, or are refused.
 module _ (a : Actions) (c x : ℕ) (k : Kind) (here : x ≡ c) (kind : k ≡ kind_of (x / 2 ^ 48)) where
-  known : (want : Kind) (r : Reading) → k ≡ want → with_kind want a x ≡ r → with_community a c ≡ r
+  known : (want : Kind) (r : Option Actions) → k ≡ want → with_kind want a x ≡ r → with_community a c ≡ r
   unfolding with_community
   known want r h e = rw (← here, ← kind, h) e
 
-  module _ (r : Rate) (read : r ≡ rate_in x) (is : r ≡ NotANumber) where
-    pub refuses-byte-rate : k ≡ ByteRate → with_community a c ≡ Unsound
+  module _ (r : Option Rate) (read : r ≡ rate_in x) (is : r ≡ None) where
+    pub refuses-byte-rate : k ≡ ByteRate → with_community a c ≡ None
     unfolding with_kind with_rate
     refuses-byte-rate h = known ByteRate _ h (rw (← read, is))
 
-    pub refuses-packet-rate : k ≡ PacketRate → with_community a c ≡ Unsound
+    pub refuses-packet-rate : k ≡ PacketRate → with_community a c ≡ None
     unfolding with_kind with_rate
     refuses-packet-rate h = known PacketRate _ h (rw (← read, is))
 
   module _ (b : Actions) where
-    pub takes-byte-rate : (r : Rate) (number note : ℕ) (l s : Limit) → k ≡ ByteRate → r ≡ rate_in x → r ≡ Number number note → l ≡ limit number note
-        → s ≡ smaller_of a.bytes l → b ≡ with_byte_rate a s → with_community a c ≡ Read b
+    pub takes-byte-rate : (r : Option Rate) (rate : Rate) (l s : Limit) → k ≡ ByteRate → r ≡ rate_in x → r ≡ Some rate → l ≡ limit rate.number rate.note
+        → s ≡ smaller_of a.bytes l → b ≡ with_byte_rate a s → with_community a c ≡ Some b
     unfolding with_kind with_rate
-    takes-byte-rate r number note l s h read is l-is s-is b-is = known ByteRate _ h (rw (← read, is, b-is, s-is, l-is))
+    takes-byte-rate r rate l s h read is l-is s-is b-is = known ByteRate _ h (rw (← read, is, b-is, s-is, l-is))
 
-    pub takes-packet-rate : (r : Rate) (number note : ℕ) (l s : Limit) → k ≡ PacketRate → r ≡ rate_in x → r ≡ Number number note → l ≡ limit number note
-        → s ≡ smaller_of a.packets l → b ≡ with_packet_rate a s → with_community a c ≡ Read b
+    pub takes-packet-rate : (r : Option Rate) (rate : Rate) (l s : Limit) → k ≡ PacketRate → r ≡ rate_in x → r ≡ Some rate → l ≡ limit rate.number rate.note
+        → s ≡ smaller_of a.packets l → b ≡ with_packet_rate a s → with_community a c ≡ Some b
     unfolding with_kind with_rate
-    takes-packet-rate r number note l s h read is l-is s-is b-is = known PacketRate _ h (rw (← read, is, b-is, s-is, l-is))
+    takes-packet-rate r rate l s h read is l-is s-is b-is = known PacketRate _ h (rw (← read, is, b-is, s-is, l-is))
 
-    pub takes-flags : k ≡ TrafficAction → b ≡ with_flags a (a.sample || has x 0x02) (a.onward || has x 0x01) → with_community a c ≡ Read b
+    pub takes-flags : k ≡ TrafficAction → b ≡ with_flags a (a.sample || has x 0x02) (a.onward || has x 0x01) → with_community a c ≡ Some b
     unfolding with_kind
     takes-flags h b-is = known TrafficAction _ h (rw b-is)
 
     pub takes-marking : (g s : Given) → k ≡ Marking → g ≡ given (bit_and x 0x3f) → s ≡ first_of a.marking g → b ≡ with_marking a s
-        → with_community a c ≡ Read b
+        → with_community a c ≡ Some b
     unfolding with_kind
     takes-marking g s h g-is s-is b-is = known Marking _ h (rw (b-is, s-is, g-is, and_mask x 6))
 
     pub takes-redirect : (g s : Given) → k ≡ Redirect → g ≡ given x → s ≡ first_of a.redirect g → b ≡ with_redirect a s
-        → with_community a c ≡ Read b
+        → with_community a c ≡ Some b
     unfolding with_kind
     takes-redirect g s h g-is s-is b-is = known Redirect _ h (rw (b-is, s-is, g-is))
 
-    pub skipped : k ≡ Other → b ≡ a → with_community a c ≡ Read b
+    pub skipped : k ≡ Other → b ≡ a → with_community a c ≡ Some b
     unfolding with_kind
     skipped h b-is = known Other _ h (rw b-is)
 
@@ -86,7 +84,7 @@ pub record Reached (s : List ℕ) (a : Actions) (at : ℕ) : Type 0 where
   pub goes_on : with_communities a (communities_at ((length s - at) / 8) s at) ≡ actions_of s
 
 -- A wrong length is refused.
-pub refused : (s : List ℕ) → wrong_length (length s) ≡ true → Unsound ≡ actions_of s
+pub refused : (s : List ℕ) → wrong_length (length s) ≡ true → None ≡ actions_of s
 refused s h = rw (by-reading s, h)
 
 -- Before the first community.
@@ -102,12 +100,12 @@ start s a h e =
 
 module _ (s : List ℕ) (a : Actions) (at : ℕ) (reached : Reached s a at) where
   -- After the last community.
-  pub finished : length s ≤ at → Read a ≡ actions_of s
+  pub finished : length s ≤ at → Some a ≡ actions_of s
   unfolding with_communities communities_at
   finished h = let none : (length s - at) / 8 ≡ 0 = omega arith in rw none at reached.goes_on
 
   module _ (more : at < length s) where
-    first-of-rest : and_then (with_community a (number_at 8 s at)) (λ b. with_communities b (communities_at ((length s - (at + 8)) / 8) s (at + 8)))
+    first-of-rest : option_and_then (λ b. with_communities b (communities_at ((length s - (at + 8)) / 8) s (at + 8))) (with_community a (number_at 8 s at))
         ≡ actions_of s
     unfolding with_communities communities_at
     first-of-rest =
@@ -116,11 +114,11 @@ module _ (s : List ℕ) (a : Actions) (at : ℕ) (reached : Reached s a at) wher
         rw one_more at reached.goes_on
 
     -- One community more.
-    pub next : (b : Actions) → with_community a (number_at 8 s at) ≡ Read b → Reached s b (at + 8)
+    pub next : (b : Actions) → with_community a (number_at 8 s at) ≡ Some b → Reached s b (at + 8)
     next b h =
         let w = reached.whole in
         record { few = reached.few; within = omega arith; whole = omega arith; goes_on = rw h at first-of-rest }
 
     -- A community that is refused.
-    pub stopped : with_community a (number_at 8 s at) ≡ Unsound → Unsound ≡ actions_of s
+    pub stopped : with_community a (number_at 8 s at) ≡ None → None ≡ actions_of s
     stopped h = rw h at first-of-rest

@@ -4,12 +4,11 @@ use Prim.Native.Nat.{ℕ}
 use mathlib.Core.Path.{◌≡◌, refl}
 use mathlib.Core.Bool.{true, false}
 use mathlib.Core.List.{List, [], ◌∷◌, ◌++◌, map}
+use Rattle.std.proofs.Common.{Option, Some, None}
 use Rattle.octets.specs.Number.{number_at, octets_of}
 use Rattle.octets.specs.Test.{one_holds}
 use Rattle.rate.specs.Rate.{scaled, value_rate, rate_of_parts, rate_of}
 use Rattle.action.specs.declared.Actions.{Actions}
-use Rattle.action.specs.declared.Reading.{Reading}
-use Rattle.action.specs.declared.Reading.TheVariants.{Read, Unsound}
 use Rattle.action.specs.Given.{given, first_of}
 use Rattle.action.specs.Limit.{limit, smaller_of}
 use Rattle.action.specs.Actions.{of_type, smallest, first, rule_actions, communities_at, wrong_length, actions_of, no_actions, flags_of, notes_of, values_of}
@@ -21,17 +20,17 @@ abbrev community : ℕ → ℕ → List ℕ
 community type low = octets_of 2 type ++ octets_of 6 low
 
 -- What communities give: flags, DSCP, byte rate, packet rate, redirect and notes, or 13.
-abbrev told : Reading → List ℕ
-told (Read a) = values_of a
-told Unsound = 13 ∷ []
+abbrev told : Option Actions → List ℕ
+told (Some a) = values_of a
+told None = 13 ∷ []
 
 abbrev answer : List ℕ → List ℕ
 answer s = told (actions_of s)
 
 -- The flags of one community, or 13.
-abbrev flags_told : Reading → ℕ
-flags_told (Read a) = flags_of a
-flags_told Unsound = 13
+abbrev flags_told : Option Actions → ℕ
+flags_told (Some a) = flags_of a
+flags_told None = 13
 
 abbrev flags : ℕ → ℕ → ℕ
 flags type low = flags_told (actions_of (community type low))

@@ -7,12 +7,11 @@ use native.Mathlib.Nat.{mod-lt}
 use borrow.Author.Tests.{lt-ltb}
 use lib.Dec.{ltb, lit<}
 use lib.ListN.{length}
+use Rattle.std.proofs.Common.{Option, Some, None}
 use Rattle.octets.proofs.Cases.{by-test, apart}
 use Rattle.rate.specs.declared.Rate.{Rate}
-use Rattle.rate.specs.declared.Rate.TheVariants.{Number, NotANumber}
 use Rattle.rate.proofs.RatesGiven.{complete}
 use Rattle.action.specs.declared.Actions.{Actions}
-use Rattle.action.specs.declared.Reading.TheVariants.{Read, Unsound}
 use Rattle.action.specs.Given.{allowed}
 use Rattle.action.specs.Limit.{limit, could_be_limit}
 use Rattle.action.specs.Actions.{is_byte_rate, is_packet_rate, is_marking, is_redirect, of_type, rate_in, rates_of, marking_in, smallest, first, rule_actions, wrong_rate, wrong_length, communities_of, actions_of}
@@ -47,11 +46,11 @@ unfolding could_be
 could-be a c = rw (c.bytes, c.packets, c.marks, c.redirects)
 
 -- A rate read could be the limit, where the smallest of the others could.
-rate-smallest : (c : ℕ) (rates : List Rate) → could_be_limit (smallest rates) ≡ true → (r : Rate) → rate_in c ≡ r → could_be_limit (smallest (r ∷ rates)) ≡ true
+rate-smallest : (c : ℕ) (rates : List (Option Rate)) → could_be_limit (smallest rates) ≡ true → (r : Option Rate) → rate_in c ≡ r → could_be_limit (smallest (r ∷ rates)) ≡ true
 unfolding smallest
-rate-smallest c rates p (Number number note) h =
-    smaller-could (limit number note) (smallest rates) (rate-could number note (complete (c % 2 ^ 32) number note h)) p
-rate-smallest c rates p NotANumber h = p
+rate-smallest c rates p (Some r) h =
+    smaller-could (limit r.number r.note) (smallest rates) (rate-could r.number r.note (complete (c % 2 ^ 32) r h)) p
+rate-smallest c rates p None h = p
 
 -- The smallest of rates read could be.
 rates-could : (test : ℕ → Bool) (cs : List ℕ) → could_be_limit (smallest (rates_of test cs)) ≡ true
@@ -79,10 +78,10 @@ rule-could cs =
     }
 
 -- Every actions read could be.
-pub read-possible : (s : List ℕ) (a : Actions) → actions_of s ≡ Read a → could_be a ≡ true
+pub read-possible : (s : List ℕ) (a : Actions) → actions_of s ≡ Some a → could_be a ≡ true
 unfolding actions_of
 read-possible s a h = on (wrong_length (length s) || wrong_rate (communities_of s)) h
   where
-    on : (wrong : Bool) → cond wrong Unsound (Read (rule_actions (communities_of s))) ≡ Read a → could_be a ≡ true
+    on : (wrong : Bool) → cond wrong None (Some (rule_actions (communities_of s))) ≡ Some a → could_be a ≡ true
     on true e = apart (cc)
     on false e = let same : rule_actions (communities_of s) ≡ a = cc in rw (← same) (could-be _ (rule-could (communities_of s)))

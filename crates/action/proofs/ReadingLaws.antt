@@ -5,21 +5,19 @@ use mathlib.Core.Bool.{Bool, true, false, or-false, or-true, cond, ◌||◌}
 use mathlib.Core.List.{List, [], ◌∷◌, map}
 use borrow.Author.Tests.{eqb-true}
 use lib.ListN.{length}
+use Rattle.std.proofs.Common.{Option, Some, None, option_and_then}
 use Rattle.octets.specs.Test.{one_holds}
 use Rattle.octets.proofs.Cases.{by-test}
 use Rattle.rate.specs.declared.Rate.{Rate}
-use Rattle.rate.specs.declared.Rate.TheVariants.{Number, NotANumber}
 use Rattle.action.specs.declared.Actions.{Actions}
 use Rattle.action.specs.declared.Given.{Given}
 use Rattle.action.specs.declared.Kind.{Kind}
 use Rattle.action.specs.declared.Kind.TheVariants.{ByteRate, PacketRate, TrafficAction, Redirect, Marking, Other}
 use Rattle.action.specs.declared.Limit.{Limit}
-use Rattle.action.specs.declared.Reading.{Reading}
-use Rattle.action.specs.declared.Reading.TheVariants.{Read, Unsound}
 use Rattle.action.specs.Given.{absent, given, first_of}
 use Rattle.action.specs.Limit.{no_limit, limit, smaller_of}
 use Rattle.action.specs.Actions.{no_actions, is_byte_rate, is_packet_rate, is_traffic_action, is_marking, is_redirect, of_type, rate_in, rates_of, sets_s, sets_t, marking_in, smallest, first, rule_actions, wrong_rate, wrong_length, communities_of, actions_of}
-use Rattle.action.specs.Reading.{kind_of, with_byte_rate, with_packet_rate, with_marking, with_redirect, with_rate, with_kind, with_community, with_communities, and_then}
+use Rattle.action.specs.Reading.{kind_of, with_byte_rate, with_packet_rate, with_marking, with_redirect, with_rate, with_kind, with_community, with_communities}
 use Rattle.action.proofs.GivenLaws.{first-assoc, first_one, or_assoc}
 use Rattle.action.proofs.LimitLaws.{smaller-assoc, smaller-one}
 
@@ -77,27 +75,27 @@ tidy-first : (g : Given) (n : ℕ) → first_of (first_of g (given n)) absent �
 tidy-first g n = rw (first-assoc g (given n) absent, first_one n absent)
 
 -- The answer from some actions on.
-abbrev answer : Actions → List ℕ → Reading
-answer a cs = cond (wrong_rate cs) Unsound (Read (together a (rule_actions cs)))
+abbrev answer : Actions → List ℕ → Option Actions
+answer a cs = cond (wrong_rate cs) None (Some (together a (rule_actions cs)))
 
 module _ (a : Actions) (tidy : Tidy a) (c : ℕ) (cs : List ℕ) (later : (b : Actions) → Tidy b → with_communities b cs ≡ answer b cs) where
-  byte_step : (r : Rate) → rate_in c ≡ r → Of ByteRate (c / 2 ^ 48)
-      → and_then (with_rate (λ l. with_byte_rate a (smaller_of a.bytes l)) r) (λ b. with_communities b cs) ≡ answer a (c ∷ cs)
+  byte_step : (r : Option Rate) → rate_in c ≡ r → Of ByteRate (c / 2 ^ 48)
+      → option_and_then (λ b. with_communities b cs) (with_rate (λ l. with_byte_rate a (smaller_of a.bytes l)) r) ≡ answer a (c ∷ cs)
   unfolding with_rate rule_actions of_type smallest one_holds
-  byte_step (Number number note) h t =
-      rw (t.bytes, t.packets, t.traffic, t.marking, t.redirect, h, ← (smaller-assoc a.bytes (limit number note) (smallest (rates_of is_byte_rate cs))))
-      (later _ (record { bytes = tidy-smaller a.bytes number note; packets = tidy.packets; marking = tidy.marking; redirect = tidy.redirect }))
-  byte_step NotANumber h t = rw (t.bytes, h)
+  byte_step (Some rate) h t =
+      rw (t.bytes, t.packets, t.traffic, t.marking, t.redirect, h, ← (smaller-assoc a.bytes (limit rate.number rate.note) (smallest (rates_of is_byte_rate cs))))
+      (later _ (record { bytes = tidy-smaller a.bytes rate.number rate.note; packets = tidy.packets; marking = tidy.marking; redirect = tidy.redirect }))
+  byte_step None h t = rw (t.bytes, h)
 
-  packet-step : (r : Rate) → rate_in c ≡ r → Of PacketRate (c / 2 ^ 48)
-      → and_then (with_rate (λ l. with_packet_rate a (smaller_of a.packets l)) r) (λ b. with_communities b cs) ≡ answer a (c ∷ cs)
+  packet-step : (r : Option Rate) → rate_in c ≡ r → Of PacketRate (c / 2 ^ 48)
+      → option_and_then (λ b. with_communities b cs) (with_rate (λ l. with_packet_rate a (smaller_of a.packets l)) r) ≡ answer a (c ∷ cs)
   unfolding with_rate rule_actions of_type smallest one_holds
-  packet-step (Number number note) h t =
-      rw (t.bytes, t.packets, t.traffic, t.marking, t.redirect, h, ← (smaller-assoc a.packets (limit number note) (smallest (rates_of is_packet_rate cs))))
-      (later _ (record { bytes = tidy.bytes; packets = tidy-smaller a.packets number note; marking = tidy.marking; redirect = tidy.redirect }))
-  packet-step NotANumber h t = rw (t.packets, h, or-true)
+  packet-step (Some rate) h t =
+      rw (t.bytes, t.packets, t.traffic, t.marking, t.redirect, h, ← (smaller-assoc a.packets (limit rate.number rate.note) (smallest (rates_of is_packet_rate cs))))
+      (later _ (record { bytes = tidy.bytes; packets = tidy-smaller a.packets rate.number rate.note; marking = tidy.marking; redirect = tidy.redirect }))
+  packet-step None h t = rw (t.packets, h, or-true)
 
-  step : (k : Kind) → Of k (c / 2 ^ 48) → and_then (with_kind k a c) (λ b. with_communities b cs) ≡ answer a (c ∷ cs)
+  step : (k : Kind) → Of k (c / 2 ^ 48) → option_and_then (λ b. with_communities b cs) (with_kind k a c) ≡ answer a (c ∷ cs)
   unfolding with_kind rule_actions of_type first one_holds
   step ByteRate t = byte_step (rate_in c) refl t
   step PacketRate t = packet-step (rate_in c) refl t
@@ -126,7 +124,7 @@ module _ (a : Actions) (tidy : Tidy a) (c : ℕ) (cs : List ℕ) (later : (b : A
       (rw same at (later (with_redirect a (first_of a.redirect (given c))) (record { bytes = tidy.bytes; packets = tidy.packets; marking = tidy.marking; redirect = tidy-first a.redirect c })))
   step Other t = rw (t.bytes, t.packets, t.traffic, t.marking, t.redirect) (later a tidy)
 
-nothing-after : (a : Actions) → Tidy a → Read a ≡ answer a []
+nothing-after : (a : Actions) → Tidy a → Some a ≡ answer a []
 unfolding rule_actions of_type smallest first one_holds
 nothing-after a tidy = rw (tidy.bytes, tidy.packets, tidy.marking, tidy.redirect, or-false a.sample, or-false a.onward)
 
@@ -136,7 +134,7 @@ reads_all [] a tidy = nothing-after a tidy
 reads_all (c ∷ cs) a tidy = step a tidy c cs (λ b t. reads_all cs b t) (kind_of (c / 2 ^ 48)) (tests (c / 2 ^ 48))
 
 -- The actions of a rule are what its communities add to none, one after the other.
-pub by-reading : (s : List ℕ) → actions_of s ≡ cond (wrong_length (length s)) Unsound (with_communities no_actions (communities_of s))
+pub by-reading : (s : List ℕ) → actions_of s ≡ cond (wrong_length (length s)) None (with_communities no_actions (communities_of s))
 unfolding actions_of smaller_of first_of
 by-reading s =
     by-test (wrong_length (length s)) (λ h. rw h)

@@ -8,10 +8,10 @@ use mathlib.Core.Logic.{inl, inr}
 use native.Mathlib.Omega.{arith}
 use borrow.Author.Tests.{leb-true, leb-false}
 use lib.Dec.{leb}
+use Rattle.std.proofs.Common.{Option, Some, None}
 use Rattle.octets.specs.Test.{Each}
 use Rattle.octets.proofs.Cases.{by-test, apart, both}
 use Rattle.rate.specs.declared.Rate.{Rate}
-use Rattle.rate.specs.declared.Rate.TheVariants.{Number, NotANumber}
 use Rattle.action.specs.declared.Limit.{Limit}
 use Rattle.action.specs.Limit.{no_limit, limit, smaller_of}
 use Rattle.action.specs.Actions.{is_byte_rate, is_packet_rate, rates_of, smallest, rule_actions}
@@ -106,11 +106,11 @@ module _ (ls : List Limit) (l x : Limit) (s : SmallestOf ls l) where
   smallest-behind = smallest-append ls (x ∷ []) l x s (smallest-one x)
 
 -- Of several rates, the smallest is the first that gives the smallest number.
-pub smallest-first : (rates : List Rate) → SmallestOf (map limit_given rates) (smallest rates)
+pub smallest-first : (rates : List (Option Rate)) → SmallestOf (map limit_given rates) (smallest rates)
 unfolding smallest
 smallest-first [] = inl (tt, refl)
-smallest-first (Number number note ∷ rates) = smallest-before (map limit_given rates) (smallest rates) (limit number note) (smallest-first rates)
-smallest-first (NotANumber ∷ rates) =
+smallest-first (Some r ∷ rates) = smallest-before (map limit_given rates) (smallest rates) (limit r.number r.note) (smallest-first rates)
+smallest-first (None ∷ rates) =
     rw (smaller_before (smallest rates)) at (smallest-before (map limit_given rates) (smallest rates) no_limit (smallest-first rates))
 
 -- So it is of the rates of either kind in a rule's communities.

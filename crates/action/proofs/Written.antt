@@ -11,6 +11,7 @@ use borrow.Author.Tests.{eqb-true, eq-eqb, ltb-true, le-ltb}
 use lib.Dec.{eqb, lit<, lit≤}
 use lib.ListN.{length, length-append}
 use lib.Pow.{high}
+use Rattle.std.proofs.Common.{Some}
 use Rattle.octets.specs.Number.{octets_of}
 use Rattle.octets.proofs.Cases.{by-test}
 use Rattle.octets.proofs.Facts.{Octets, octets-append}
@@ -21,7 +22,6 @@ use Rattle.action.specs.declared.Given.{Given}
 use Rattle.action.specs.declared.Kind.{Kind}
 use Rattle.action.specs.declared.Kind.TheVariants.{ByteRate, PacketRate, TrafficAction, Redirect, Marking}
 use Rattle.action.specs.declared.Limit.{Limit}
-use Rattle.action.specs.declared.Reading.TheVariants.{Read}
 use Rattle.action.specs.Given.{absent, given, first_of}
 use Rattle.action.specs.Limit.{no_limit, limit, smaller_of, could_be_limit}
 use Rattle.action.specs.Actions.{no_actions, is_redirect, rate_in, wrong_length, communities_at, actions_of}
@@ -69,7 +69,7 @@ record Says (n : ℕ) (from to : Actions) : Type 0 where
   communities : List ℕ
   fit : Fit communities
   few : length communities ≤ n
-  reads : with_communities from communities ≡ Read to
+  reads : with_communities from communities ≡ Some to
 
 say-nothing : (a : Actions) → Says 0 a a
 unfolding with_communities
@@ -82,7 +82,7 @@ say-no-more n a z s = record { communities = s.communities; fit = s.fit; few = (
 record Adds (a b : Actions) : Type 0 where
   community : ℕ
   fits : community < 2 ^ 64
-  adds : with_community a community ≡ Read b
+  adds : with_community a community ≡ Some b
 
 say : (n : ℕ) (a b z : Actions) → Adds a b → Says n b z → Says (suc n) a z
 unfolding with_communities
@@ -106,7 +106,7 @@ say-field n change none field z (inr gone) s = say-no-more n (change none) z (rw
 
 -- A community of a type, with what it carries.
 adds-kind : (kind : Kind) (type low : ℕ) (a b : Actions) → type < 2 ^ 16 → low < 2 ^ 48 → kind_of type ≡ kind
-    → with_kind kind a (type * 2 ^ 48 + low) ≡ Read b → Adds a b
+    → with_kind kind a (type * 2 ^ 48 + low) ≡ Some b → Adds a b
 unfolding with_community
 adds-kind kind type low a b p q h k =
     record { community = type * 2 ^ 48 + low; fits = omega arith; adds = rw (high type 48 {lo = low} q, h) k }
@@ -180,7 +180,7 @@ right-length : (octets count : ℕ) → octets ≡ 8 * count → count ≤ 64 �
 right-length octets count h p = rw (le-ltb 512 octets (omega arith), eq-eqb (octets % 8) 0 (omega arith))
 
 -- Every actions that could be are those of some communities.
-pub possible-read : (a : Actions) → could_be a ≡ true → (s : List ℕ) × (Octets s) × (length s ≤ 512) × (actions_of s ≡ Read a)
+pub possible-read : (a : Actions) → could_be a ≡ true → (s : List ℕ) × (Octets s) × (length s ≤ 512) × (actions_of s ≡ Some a)
 possible-read a h =
     let p = says a (could a h) in
     let few = p.few in

@@ -1,18 +1,15 @@
 -- What the communities of one rule ask for (RFC 8955 section 7). A community is eight octets, here one number: its high sixteen bits are
 -- its type, and what it carries stands in its low bits. S asks to sample; T asks to go on to later rules. The fields are those of the
 -- code's `Actions`: `sample` is S and `onward` is T.
-use Rattle.std.specs.Prelude.{ℕ, zero, suc, ◌+◌, ◌*◌, ◌/◌, ◌%◌, ◌^◌, Bool, true, false, cond, not, ◌||◌, List, [], ◌∷◌, map, ltb, eqb, length}
+use Rattle.std.specs.Prelude.{ℕ, zero, suc, ◌+◌, ◌*◌, ◌/◌, ◌%◌, ◌^◌, Bool, false, cond, not, ◌||◌, List, [], ◌∷◌, map, ltb, eqb, length, Option, Some, None, is_none}
 use Rattle.octets.specs.Bit.{has, bit_if}
 use Rattle.octets.specs.Number.{number_at}
 use Rattle.octets.specs.Test.{one_holds}
 use Rattle.rate.specs.declared.Rate.{Rate}
-use Rattle.rate.specs.declared.Rate.TheVariants.{Number, NotANumber}
 use Rattle.rate.specs.Rate.{rate_of}
 use Rattle.action.specs.declared.Actions.{Actions}
 use Rattle.action.specs.declared.Given.{Given}
 use Rattle.action.specs.declared.Limit.{Limit}
-use Rattle.action.specs.declared.Reading.{Reading}
-use Rattle.action.specs.declared.Reading.TheVariants.{Read, Unsound}
 use Rattle.action.specs.Given.{absent, given}
 use Rattle.action.specs.Limit.{no_limit, limit, smaller_of}
 
@@ -43,11 +40,11 @@ of_type test [] = []
 of_type test (c ∷ cs) = cond (test (c / 2 ^ 48)) (c ∷ of_type test cs) (of_type test cs)
 
 -- The rate in a community: its last four octets (sections 7.1 and 7.2).
-abbrev pub rate_in : ℕ → Rate
+abbrev pub rate_in : ℕ → Option Rate
 rate_in c = rate_of (c % 2 ^ 32)
 
 -- The rates in the communities of a type.
-abbrev pub rates_of : (ℕ → Bool) → List ℕ → List Rate
+abbrev pub rates_of : (ℕ → Bool) → List ℕ → List (Option Rate)
 rates_of test cs = map rate_in (of_type test cs)
 
 -- 01: "In 0x8007 the last octet's 0x01 (T) means go on to later rules, 0x02 (S) sample" (section 7.3). First T.
@@ -63,10 +60,10 @@ abbrev pub marking_in : ℕ → ℕ
 marking_in c = c % 2 ^ 6
 
 -- The smallest of several rates, the first of those that are equal; one that is not a number does not count.
-unfoldable pub smallest : List Rate → Limit
+unfoldable pub smallest : List (Option Rate) → Limit
 smallest [] = no_limit
-smallest (Number number note ∷ rates) = smaller_of (limit number note) (smallest rates)
-smallest (NotANumber ∷ rates) = smallest rates
+smallest (Some rate ∷ rates) = smaller_of (limit rate.number rate.note) (smallest rates)
+smallest (None ∷ rates) = smallest rates
 
 -- The first of several numbers.
 unfoldable pub first : List ℕ → Given
@@ -86,14 +83,9 @@ rule_actions cs =
       redirect = first (of_type is_redirect cs);
     }
 
--- A rate that is not a number.
-abbrev pub no_number : Rate → Bool
-no_number (Number number note) = false
-no_number NotANumber = true
-
 -- 01: "Not-a-number of either sign is 13", in a rate of either kind; the RFC is silent on it.
 abbrev pub wrong_rate : List ℕ → Bool
-wrong_rate cs = one_holds no_number (rates_of is_byte_rate cs) || one_holds no_number (rates_of is_packet_rate cs)
+wrong_rate cs = one_holds is_none (rates_of is_byte_rate cs) || one_holds is_none (rates_of is_packet_rate cs)
 
 -- 01: "At most 64 communities of 8 octets; another total length is 13."
 abbrev pub wrong_length : ℕ → Bool
@@ -109,9 +101,9 @@ abbrev pub communities_of : List ℕ → List ℕ
 communities_of s = communities_at (length s / 8) s 0
 
 -- The actions of a rule, from the octets of its communities: unsound (13) at a wrong length or a rate that is not a number.
-unfoldable pub actions_of : List ℕ → Reading
+unfoldable pub actions_of : List ℕ → Option Actions
 actions_of s =
-    cond (wrong_length (length s) || wrong_rate (communities_of s)) Unsound (Read (rule_actions (communities_of s)))
+    cond (wrong_length (length s) || wrong_rate (communities_of s)) None (Some (rule_actions (communities_of s)))
 
 -- Actions that ask for nothing.
 abbrev pub no_actions : Actions

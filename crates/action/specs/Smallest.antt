@@ -1,17 +1,16 @@
 -- Which of several rates of a kind is answered, said a second time and with no word of how it is found. 2026-05: "For several rates of a
 -- kind, the note is that of the first community, or first matching rule, giving the smallest number." Here `all` are the limits that
 -- communities, or matching rules, give in their order, and `l` is the one that is answered.
-use Rattle.std.specs.Prelude.{ℕ, ◌<◌, ◌≤◌, ◌≡◌, true, false, List, ◌∷◌, ◌++◌, ◌⊎◌}
+use Rattle.std.specs.Prelude.{ℕ, ◌<◌, ◌≤◌, ◌≡◌, true, false, List, ◌∷◌, ◌++◌, ◌⊎◌, Option, Some, None}
 use Rattle.octets.specs.Test.{Each}
 use Rattle.rate.specs.declared.Rate.{Rate}
-use Rattle.rate.specs.declared.Rate.TheVariants.{Number, NotANumber}
 use Rattle.action.specs.declared.Limit.{Limit}
 use Rattle.action.specs.Limit.{no_limit, limit}
 
 -- The limit that a community's rate gives: its number with its note, and none where it is not a number.
-abbrev pub limit_given : Rate → Limit
-limit_given (Number number note) = limit number note
-limit_given NotANumber = no_limit
+abbrev pub limit_given : Option Rate → Limit
+limit_given (Some rate) = limit rate.number rate.note
+limit_given None = no_limit
 
 -- A limit that is missing gives no number.
 abbrev pub Missing : Limit → Type 0

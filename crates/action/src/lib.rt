@@ -48,13 +48,6 @@ pub enum Kind {
     Other,
 }
 
-// What reading a rule's communities gives.
-#[derive(Clone, Copy)]
-pub enum Reading {
-    Read(Actions),
-    Unsound,
-}
-
 // A number that is there.
 fn given_of(number: u64) -> Given
     ensures { result ≡ given number }
@@ -65,14 +58,14 @@ fn given_of(number: u64) -> Given
     }
 }
 
-// A limit that is there, with its note.
-fn limit_of(number: u64, note: u8) -> Limit
-    ensures { result ≡ limit number note }
+// The limit that is a rate's number, with its note.
+fn limit_of(rate: Rate) -> Limit
+    ensures { result ≡ limit rate.number rate.note }
 {
     Limit {
         present: true,
-        number,
-        note,
+        number: rate.number,
+        note: rate.note,
     }
 }
 
@@ -157,7 +150,7 @@ fn kind_of(octets: u64) -> Kind
 }
 
 // The rate in a community: its last four octets.
-fn rate_in(community: u64) -> Rate
+fn rate_in(community: u64) -> Option<Rate>
     ensures { result ≡ rate_in community }
 {
     let single = community & 0xffff_ffff;
@@ -166,12 +159,12 @@ fn rate_in(community: u64) -> Rate
 
 // The actions of a rule, from the octets of its communities: each changes the field of its kind, S and T together; unsound at a length
 // that is not 0 to 64 communities, or at a rate that is not a number.
-pub fn actions_of(communities: &[u8]) -> Reading
+pub fn actions_of(communities: &[u8]) -> Option<Actions>
     ensures { result ≡ actions_of communities.now }
 {
     let size = communities.len();
     if (512 < size) | (size % 8 != 0) {
-        return Reading::Unsound;
+        return None;
     }
     let mut actions = no_actions();
     let mut at = 0;
@@ -179,16 +172,12 @@ pub fn actions_of(communities: &[u8]) -> Reading
         let community = octets::number_at(8, communities, at);
         match kind_of(community >> 48) {
             Kind::ByteRate => {
-                let Rate::Number { number, note } = rate_in(community) else {
-                    return Reading::Unsound;
-                };
-                actions.bytes = smaller_of(actions.bytes, limit_of(number, note));
+                let rate = rate_in(community)?;
+                actions.bytes = smaller_of(actions.bytes, limit_of(rate));
             }
             Kind::PacketRate => {
-                let Rate::Number { number, note } = rate_in(community) else {
-                    return Reading::Unsound;
-                };
-                actions.packets = smaller_of(actions.packets, limit_of(number, note));
+                let rate = rate_in(community)?;
+                actions.packets = smaller_of(actions.packets, limit_of(rate));
             }
             Kind::TrafficAction => {
                 actions.sample = actions.sample | (community & 0x02 != 0);
@@ -204,7 +193,7 @@ pub fn actions_of(communities: &[u8]) -> Reading
         }
         at += 8;
     }
-    Reading::Read(actions)
+    Some(actions)
 }
 
 // The actions of an earlier and of a later matching rule, taken together; they carry no T.

@@ -5,6 +5,7 @@ use mathlib.Core.List.{List, [], ◌∷◌}
 use Prim.Native.Nat.{ℕ, ◌-◌, ◌≤◌}
 use lib.ListN.{get_or}
 use borrow.Author.Tests.{eq-eqb, ne_eqb}
+use Rattle.std.proofs.Common.{Some, None}
 use Rattle.rule.specs.declared.Family.{Family}
 use Rattle.rule.specs.declared.Reading.{Reading}
 use Rattle.rule.specs.declared.Reading.TheVariants.{Rule, Refused as NotRead}
@@ -12,7 +13,6 @@ use Rattle.rule.specs.Reading.{one_rule}
 use Rattle.rule.proofs.ReadingLaws.{one-refused}
 use Rattle.rule.proofs.Refusal.{Refusal}
 use Rattle.action.specs.declared.Actions.{Actions}
-use Rattle.action.specs.declared.Reading.TheVariants.{Read, Unsound}
 use Rattle.action.specs.Actions.{values_of}
 use Rattle.lookup.specs.declared.Verdict.{Verdict}
 use Rattle.lookup.specs.declared.Verdict.TheVariants.{Unmatched, Matched}
@@ -106,10 +106,10 @@ module _ (family : Family) (rule : List ℕ) (r : Reading) (lent : List (List �
       answered reading_told (one_rule family rule) r kept.is (Rule start size) e entry 0 (start ∷ size ∷ []) (done (start ∷ size ∷ []) entry)
 
 -- reading actions: unsound ones, and those that are read
-pub actions-refused : (entry : List ℕ) (result : ℕ) → result ≡ word 13 0 → Tells (actions_told Unsound) entry result entry
+pub actions-refused : (entry : List ℕ) (result : ℕ) → result ≡ word 13 0 → Tells (actions_told None) entry result entry
 actions-refused entry result h = refused 13 0 _ entry result h
 
-pub actions-done : (actions : Actions) (values entry : List ℕ) → values ≡ values_of actions → Tells (actions_told (Read actions)) entry 0 values
+pub actions-done : (actions : Actions) (values entry : List ℕ) → values ≡ values_of actions → Tells (actions_told (Some actions)) entry 0 values
 actions-done actions values entry h = rw h (done (values_of actions) entry)
 
 -- looking up: a packet that is judged

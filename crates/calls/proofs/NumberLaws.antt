@@ -6,6 +6,7 @@ use Prim.Native.Nat.{ℕ}
 use native.Mathlib.Omega.{arith}
 use lib.Dec.{eqb}
 use borrow.Author.Tests.{ne_eqb}
+use Rattle.std.proofs.Common.{Option, Some, None}
 use Rattle.octets.proofs.Cases.{by-test}
 use Rattle.rule.specs.declared.Family.{Family}
 use Rattle.rule.specs.declared.Reading.{Reading}
@@ -20,8 +21,7 @@ use Rattle.spelling.proofs.WritingLaws.{not_written}
 use Rattle.order.specs.declared.Comparison.{Comparison}
 use Rattle.order.specs.declared.Comparison.TheVariants.{First, Second, Same, Refused as NotCompared}
 use Rattle.order.specs.Compare.{compare_rules}
-use Rattle.action.specs.declared.Reading.{Reading as ActionsReading}
-use Rattle.action.specs.declared.Reading.TheVariants.{Read, Unsound}
+use Rattle.action.specs.declared.Actions.{Actions}
 use Rattle.lookup.specs.declared.Verdict.{Verdict}
 use Rattle.lookup.specs.declared.Verdict.TheVariants.{Unmatched, Matched}
 use Rattle.request.specs.Input.{Announcement, Policy}
@@ -73,9 +73,9 @@ compare-number family a b =
     go Same e = refl
     go (NotCompared number place) e = refusal-tells number place 1 (not-compared family a b number place e)
 
-pub actions-number : (r : ActionsReading) → NumberTells (actions_told r)
-actions-number (Read actions) = refl
-actions-number Unsound = refl
+pub actions-number : (r : Option Actions) → NumberTells (actions_told r)
+actions-number (Some actions) = refl
+actions-number None = refl
 
 pub announce-number : (family : Family) (policy : Policy) (a : Announcement) (t : List ℕ) → NumberTells (announced_told (announcing family policy a t).answer)
 announce-number family policy a t =

@@ -26,8 +26,6 @@ use Rattle.order.specs.Precedence.{precedence}
 use Rattle.route.specs.declared.Origin.{Origin}
 use Rattle.route.specs.Route.{sound_routes}
 use Rattle.action.specs.declared.Actions.{Actions}
-use Rattle.action.specs.declared.Reading.{Reading as ActionsReading}
-use Rattle.action.specs.declared.Reading.TheVariants.{Read, Unsound}
 use Rattle.action.specs.Actions.{actions_of}
 use Rattle.packet.specs.declared.Packet.{Packet}
 use Rattle.packet.specs.Packet.{packet_of}
@@ -158,10 +156,10 @@ module _ (family : Family) (policy : Policy) (a : Announcement) where
   unfolding request_of
   asks = go (read_with_routes family policy.routes a.rule) (with-says family policy.routes a.rule) (actions_of a.communities)
     where
-      go : (r : Reading) → Reads r → (acts : ActionsReading) → Asks (request_for family policy a r acts)
+      go : (r : Reading) → Reads r → (acts : Option Actions) → Asks (request_for family policy a r acts)
       go (NotRead number place) h acts = h
-      go (Rule start size) h Unsound = placeless 13 (omega arith) (omega arith)
-      go (Rule start size) h (Read actions) = tt
+      go (Rule start size) h None = placeless 13 (omega arith) (omega arith)
+      go (Rule start size) h (Some actions) = tt
 
   pub not-announced : (t : List ℕ) (number place : ℕ) → (announcing family policy a t).answer ≡ NotAnnounced number place
       → Refusal number place

@@ -152,8 +152,8 @@ pub fn actions(communities: &[u8], out: &mut [u64; 6]) -> u64
         (record { communities = communities.now; out = out.new }) }
 {
     match flowspec::read_actions(communities) {
-        action::Reading::Unsound => word_of(13, 0),
-        action::Reading::Read(actions) => {
+        None => word_of(13, 0),
+        Some(actions) => {
             *out = entry::values_of(actions);
             0
         }

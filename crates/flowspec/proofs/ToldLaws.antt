@@ -7,6 +7,7 @@ use mathlib.Core.Bool.{cond}
 use lib.Dec.{leb, ltb, eqb}
 use lib.ListN.{length}
 use borrow.Author.Tests.{le-leb, lt-leb, ltb-true, ltb-false, eqb-true, eqb-false, ne_eqb}
+use Rattle.std.proofs.Common.{Option, Some, None}
 use Rattle.octets.specs.Order.{ordered}
 use Rattle.octets.proofs.Cases.{by-test}
 use Rattle.sorted.specs.Table.{by_order}
@@ -22,8 +23,7 @@ use Rattle.spelling.specs.Writing.{rule_for, into_room, writing}
 use Rattle.rule.proofs.ReadingLaws.{one-read}
 use Rattle.order.specs.Key.{keys_of}
 use Rattle.order.specs.Precedence.{precedence}
-use Rattle.action.specs.declared.Reading.{Reading as ActionsReading}
-use Rattle.action.specs.declared.Reading.TheVariants.{Read, Unsound}
+use Rattle.action.specs.declared.Actions.{Actions}
 use Rattle.action.specs.Actions.{no_actions, actions_of, flags_of, notes_of, values_of}
 use Rattle.entry.specs.Entry.{Entry}
 use Rattle.route.specs.declared.Origin.{Origin}
@@ -125,9 +125,9 @@ compare-tells family a b =
 pub actions-tells : (communities : List ℕ) → actions_told (actions_of communities) ≡ told (actions_checks communities) (done (actions_values communities))
 actions-tells communities = go (actions_of communities)
   where
-    go : (a : ActionsReading) → actions_told a ≡ told (check (is_sound a) 13 ∷ []) (done (values_of (actions_read a)))
-    go (Read actions) = refl
-    go Unsound = refl
+    go : (a : Option Actions) → actions_told a ≡ told (check (is_sound a) 13 ∷ []) (done (values_of (actions_read a)))
+    go (Some actions) = refl
+    go None = refl
 
 -- ---- judging ----
 
@@ -150,7 +150,7 @@ judge-tells family policy rule origin =
 
 module _ (family : Family) (policy : Policy) (a : Announcement) (t : List ℕ) where
   -- what is checked behind the rule
-  abbrev behind_rule : ActionsReading → List Check
+  abbrev behind_rule : Option Actions → List Check
   behind_rule c =
       check (is_sound c) 13
       ∷ check (is_feasible family policy (value_in a.rule) a.origin) 8
@@ -166,11 +166,11 @@ module _ (family : Family) (policy : Policy) (a : Announcement) (t : List ℕ) w
       (λ r. rw (s, r)))
       (λ s. rw s)
     where
-      go : (r : Reading) → one_rule family a.rule ≡ r → (c : ActionsReading)
+      go : (r : Reading) → one_rule family a.rule ≡ r → (c : Option Actions)
           → announced_told (announced_by family a t (request_for family policy a r c)).answer ≡ after_reading r 1 (told (behind_rule c) (done (notes_of (actions_read c) ∷ [])))
       go (NotRead number place) e c = refl
-      go (Rule start size) e Unsound = refl
-      go (Rule start size) e (Read actions) =
+      go (Rule start size) e None = refl
+      go (Rule start size) e (Some actions) =
           let v = read-value family a.rule start size e in
           let entry = announced_entry family a (field_size a.rule) (field_length a.rule) actions in
           rw (v.0, v.1)

@@ -1,6 +1,6 @@
 -- 01's table of refusals as lists: what each call checks, in the order in which 01 names the numbers, and what a call says that goes
 -- through such a list. The first check that does not hold refuses the call.
-use Rattle.std.specs.Prelude.{ℕ, ◌≡◌, Bool, true, false, cond, not, List, [], ◌∷◌, leb, length}
+use Rattle.std.specs.Prelude.{ℕ, ◌≡◌, Bool, true, false, cond, not, List, [], ◌∷◌, leb, length, Option, Some, None}
 use Rattle.octets.specs.Test.{Each}
 use Rattle.sorted.specs.Table.{by_order}
 use Rattle.rule.specs.declared.Family.{Family}
@@ -13,8 +13,6 @@ use Rattle.spelling.specs.Writing.{rule_for}
 use Rattle.order.specs.Key.{keys_of}
 use Rattle.order.specs.Precedence.{precedence}
 use Rattle.action.specs.declared.Actions.{Actions}
-use Rattle.action.specs.declared.Reading.{Reading as ActionsReading}
-use Rattle.action.specs.declared.Reading.TheVariants.{Read, Unsound}
 use Rattle.action.specs.Actions.{no_actions, actions_of, notes_of, values_of}
 use Rattle.route.specs.declared.Origin.{Origin}
 use Rattle.route.specs.Route.{sound_routes}
@@ -89,14 +87,14 @@ abbrev pub compare_values : Family → List ℕ → List ℕ → List ℕ
 compare_values family first second = by_order (precedence family (value_in first) (value_in second)) 1 3 2 ∷ []
 
 -- Whether communities are sound.
-abbrev pub is_sound : ActionsReading → Bool
-is_sound (Read actions) = true
-is_sound Unsound = false
+abbrev pub is_sound : Option Actions → Bool
+is_sound (Some actions) = true
+is_sound None = false
 
 -- The actions that communities ask for, none where they are unsound.
-abbrev pub actions_read : ActionsReading → Actions
-actions_read (Read actions) = actions
-actions_read Unsound = no_actions
+abbrev pub actions_read : Option Actions → Actions
+actions_read (Some actions) = actions
+actions_read None = no_actions
 
 -- 01: "actions 13".
 abbrev pub actions_checks : List ℕ → List Check

@@ -4,7 +4,7 @@
 -- alone is as it was (`keeps`; `kept` is what those slices hold at exit). `FirstMatches` has no `tells`: its answer is octets, and
 -- `begins` says where they stand. No call has a `requires`. That no second result satisfies a promise is shown in
 -- theorems/proofs/Unique.antt.
-use Rattle.std.specs.Prelude.{ℕ, ◌+◌, ◌≤◌, ◌≡◌, List, [], ◌∷◌, length}
+use Rattle.std.specs.Prelude.{ℕ, ◌+◌, ◌≤◌, ◌≡◌, List, [], ◌∷◌, length, Option}
 use Rattle.rule.specs.declared.Family.{Family}
 use Rattle.rule.specs.declared.Reading.{Reading}
 use Rattle.spelling.specs.declared.Writing.{Writing}
@@ -12,7 +12,7 @@ use Rattle.rule.specs.Reading.{one_rule}
 use Rattle.spelling.specs.Writing.{writing, after_writing}
 use Rattle.order.specs.declared.Comparison.{Comparison}
 use Rattle.route.specs.declared.Origin.{Origin}
-use Rattle.action.specs.declared.Reading.{Reading as ActionsReading}
+use Rattle.action.specs.declared.Actions.{Actions}
 use Rattle.action.specs.Actions.{actions_of}
 use Rattle.flowspec.specs.declared.Feasibility.{Feasibility}
 use Rattle.flowspec.specs.declared.Announced.{Announced}
@@ -56,7 +56,7 @@ pub record JudgesOne (family : Family) (policy : Policy) (rule : List ℕ) (orig
   pub keeps : kept ≡ policy.routes ∷ rule ∷ []
 
 -- Reading actions: refusal 13.
-pub record ReadsActions (communities : List ℕ) (answer : ActionsReading) (kept : List (List ℕ)) : Type 0 where
+pub record ReadsActions (communities : List ℕ) (answer : Option Actions) (kept : List (List ℕ)) : Type 0 where
   pub is : answer ≡ actions_of communities
   pub tells : actions_told answer ≡ told (actions_checks communities) (done (actions_values communities))
   pub keeps : kept ≡ communities ∷ []

@@ -1,12 +1,11 @@
 -- What each answer says in 01's terms: whether the call grants what it was asked; the refusal's number, 0 where the call is done; its
 -- place; and the values of the answer, in the order that the comment above each definition names.
-use Rattle.std.specs.Prelude.{ℕ, ◌-◌, Bool, true, false, cond, List, [], ◌∷◌, eqb, replicate}
+use Rattle.std.specs.Prelude.{ℕ, ◌-◌, Bool, true, false, cond, List, [], ◌∷◌, eqb, replicate, Option, Some, None}
 use Rattle.rule.specs.declared.Reading.{Reading}
 use Rattle.rule.specs.declared.Reading.TheVariants.{Rule, Refused as NotRead}
 use Rattle.spelling.specs.declared.Writing.{Writing}
 use Rattle.spelling.specs.declared.Writing.TheVariants.{Written, Refused as NotWritten}
-use Rattle.action.specs.declared.Reading.{Reading as ActionsReading}
-use Rattle.action.specs.declared.Reading.TheVariants.{Read, Unsound}
+use Rattle.action.specs.declared.Actions.{Actions}
 use Rattle.action.specs.Actions.{values_of}
 use Rattle.lookup.specs.declared.Verdict.{Verdict}
 use Rattle.lookup.specs.declared.Verdict.TheVariants.{Unmatched, Matched}
@@ -64,9 +63,9 @@ feasibility_told Feasible = done []
 feasibility_told (NotFeasible number place) = refused number place 0
 
 -- Flags, DSCP, byte rate, packet rate, redirect community, notes; unsound actions are 13.
-abbrev pub actions_told : ActionsReading → Told
-actions_told (Read actions) = done (values_of actions)
-actions_told Unsound = refused 13 0 6
+abbrev pub actions_told : Option Actions → Told
+actions_told (Some actions) = done (values_of actions)
+actions_told None = refused 13 0 6
 
 -- The notes of the rule's rates. 2026-05: "Actions and announcement answer it".
 abbrev pub announced_told : Announced → Told

@@ -116,7 +116,7 @@ pub fn judge_rule(
 }
 
 // Reads the filtering actions of a rule's communities.
-pub fn read_actions(communities: &[u8]) -> action::Reading
+pub fn read_actions(communities: &[u8]) -> Option<Actions>
     ensures { ReadsActions communities.now result (communities.now ∷ []) }
 {
     action::actions_of(communities)

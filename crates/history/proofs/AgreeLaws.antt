@@ -7,6 +7,7 @@ use mathlib.Core.List.{List, [], ◌∷◌}
 use mathlib.Core.Option.{Option, none, some}
 use Prim.Native.Nat.{ℕ, Ordering}
 use lib.Dec.{compare_is_eq}
+use Rattle.std.proofs.Common.{Some}
 use Rattle.octets.proofs.Cases.{by-test, apart, both}
 use Rattle.octets.proofs.Facts.{Octets}
 use Rattle.sorted.specs.History.{counts, in_force, leaves_in_force, is_about, is_counted, last_from}
@@ -19,7 +20,6 @@ use Rattle.rule.specs.Reading.{value_of, one_rule}
 use Rattle.rule.proofs.ReadingLaws.{one-read}
 use Rattle.order.specs.Key.{RuleKey, keys_of, key_order}
 use Rattle.order.proofs.KeyLaws.{key-order, keys-only, keys-plain}
-use Rattle.action.specs.declared.Reading.TheVariants.{Read}
 use Rattle.action.specs.Actions.{actions_of}
 use Rattle.entry.specs.Entry.{Entry, entry_key}
 use Rattle.request.specs.declared.Request.{Request}
@@ -86,7 +86,7 @@ module _ (family : Family) (policy : Policy) where
         let second = key-order.only k (keys_of family (plain family other)) (tie _ y) ∙ keys-plain family other w in
         let values = keys-only family fits value other v w (one-read family a.rule start size one.read).accepted
         (one-read family b.rule from extent two.read).accepted (sym first ∙ second) in
-        let reads : Read actions ≡ Read acts = sym one.acts ∙ read ∙ two.acts in
+        let reads : Some actions ≡ Some acts = sym one.acts ∙ read ∙ two.acts in
         let same : actions ≡ acts = cc in
         let judged : good ≡ fine = one.is ∙ feasible-alone family fits policy value other a.origin v w values ∙ rw founders (sym two.is) in
         let held : announced_entry family a start size actions ≡ announced_entry family b from extent acts = rw (same, values, founders) in

@@ -12,6 +12,7 @@ use native.Mathlib.Omega.{arith}
 use lib.Dec.{leb, ltb, compare_is_eq}
 use lib.ListN.{length, replicate}
 use borrow.Author.Tests.{leb-true, ltb-true}
+use Rattle.std.proofs.Common.{Some}
 use Rattle.octets.specs.Test.{every}
 use Rattle.octets.proofs.Cases.{by-test, apart, both}
 use Rattle.octets.proofs.Facts.{Octets}
@@ -22,7 +23,6 @@ use Rattle.spelling.specs.Plain.{plain}
 use Rattle.order.specs.Key.{keys_of, RuleKey, key_order}
 use Rattle.order.proofs.KeyLaws.{key-order}
 use Rattle.rate.specs.Rate.{taken_as_zero}
-use Rattle.action.specs.declared.Reading.TheVariants.{Read}
 use Rattle.action.specs.Actions.{actions_of}
 use Rattle.entry.specs.Entry.{Entry, entry_key}
 use Rattle.table.specs.Sound.{most_octets}
@@ -87,8 +87,8 @@ pub record Computed (s : Scene) : Type 0 where
   pub plain_one : plain s.family (value_of s.rule 1 (length s.value)) ≡ s.value
   pub plain_spelled : plain s.family (value_of s.spelled 2 (length s.value)) ≡ s.value
   pub plain_other : plain s.family (value_of s.other_rule 1 (length s.other_value)) ≡ s.other_value
-  pub read : actions_of dropping ≡ Read drops
-  pub read_spelled : actions_of dropping_spelled ≡ Read drops
+  pub read : actions_of dropping ≡ Some drops
+  pub read_spelled : actions_of dropping_spelled ≡ Some drops
   pub differ : compare_is_eq (key_order (keys_of s.family s.value) (keys_of s.family s.other_value)) ≡ false
   pub octets_one : AreOctets s.rule
   pub octets_spelled : AreOctets s.spelled
@@ -213,19 +213,19 @@ module _ (s : Scene) (c : Computed s) where
     about_other = compare_is_eq (key_order k (keys_of s.family s.other_value))
 
     last-worked : deed_of (last_counted s.family k (worked s))
-        ≡ cond about_other (some withdrew) (cond about_one (some (announced seven (Read drops))) none)
+        ≡ cond about_other (some withdrew) (cond about_one (some (announced seven (Some drops))) none)
     last-worked =
         rw (c.asked_owned, c.asked_foreign, c.asked_marked, c.read_other, c.plain_one, c.plain_other)
         (by-test about_other (λ e. rw e) (λ e. by-test about_one (λ f. rw (e, f, c.read)) (λ f. rw (e, f))))
 
     last-standing : deed_of (last_counted s.family k (standing s))
-        ≡ cond about_other (some withdrew) (cond about_one (some (announced seven (Read drops))) none)
+        ≡ cond about_other (some withdrew) (cond about_one (some (announced seven (Some drops))) none)
     last-standing =
         rw (c.asked_owned, c.asked_dropped, c.read_other, c.plain_one, c.plain_other)
         (by-test about_other (λ e. rw e) (λ e. by-test about_one (λ f. rw (e, f, c.read)) (λ f. rw (e, f))))
 
     last-other : deed_of (last_counted s.family k (other s))
-        ≡ cond about_one (some (announced seven (Read drops))) (cond about_other (some withdrew) none)
+        ≡ cond about_one (some (announced seven (Some drops))) (cond about_other (some withdrew) none)
     last-other =
         rw (c.asked_spelled, c.read_other, c.plain_spelled, c.plain_other)
         (by-test about_one (λ e. rw (e, c.read_spelled)) (λ e. by-test about_other (λ f. rw (e, f)) (λ f. rw (e, f))))

@@ -1,7 +1,7 @@
 -- Histories: calls that change one table, each with what it was lent, its answer and the octets it left. Routes and setting may change from
 -- one call to the next. A rule is known by its key: two accepted rules have one key exactly when their plain spellings are equal (crate
 -- order, KeyLaws: `keys-only` and `keys-same`).
-use Rattle.std.specs.Prelude.{ℕ, ◌^◌, ◌<◌, ◌≤◌, ◌≡◌, ◌↔◌, length, replicate}
+use Rattle.std.specs.Prelude.{ℕ, ◌^◌, ◌<◌, ◌≤◌, ◌≡◌, ◌↔◌, length, replicate, Option as OptionInCode}
 use mathlib.Core.List.{List, [], ◌∷◌, Memᴰ}
 use Rattle.std.proofs.Math.Option.{Option, none, some}
 use Rattle.octets.specs.Number.{Octets}
@@ -12,7 +12,7 @@ use Rattle.rule.specs.declared.Family.{Family}
 use Rattle.rule.specs.Reading.{one_rule}
 use Rattle.route.specs.declared.Origin.{Origin}
 use Rattle.order.specs.Key.{RuleKey, key_order}
-use Rattle.action.specs.declared.Reading.{Reading as ActionsReading}
+use Rattle.action.specs.declared.Actions.{Actions}
 use Rattle.action.specs.Actions.{actions_of}
 use Rattle.entry.specs.Entry.{Entry, entry_key}
 use Rattle.table.specs.Walk.{entries}
@@ -74,7 +74,7 @@ EachCanBe = Each (λ m. CanBe m.call)
 -- them. The rule's spelling, the communities' octets and the answer are not compared, and that both were lent one policy is a premise of
 -- its own (`SamePolicy`).
 pub data Deed : Type 0 where
-  announced : Origin → ActionsReading → Deed
+  announced : Origin → OptionInCode Actions → Deed
   withdrew : Deed
 
 -- What is compared of a call.

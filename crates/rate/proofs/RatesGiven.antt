@@ -10,9 +10,9 @@ use borrow.Author.Tests.{ltb-true, leb-true, eqb-true, lt-ltb, le-ltb, le-leb, l
 use lib.Dec.{leb, ltb, eqb, lit<, lit≤}
 use lib.Pow.{shl_lt, shr_lt, pow_mono, pow_pos, high, low}
 use Rattle.octets.proofs.Cases.{by-test, both}
+use Rattle.std.proofs.Common.{Option, Some, None}
 use Rattle.rate.specs.declared.Rate.{Rate}
-use Rattle.rate.specs.declared.Rate.TheVariants.{Number, NotANumber}
-use Rattle.rate.specs.Rate.{exact, rounded_down, raised, capped, taken_as_zero, scaled, whole_part, value_rate, is_not_a_number, rate_of_parts, rate_of, fits_significand, is_single, rate_given}
+use Rattle.rate.specs.Rate.{noted, exact, rounded_down, raised, capped, taken_as_zero, scaled, whole_part, value_rate, is_not_a_number, rate_of_parts, rate_of, fits_significand, is_single, rate_given}
 use Rattle.rate.proofs.Rates.{whole_over, multiple, both-times, rate-zero, rate-negative, rate-below-one, rate-limit, rate-past-limit, rate-whole, whole-up, whole-down}
 
 -- Above 2^63 nothing is a single, and up to it the halvings decide.
@@ -119,13 +119,17 @@ module _ (n note : ℕ) where
 
 -- Does a rate pass?
 abbrev passes : Rate → Bool
-passes (Number number note) = rate_given number note
-passes NotANumber = true
+passes r = rate_given r.number r.note
 
-passes-exact : (n : ℕ) → is_single n ≡ true → passes (Number n exact) ≡ true
+-- Does what a single gives pass? One that is not a number gives no rate.
+abbrev given-passes : Option Rate → Bool
+given-passes (Some r) = passes r
+given-passes None = true
+
+passes-exact : (n : ℕ) → is_single n ≡ true → passes (noted n exact) ≡ true
 passes-exact n h = sym (given-exact n exact refl) ∙ h
 
-passes-rounded : (n : ℕ) → 1 ≤ n → n < 2 ^ 23 → passes (Number n rounded_down) ≡ true
+passes-rounded : (n : ℕ) → 1 ≤ n → n < 2 ^ 23 → passes (noted n rounded_down) ≡ true
 passes-rounded n p q = sym (given-rounded n rounded_down refl) ∙ rw (le-leb 1 n p, lt-ltb n (2 ^ 23) q)
 
 -- The whole part of a single passes.
@@ -174,7 +178,7 @@ value_passes negative e f b =
     signed true z = rw (← (rate-negative true e f _ refl z refl)) (sym (given-zero 0 taken_as_zero refl))
     signed false z = above z
 
-rate-passes : (single : ℕ) → passes (rate_of single) ≡ true
+rate-passes : (single : ℕ) → given-passes (rate_of single) ≡ true
 unfolding rate_of rate_of_parts
 rate-passes single =
     let e = single / 2 ^ 23 % 2 ^ 8 in
@@ -184,11 +188,11 @@ rate-passes single =
     (λ h. rw h (value_passes (not (eqb (single / 2 ^ 31) 0)) e f (mod-lt single (lit< tt))))
 
 -- Every rate read passes.
-pub complete : (single number note : ℕ) → rate_of single ≡ Number number note → rate_given number note ≡ true
-complete single number note h = ap passes (sym h) ∙ rate-passes single
+pub complete : (single : ℕ) (r : Rate) → rate_of single ≡ Some r → rate_given r.number r.note ≡ true
+complete single r h = ap given-passes (sym h) ∙ rate-passes single
 
 -- A single with no sign, by its exponent and fraction.
-joined : (e f : ℕ) → e < 255 → f < 2 ^ 23 → rate_of (e * 2 ^ 23 + f) ≡ value_rate false (scaled e f)
+joined : (e f : ℕ) → e < 255 → f < 2 ^ 23 → rate_of (e * 2 ^ 23 + f) ≡ Some (value_rate false (scaled e f))
 unfolding rate_of rate_of_parts
 joined e f p q =
     rw (
@@ -275,25 +279,25 @@ parts-down d k p q least fits =
     }
 
 -- A number below 2^23.
-parts-small : (n : ℕ) → 0 < n → n < 2 ^ 23 → Parts (Number n exact)
+parts-small : (n : ℕ) → 0 < n → n < 2 ^ 23 → Parts (noted n exact)
 parts-small n p h =
     let d = scaled-up 23 n (omega arith) (omega arith) in
     let k = d.power in
     rw (← (multiple (2 ^ k) n (pow_pos k))) (parts-down (n * 2 ^ k) k (power-positive n k h d.least) d.most d.least d.fits)
 
 -- A number below 2^23 and a half.
-parts-half : (n : ℕ) → 1 ≤ n → n < 2 ^ 23 → Parts (Number n rounded_down)
+parts-half : (n : ℕ) → 1 ≤ n → n < 2 ^ 23 → Parts (noted n rounded_down)
 parts-half n p h =
     let m = 2 * n + 1 in
     let d = scaled-up 22 m (omega arith) (omega arith) in
     let k = d.power in
-    let half : whole_over 2 m ≡ Number n rounded_down
-    = rw (ne_eqb (m % 2) 0 (λ z. omega arith)) (ap (λ w. Number w rounded_down) (omega arith)) in
+    let half : whole_over 2 m ≡ noted n rounded_down
+    = rw (ne_eqb (m % 2) 0 (λ z. omega arith)) (ap (λ w. noted w rounded_down) (omega arith)) in
     rw (← half, ← (both-times 2 m (2 ^ k) (lit< tt) (pow_pos k)), ← (pow-succ' 2 k))
     (parts-down (m * 2 ^ k) (suc k) (omega arith) (omega arith) d.least d.fits)
 
 -- A number from 2^23 on.
-parts-large : (n : ℕ) → 2 ^ 23 ≤ n → is_single n ≡ true → Parts (Number n exact)
+parts-large : (n : ℕ) → 2 ^ 23 ≤ n → is_single n ≡ true → Parts (noted n exact)
 unfolding is_single
 parts-large n p h =
     let tests = both (leb n (2 ^ 63)) (fits_significand 40 n) h in
@@ -311,7 +315,7 @@ parts-large n p h =
             gives =
                 sym (rate-whole false (150 + d.power) f _ refl refl (omega arith) (omega arith) (omega arith))
                 ∙ whole-up (150 + d.power) f (omega arith)
-                ∙ ap (λ w. Number w exact) (rw (add-sub_cancel_left 150 d.power, digits) (sym d.whole));
+                ∙ ap (λ w. noted w exact) (rw (add-sub_cancel_left 150 d.power, digits) (sym d.whole));
           }
       | no q ↦
           let top : d.power ≡ 40 = omega arith in
@@ -322,11 +326,11 @@ parts-large n p h =
             fraction = 0;
             below = lit< tt;
             fits = lit< tt;
-            gives = sym (rate-limit false 190 0 (Number (2 ^ 63) exact) refl refl refl) ∙ ap (λ w. Number w exact) most;
+            gives = sym (rate-limit false 190 0 (noted (2 ^ 63) exact) refl refl refl) ∙ ap (λ w. noted w exact) most;
           }
     ]
 
-parts-exact : (n : ℕ) → is_single n ≡ true → Parts (Number n exact)
+parts-exact : (n : ℕ) → is_single n ≡ true → Parts (noted n exact)
 parts-exact n h =
     elim (dec_lt n (2 ^ 23)) [
       | yes small ↦
@@ -338,7 +342,7 @@ parts-exact n h =
                   fraction = 0;
                   below = lit< tt;
                   fits = lit< tt;
-                  gives = sym (rate-zero false 0 0 (Number 0 exact) refl refl) ∙ ap (λ w. Number w exact) (omega arith);
+                  gives = sym (rate-zero false 0 0 (noted 0 exact) refl refl) ∙ ap (λ w. noted w exact) (omega arith);
                 }
           ]
       | no large ↦ parts-large n (omega arith) h
@@ -379,12 +383,12 @@ by-note n note h =
 
 -- Every pair that passes is read from some single.
 abbrev Read : Rate → Type 0
-Read r = (single : ℕ) × (single < 2 ^ 32) × (rate_of single ≡ r)
+Read r = (single : ℕ) × (single < 2 ^ 32) × (rate_of single ≡ Some r)
 
 read-parts : {r : Rate} → Parts r → Read r
-read-parts p = (p.exponent * 2 ^ 23 + p.fraction, omega arith, joined p.exponent p.fraction p.below p.fits ∙ p.gives)
+read-parts p = (p.exponent * 2 ^ 23 + p.fraction, omega arith, joined p.exponent p.fraction p.below p.fits ∙ ap Some p.gives)
 
-read-given : {n note : ℕ} → Given n note → Read (Number n note)
+read-given : {n note : ℕ} → Given n note → Read (noted n note)
 unfolding rate_of rate_of_parts value_rate scaled
 read-given (is-exact n h) = read-parts (parts-exact n h)
 read-given (is-rounded n p q) = read-parts (parts-half n p q)
@@ -392,7 +396,7 @@ read-given is-raised = (1, lit< tt, refl)
 read-given is-capped = (0x7f80_0000, lit< tt, refl)
 read-given is_zero = (0xbf80_0000, lit< tt, refl)
 
-pub sound : (number note : ℕ) → rate_given number note ≡ true → (single : ℕ) × (single < 2 ^ 32) × (rate_of single ≡ Number number note)
+pub sound : (number note : ℕ) → rate_given number note ≡ true → (single : ℕ) × (single < 2 ^ 32) × (rate_of single ≡ Some (noted number note))
 sound number note h = read-given (by-note number note h)
 
 -- What passes is at most 2^63, with a note of at most 4.

@@ -1,9 +1,8 @@
 -- What number a rate stands for, and what was done to its value to come to that number (RFC 8955 sections 7.1 and 7.2; 2026-05). A rate
 -- is an IEEE 754 single: one bit of sign, eight of exponent and 23 of fraction. Without its sign a finite value times 2^149 is a natural
 -- number, since 2^-149 is the smallest positive single.
-use Rattle.std.specs.Prelude.{ℕ, zero, suc, ◌+◌, ◌*◌, ◌-◌, ◌/◌, ◌%◌, ◌^◌, Bool, false, cond, not, ◌&&◌, ◌||◌, leb, ltb, eqb}
+use Rattle.std.specs.Prelude.{ℕ, zero, suc, ◌+◌, ◌*◌, ◌-◌, ◌/◌, ◌%◌, ◌^◌, Bool, false, cond, not, ◌&&◌, ◌||◌, leb, ltb, eqb, Option, Some, None}
 use Rattle.rate.specs.declared.Rate.{Rate}
-use Rattle.rate.specs.declared.Rate.TheVariants.{Number, NotANumber}
 
 -- The notes. 2026-05: "0 exact or absent, 1 to 4 the rest as listed". First: the number is the rate's value.
 abbrev pub exact : ℕ
@@ -25,6 +24,10 @@ capped = 3
 abbrev pub taken_as_zero : ℕ
 taken_as_zero = 4
 
+-- A number with its note.
+abbrev pub noted : ℕ → ℕ → Rate
+noted number note = record { number = number; note = note }
+
 -- The value of a single without its sign, times 2^149 (IEEE 754-1985 section 3.2.1). Infinity, exponent 255 with no fraction, comes out
 -- as 2^128 times 2^149, which is above 2^63 times 2^149, and so needs no case.
 unfoldable pub scaled : ℕ → ℕ → ℕ
@@ -32,29 +35,29 @@ scaled exponent fraction = cond (eqb exponent 0) fraction ((2 ^ 23 + fraction) *
 
 -- The whole part of a value, which is given times 2^149: exact where nothing is left.
 abbrev pub whole_part : ℕ → Rate
-whole_part value = Number (value / 2 ^ 149) (cond (eqb (value % 2 ^ 149) 0) exact rounded_down)
+whole_part value = noted (value / 2 ^ 149) (cond (eqb (value % 2 ^ 149) 0) exact rounded_down)
 
 -- What a value gives, by whether its sign is set, and without that sign times 2^149. 01: "Negative, either zero, and minus infinity give 0
 -- (drop). A positive rate below 1 gives 1. Otherwise the whole part, at most 2^63; plus infinity gives 2^63." 2026-05: "minus zero is exact,
 -- negative numbers are "taken as zero"". 2^63 itself is exact.
 unfoldable pub value_rate : Bool → ℕ → Rate
 value_rate negative value =
-    cond (eqb value 0) (Number 0 exact)
-    (cond negative (Number 0 taken_as_zero)
-    (cond (ltb value (2 ^ 149)) (Number 1 raised)
-    (cond (ltb (2 ^ 63 * 2 ^ 149) value) (Number (2 ^ 63) capped) (whole_part value))))
+    cond (eqb value 0) (noted 0 exact)
+    (cond negative (noted 0 taken_as_zero)
+    (cond (ltb value (2 ^ 149)) (noted 1 raised)
+    (cond (ltb (2 ^ 63 * 2 ^ 149) value) (noted (2 ^ 63) capped) (whole_part value))))
 
 -- Exponent 255 with a fraction is not a number, whatever the sign (IEEE 754-1985 section 3.2.1).
 abbrev pub is_not_a_number : ℕ → ℕ → Bool
 is_not_a_number exponent fraction = eqb exponent 255 && not (eqb fraction 0)
 
 -- 01: "Not-a-number of either sign is 13", before all else.
-unfoldable pub rate_of_parts : ℕ → ℕ → ℕ → Rate
+unfoldable pub rate_of_parts : ℕ → ℕ → ℕ → Option Rate
 rate_of_parts sign exponent fraction =
-    cond (is_not_a_number exponent fraction) NotANumber (value_rate (not (eqb sign 0)) (scaled exponent fraction))
+    cond (is_not_a_number exponent fraction) None (Some (value_rate (not (eqb sign 0)) (scaled exponent fraction)))
 
 -- A rate, cut into sign, exponent and fraction.
-unfoldable pub rate_of : ℕ → Rate
+unfoldable pub rate_of : ℕ → Option Rate
 rate_of single = rate_of_parts (single / 2 ^ 31) (single / 2 ^ 23 % 2 ^ 8) (single % 2 ^ 23)
 
 -- Is a number below 2^24 after at most so many halvings, none of which leaves a remainder?

@@ -3,7 +3,7 @@
 #![tactic(auto)]
 
 ghost use Rattle.std.specs.Prelude.{◌≡◌, ◌<◌, ◌≤◌, ◌^◌};
-ghost use Rattle.rate.specs.Rate.{scaled, whole_part, value_rate, rate_of, is_single, rate_given};
+ghost use Rattle.rate.specs.Rate.{noted, scaled, whole_part, value_rate, rate_of, is_single, rate_given};
 
 // The number is the rate's value.
 const EXACT: u8 = 0;
@@ -23,18 +23,18 @@ const TAKEN_AS_ZERO: u8 = 4;
 // The highest number of a rate, 2^63.
 const MOST: u64 = 0x8000_0000_0000_0000;
 
-// What a rate gives.
+// What a rate that is a number gives: a number, and the note of what was done to come to it.
 #[derive(Clone, Copy)]
-pub enum Rate {
-    Number { number: u64, note: u8 },
-    NotANumber,
+pub struct Rate {
+    pub number: u64,
+    pub note: u8,
 }
 
 // A number with its note.
 fn noted(number: u64, note: u8) -> Rate
-    ensures { result ≡ Rate.Number number note }
+    ensures { result ≡ noted number note }
 {
-    Rate::Number { number, note }
+    Rate { number, note }
 }
 
 // The whole part of a single from 1 on and below 2^63, by whether its exponent leaves digits behind the point.
@@ -78,17 +78,17 @@ fn value_rate(negative: bool, exponent: u32, fraction: u32) -> Rate
     whole_part(exponent, fraction)
 }
 
-// What a single gives as a rate, cut into sign, exponent and fraction.
-pub fn rate_of(single: u32) -> Rate
+// What a single gives as a rate, cut into sign, exponent and fraction; one that is not a number gives none.
+pub fn rate_of(single: u32) -> Option<Rate>
     ensures { result ≡ rate_of single }
 {
     let sign = single >> 31;
     let exponent = (single >> 23) & 0xff;
     let fraction = single & 0x7f_ffff;
     if (exponent == 255) & (fraction != 0) {
-        return Rate::NotANumber;
+        return None;
     }
-    value_rate(sign != 0, exponent, fraction)
+    Some(value_rate(sign != 0, exponent, fraction))
 }
 
 // Is a number up to 2^63 one that a single is exactly?

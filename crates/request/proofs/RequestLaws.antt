@@ -4,6 +4,7 @@ use mathlib.Core.Bool.{Bool}
 use mathlib.Core.List.{List}
 use Prim.Native.Nat.{ℕ, ◌+◌, ◌-◌}
 use native.Mathlib.Nat.{add-sub_cancel_left}
+use Rattle.std.proofs.Common.{Option, Some, None}
 use Rattle.octets.proofs.Cases.{apart}
 use Rattle.octets.proofs.Facts.{Octets}
 use Rattle.rule.specs.declared.Family.{Family}
@@ -13,8 +14,6 @@ use Rattle.rule.specs.Reading.{value_of, one_rule}
 use Rattle.rule.proofs.ReadingLaws.{ReadRule, one-read}
 use Rattle.rule.proofs.ComponentsLaws.{octets-between}
 use Rattle.action.specs.declared.Actions.{Actions}
-use Rattle.action.specs.declared.Reading.{Reading as ActionsReading}
-use Rattle.action.specs.declared.Reading.TheVariants.{Read, Unsound}
 use Rattle.action.specs.Actions.{actions_of}
 use Rattle.request.specs.declared.Request.TheVariants.{Announce, Refused}
 use Rattle.request.specs.Input.{Announcement, Policy}
@@ -31,12 +30,12 @@ module _ (family : Family) (policy : Policy) (a : Announcement) (reading : Readi
   unfolding request_of
   ask-refused number place e = rw (← read_is, e)
 
-  module _ (start size : ℕ) (e : reading ≡ Rule start size) (actions : ActionsReading) (acts : actions ≡ actions_of a.communities) where
-    pub ask-actions : actions ≡ Unsound → Refused 13 0 ≡ request_of family policy a
+  module _ (start size : ℕ) (e : reading ≡ Rule start size) (actions : Option Actions) (acts : actions ≡ actions_of a.communities) where
+    pub ask-actions : actions ≡ None → Refused 13 0 ≡ request_of family policy a
     unfolding request_of
     ask-actions h = rw (← read_is, e, ← acts, h)
 
-    pub ask-announce : (read : Actions) (judged : Bool) → actions ≡ Read read
+    pub ask-announce : (read : Actions) (judged : Bool) → actions ≡ Some read
         → judged ≡ is_feasible family policy (value_of a.rule start (start + size - start)) a.origin
         → Announce start size read judged ≡ request_of family policy a
     unfolding request_of
@@ -45,7 +44,7 @@ module _ (family : Family) (policy : Policy) (a : Announcement) (reading : Readi
 -- what an announcement that asks for an entry was read from, and how it was judged
 pub record Asked (family : Family) (policy : Policy) (a : Announcement) (start size : ℕ) (actions : Actions) (judged : Bool) : Type 0 where
   pub read : one_rule family a.rule ≡ Rule start size
-  pub acts : actions_of a.communities ≡ Read actions
+  pub acts : actions_of a.communities ≡ Some actions
   pub is : judged ≡ is_feasible family policy (value_of a.rule start size) a.origin
 
 module _ (family : Family) (policy : Policy) (a : Announcement) (start size : ℕ) (actions : Actions) (judged : Bool) where
@@ -55,12 +54,12 @@ module _ (family : Family) (policy : Policy) (a : Announcement) (start size : �
   asked-from e =
       go (read_with_routes family policy.routes a.rule) refl (actions_of a.communities) refl e
     where
-      go : (r : Reading) → read_with_routes family policy.routes a.rule ≡ r → (acts : ActionsReading) → actions_of a.communities ≡ acts
+      go : (r : Reading) → read_with_routes family policy.routes a.rule ≡ r → (acts : Option Actions) → actions_of a.communities ≡ acts
           → request_for family policy a r acts ≡ Announce start size actions judged
           → Asked family policy a start size actions judged
       go (NotRead number place) f acts g z = apart (cc)
-      go (Rule begin extent) f Unsound g z = apart (cc)
-      go (Rule begin extent) f (Read read) g z =
+      go (Rule begin extent) f None g z = apart (cc)
+      go (Rule begin extent) f (Some read) g z =
           let starts : begin ≡ start = cc in
           let sizes : extent ≡ size = cc in
           let reads : read ≡ actions = cc in

@@ -1,13 +1,11 @@
 -- What an announcement asks of a table, once its rule is read, its actions are read and it is judged; and the entry that it asks for.
-use Rattle.std.specs.Prelude.{ℕ}
+use Rattle.std.specs.Prelude.{ℕ, Option, Some, None}
 use Rattle.rule.specs.declared.Family.{Family}
 use Rattle.rule.specs.declared.Reading.{Reading}
 use Rattle.rule.specs.declared.Reading.TheVariants.{Rule, Refused as NotRead}
 use Rattle.rule.specs.Reading.{value_of}
 use Rattle.spelling.specs.Plain.{plain}
 use Rattle.action.specs.declared.Actions.{Actions}
-use Rattle.action.specs.declared.Reading.{Reading as ActionsReading}
-use Rattle.action.specs.declared.Reading.TheVariants.{Read, Unsound}
 use Rattle.action.specs.Actions.{actions_of}
 use Rattle.entry.specs.Entry.{Entry, entry_for}
 use Rattle.request.specs.declared.Request.{Request}
@@ -16,10 +14,10 @@ use Rattle.request.specs.Input.{Announcement, Policy}
 use Rattle.request.specs.Judging.{read_with_routes, is_feasible}
 
 -- What an announcement asks: a rule that is refused is refused so, then unsound actions are 13, then the rule is judged.
-abbrev pub request_for : Family → Policy → Announcement → Reading → ActionsReading → Request
+abbrev pub request_for : Family → Policy → Announcement → Reading → Option Actions → Request
 request_for family policy a (NotRead number place) actions = NoRequest number place
-request_for family policy a (Rule start size) Unsound = NoRequest 13 0
-request_for family policy a (Rule start size) (Read actions) =
+request_for family policy a (Rule start size) None = NoRequest 13 0
+request_for family policy a (Rule start size) (Some actions) =
     Announce start size actions (is_feasible family policy (value_of a.rule start size) a.origin)
 
 -- What an announcement asks of a table: its rule is read once the routes are found sound (9).

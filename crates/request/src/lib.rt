@@ -72,11 +72,11 @@ pub fn request_of(
     match read_with_routes(family, routes, rule) {
         Reading::Refused { number, place } => Request::Refused { number, place },
         Reading::Rule { start, size } => match action::actions_of(communities) {
-            action::Reading::Unsound => Request::Refused {
+            None => Request::Refused {
                 number: 13,
                 place: 0,
             },
-            action::Reading::Read(actions) => {
+            Some(actions) => {
                 let end = start + size;
                 let feasible = is_feasible(family, settings, routes, &rule[start..end], origin);
                 Request::Announce {

@@ -8,6 +8,7 @@ use Prim.Native.Nat.{ℕ, ◌<◌, ◌≤◌}
 use native.Mathlib.Omega.{arith}
 use lib.Dec.{eqb}
 use borrow.Author.Tests.{ne_eqb, not-false}
+use Rattle.std.proofs.Common.{Option}
 use Rattle.octets.proofs.Cases.{apart}
 use Rattle.rule.specs.declared.Family.{Family}
 use Rattle.rule.specs.declared.Checked.{Checked}
@@ -17,7 +18,7 @@ use Rattle.spelling.specs.declared.Writing.{Writing}
 use Rattle.rule.specs.Value.{check_value}
 use Rattle.rule.specs.Reading.{check_rule}
 use Rattle.rule.proofs.RefusalsLaws.{Numbered, value-numbered, rule-numbered}
-use Rattle.action.specs.declared.Reading.{Reading as ActionsReading}
+use Rattle.action.specs.declared.Actions.{Actions}
 use Rattle.packet.specs.Packet.{is_unusable}
 use Rattle.route.specs.declared.Origin.{Origin}
 use Rattle.order.specs.declared.Comparison.{Comparison}
@@ -55,7 +56,7 @@ module _ (family : Family) (rule : List ℕ) where
 
 -- ---- actions ----
 
-pub actions-numbers : {communities : List ℕ} {answer : ActionsReading} {kept : List (List ℕ)} → ReadsActions communities answer kept
+pub actions-numbers : {communities : List ℕ} {answer : Option Actions} {kept : List (List ℕ)} → ReadsActions communities answer kept
     → ActionsNumbers communities (actions_told answer)
 actions-numbers {communities} p =
     rw p.tells (record {

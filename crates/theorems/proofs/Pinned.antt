@@ -4,10 +4,10 @@ use mathlib.Core.Path.{◌≡◌, refl}
 use mathlib.Core.Bool.{Bool, true, false}
 use mathlib.Core.List.{List, [], ◌∷◌, map}
 use Prim.Native.Nat.{ℕ, ◌-◌}
+use Rattle.std.proofs.Common.{Some, None}
 use Rattle.rule.specs.declared.Reading.TheVariants.{Rule, Refused as NotRead}
 use Rattle.spelling.specs.declared.Writing.TheVariants.{Written, Refused as NotWritten}
 use Rattle.action.specs.declared.Actions.{Actions}
-use Rattle.action.specs.declared.Reading.TheVariants.{Read, Unsound}
 use Rattle.action.specs.Actions.{flags_of, notes_of}
 use Rattle.lookup.specs.declared.Verdict.TheVariants.{Unmatched, Matched}
 use Rattle.order.specs.declared.Comparison.TheVariants.{First, Second, Same, Refused as NotCompared}
@@ -43,9 +43,9 @@ module _ (number place start size octets end count notes : ℕ) (actions : Actio
       ∷ expect (comparison_told (NotCompared number place)) false number place (0 ∷ [])
       ∷ expect (feasibility_told Feasible) true 0 0 []
       ∷ expect (feasibility_told (NotFeasible number place)) false number place []
-      ∷ expect (actions_told (Read actions)) true 0 0
+      ∷ expect (actions_told (Some actions)) true 0 0
       (flags_of actions ∷ actions.marking.number ∷ actions.bytes.number ∷ actions.packets.number ∷ actions.redirect.number ∷ notes_of actions ∷ [])
-      ∷ expect (actions_told Unsound) false 13 0 (0 ∷ 0 ∷ 0 ∷ 0 ∷ 0 ∷ 0 ∷ [])
+      ∷ expect (actions_told None) false 13 0 (0 ∷ 0 ∷ 0 ∷ 0 ∷ 0 ∷ 0 ∷ [])
       ∷ expect (announced_told (Held notes)) true 0 0 (notes ∷ [])
       ∷ expect (announced_told (NotAnnounced number place)) false number place (0 ∷ [])
       ∷ expect (withdrawn_told Done) true 0 0 []

@@ -8,6 +8,7 @@ use mathlib.Core.Option.{Option, none, some}
 use Prim.Native.Nat.{ℕ}
 use native.Mathlib.Omega.{arith}
 use lib.ListN.{length}
+use Rattle.std.proofs.Common.{Option as OptionInCode, Some, None}
 use Rattle.octets.proofs.Cases.{by-test, apart}
 use Rattle.octets.proofs.Facts.{Octets}
 use Rattle.sorted.specs.Table.{lookup}
@@ -28,8 +29,6 @@ use Rattle.rule.proofs.ReadingLaws.{one-read, one-refused}
 use Rattle.order.specs.Key.{RuleKey, keys_of, key_order}
 use Rattle.order.proofs.KeyLaws.{key-order, keys-only}
 use Rattle.action.specs.declared.Actions.{Actions}
-use Rattle.action.specs.declared.Reading.{Reading as ActionsReading}
-use Rattle.action.specs.declared.Reading.TheVariants.{Read, Unsound}
 use Rattle.action.specs.Actions.{actions_of, notes_of}
 use Rattle.entry.specs.Entry.{Entry, entry_key, possible}
 use Rattle.entry.proofs.ValueLaws.{is-possible}
@@ -183,10 +182,10 @@ module _ (family : Family) (policy : Policy) (a : Announcement) (t : List ℕ) w
   eight-leaves (sound, (routes, (accepts, (ends, (acts, not))))) =
       rw (sound, routes, one-rule-is family a.rule accepts ends) (go (actions_of a.communities) acts)
     where
-      go : (c : ActionsReading) → is_sound c ≡ true
+      go : (c : OptionInCode Actions) → is_sound c ≡ true
           → (announced_by family a t (request_for family policy a (Rule (field_size a.rule) (field_length a.rule)) c)).table ≡ removed family t (keys_of family (plain family (value_in a.rule)))
-      go (Read actions) e = rw (not, changed-infeasible family t (announced_entry family a (field_size a.rule) (field_length a.rule) actions))
-      go Unsound e = apart (cc)
+      go (Some actions) e = rw (not, changed-infeasible family t (announced_entry family a (field_size a.rule) (field_length a.rule) actions))
+      go None e = apart (cc)
 
   -- **8 changes nothing else.** 01: "Refusals change nothing, except that 8 removes a held equal rule": a rule that is not held leaves the table as
   -- it was, and a held one leaves it exactly without that record.

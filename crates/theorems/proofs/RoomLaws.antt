@@ -5,6 +5,7 @@ use mathlib.Core.Path.{◌≡◌, sym, ◌∙◌}
 use mathlib.Core.Bool.{true}
 use mathlib.Core.List.{List}
 use Prim.Native.Nat.{ℕ}
+use Rattle.std.proofs.Common.{Option, Some, None}
 use Rattle.octets.proofs.Cases.{by-test, apart}
 use Rattle.octets.proofs.Facts.{Octets}
 use Rattle.rule.specs.declared.Family.{Family}
@@ -16,8 +17,7 @@ use Rattle.rule.proofs.ReadingLaws.{one-read}
 use Rattle.spelling.proofs.ClearedLaws.{octets-plain}
 use Rattle.order.specs.Key.{keys_of}
 use Rattle.route.specs.Route.{sound_routes}
-use Rattle.action.specs.declared.Reading.{Reading as ActionsReading}
-use Rattle.action.specs.declared.Reading.TheVariants.{Read, Unsound}
+use Rattle.action.specs.declared.Actions.{Actions}
 use Rattle.action.specs.Actions.{actions_of}
 use Rattle.table.specs.Sound.{sound_table}
 use Rattle.table.specs.Change.{holds}
@@ -46,9 +46,9 @@ module _ (family : Family) (fits : Fits family) (policy : Policy) (a : Announcem
       (λ sound. rw sound (by-test (sound_routes family policy.routes) (λ r. rw (read_with_routes, r, read) (go sound (actions_of a.communities))) (λ r. rw (read_with_routes, r) (λ place e. apart (cc)))))
       (λ sound. rw sound (λ place e. apart (cc)))
     where
-      go : sound_table family t ≡ true → (acts : ActionsReading) → Not11 (announced_by family a t (request_for family policy a (Rule start size) acts)).answer
-      go sound Unsound = λ place e. apart (cc)
-      go sound (Read actions) =
+      go : sound_table family t ≡ true → (acts : Option Actions) → Not11 (announced_by family a t (request_for family policy a (Rule start size) acts)).answer
+      go sound None = λ place e. apart (cc)
+      go sound (Some actions) =
           let v = octets-value a.rule start size octets in
           let done = held-is-done family t o sound (announced_entry family a start size actions) fits
           (octets-plain family (value_of a.rule start size) v) (plain-held family (value_of a.rule start size) v (one-read family a.rule start size read).accepted) held in

@@ -2,10 +2,11 @@
 use mathlib.Core.Path.{◌≡◌, sym, ◌∙◌}
 use mathlib.Core.List.{List}
 use Prim.Native.Nat.{ℕ}
+use Rattle.std.proofs.Common.{Option}
 use Rattle.rule.specs.declared.Family.{Family}
 use Rattle.rule.specs.declared.Reading.{Reading}
 use Rattle.spelling.specs.declared.Writing.{Writing}
-use Rattle.action.specs.declared.Reading.{Reading as ActionsReading}
+use Rattle.action.specs.declared.Actions.{Actions}
 use Rattle.order.specs.declared.Comparison.{Comparison}
 use Rattle.route.specs.declared.Origin.{Origin}
 use Rattle.flowspec.specs.declared.Feasibility.{Feasibility}
@@ -16,7 +17,7 @@ use Rattle.flowspec.specs.declared.MatchPlace.{MatchPlace}
 use Rattle.request.specs.Input.{Announcement, Policy}
 use Rattle.flowspec.specs.Promise.{ReadsOne, WritesOne, ComparesTwo, JudgesOne, ReadsActions, Announces, Withdraws, LooksUp, LocatesFirst, FirstMatches}
 
-pub one-reading-of-actions : (k l : List (List ℕ)) (communities : List ℕ) (a b : ActionsReading) → ReadsActions communities a k
+pub one-reading-of-actions : (k l : List (List ℕ)) (communities : List ℕ) (a b : Option Actions) → ReadsActions communities a k
     → ReadsActions communities b l → (a ≡ b) × (k ≡ l)
 one-reading-of-actions k l communities a b p q = (p.is ∙ sym q.is, p.keeps ∙ sym q.keeps)
 

@@ -10,7 +10,6 @@ use Rattle.rule.specs.Reading.{field_size, field_length}
 use Rattle.spelling.specs.Writing.{length_field}
 use Rattle.order.specs.Precedence.{precedence}
 use Rattle.rate.specs.declared.Rate.{Rate}
-use Rattle.rate.specs.declared.Rate.TheVariants.{Number, NotANumber}
 use Rattle.rate.specs.Rate.{rate_of}
 use Rattle.packet.specs.declared.Packet.{Packet}
 use Rattle.packet.specs.Packet.{packet_of}
@@ -34,9 +33,9 @@ checked_as Accepted = 0 ∷ 0 ∷ []
 checked_as (Refused number place) = number ∷ place ∷ []
 
 -- 0, the number that a rate gives and its note, or 13.
-abbrev pub rated_as : Rate → List ℕ
-rated_as (Number number note) = 0 ∷ number ∷ note ∷ []
-rated_as NotANumber = 13 ∷ []
+abbrev pub rated_as : Option Rate → List ℕ
+rated_as (Some r) = 0 ∷ r.number ∷ r.note ∷ []
+rated_as None = 13 ∷ []
 
 -- 1 where the packet matches, 0 where it does not, 12 where it is unusable.
 abbrev pub matched_as : List ℕ → Option Packet → List ℕ

@@ -7,6 +7,7 @@ use mathlib.Core.Logic.{◌↔◌}
 use Prim.Native.Nat.{ℕ, ◌^◌, ◌<◌}
 use lib.ListN.{length}
 use borrow.Author.Tests.{leb-true}
+use Rattle.std.proofs.Common.{Option, Some, None}
 use Rattle.octets.specs.Test.{Each}
 use Rattle.octets.proofs.Cases.{by-test, apart}
 use Rattle.octets.proofs.Facts.{Octets}
@@ -15,8 +16,6 @@ use Rattle.rule.specs.declared.Checked.{Checked}
 use Rattle.rule.specs.declared.Checked.TheVariants.{Accepted, Refused as RefusedRule}
 use Rattle.rule.specs.Family.{Fits}
 use Rattle.action.specs.declared.Actions.{Actions}
-use Rattle.action.specs.declared.Reading.{Reading as ActionsReading}
-use Rattle.action.specs.declared.Reading.TheVariants.{Read, Unsound as UnsoundActions}
 use Rattle.action.specs.Actions.{actions_of, notes_of}
 use Rattle.action.proofs.PossibleLaws.{read-possible}
 use Rattle.table.specs.declared.Soundness.{Soundness}
@@ -102,9 +101,9 @@ accepted-holds Accepted = ((λ e. refl), (λ e. refl))
 accepted-holds (RefusedRule number place) = ((λ e. apart (cc)), (λ e. apart (cc)))
 
 -- communities are read where that check holds
-pub were-read : (a : ActionsReading) → is_sound a ≡ true → a ≡ Read (actions_read a)
-were-read (Read actions) h = refl
-were-read UnsoundActions h = apart (cc)
+pub were-read : (a : Option Actions) → is_sound a ≡ true → a ≡ Some (actions_read a)
+were-read (Some actions) h = refl
+were-read None h = apart (cc)
 
 -- ---- a reach ----
 
@@ -176,11 +175,11 @@ module _ (family chosen : Family) (chose : chosen ≡ family) (policy : Policy) 
       counts : count ≡ reach_count chosen reach.attribute
       counts = let z = sym f ∙ granted.1 in cc
 
-      acts : actions_of reach.communities ≡ Read actions
+      acts : actions_of reach.communities ≡ Some actions
       acts =
           let z = sym f ∙ granted.1 in
           let same : actions_read (actions_of reach.communities) ≡ actions = cc in
-          were-read (actions_of reach.communities) granted.0.1.1.1.0 ∙ ap Read same
+          were-read (actions_of reach.communities) granted.0.1.1.1.0 ∙ ap Some same
 
       pub reach-prepared : Fits chosen → reach.origin.originator < 2 ^ 32
           → Prepared family (reach_task policy reach actions) reach.attribute reach_head t used (length answers)

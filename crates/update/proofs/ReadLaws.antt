@@ -4,11 +4,10 @@ use mathlib.Core.Bool.{Bool, true, false, not}
 use mathlib.Core.List.{List}
 use Prim.Native.Nat.{ℕ, ◌<◌, ◌≤◌}
 use borrow.Author.Tests.{not-true, not-false, le-leb, lt-leb}
+use Rattle.std.proofs.Common.{Option, Some, None}
 use Rattle.rule.specs.declared.Family.{Family}
 use Rattle.rule.specs.declared.Checked.TheVariants.{Accepted}
 use Rattle.action.specs.declared.Actions.{Actions}
-use Rattle.action.specs.declared.Reading.{Reading as ActionsReading}
-use Rattle.action.specs.declared.Reading.TheVariants.{Read, Unsound}
 use Rattle.action.specs.Actions.{actions_of}
 use Rattle.route.specs.Route.{sound_routes}
 use Rattle.flowspec.specs.Checks.{actions_read}
@@ -67,14 +66,14 @@ module _ (family : Family) (routes a communities : List ℕ) (words : ℕ) (soun
       reach-refused number place e =
           rw (← sound-is, not-false sound ok, ← is, not-false taken yes, counted-refused (reach_rules family a) counted counts number place e)
 
-      module _ (count : ℕ) (e : counted ≡ Rules count) (reading : ActionsReading) (reads : reading ≡ actions_of communities) where
+      module _ (count : ℕ) (e : counted ≡ Rules count) (reading : Option Actions) (reads : reading ≡ actions_of communities) where
         all : ((reach_rules family a).ending ≡ Accepted) × (reach_count family a ≡ count)
         all = counted-all (reach_rules family a) counted counts count e
 
-        pub reach-actions : reading ≡ Unsound → NotRead 13 0 ≡ reach_read family routes a communities words
+        pub reach-actions : reading ≡ None → NotRead 13 0 ≡ reach_read family routes a communities words
         reach-actions h = rw (← sound-is, not-false sound ok, ← is, not-false taken yes, all.0, ← reads, h)
 
-        module _ (actions : Actions) (f : reading ≡ Read actions) where
+        module _ (actions : Actions) (f : reading ≡ Some actions) where
           pub reach-short : words < count → NotRead 16 0 ≡ reach_read family routes a communities words
           reach-short h = rw (← sound-is, not-false sound ok, ← is, not-false taken yes, all.0, all.1, ← reads, f, lt-leb _ _ h)
 

@@ -5,6 +5,7 @@ use mathlib.Core.Bool.{true}
 use mathlib.Core.List.{List, [], ◌∷◌}
 use Prim.Native.Nat.{ℕ, suc, ◌^◌, ◌<◌}
 use lib.ListN.{length}
+use Rattle.std.proofs.Common.{Some}
 use Rattle.octets.specs.Test.{Each}
 use Rattle.octets.proofs.Facts.{Octets}
 use Rattle.rule.specs.declared.Family.{Family}
@@ -13,7 +14,6 @@ use Rattle.rule.specs.Value.{check_value}
 use Rattle.rule.specs.Reading.{field_size, field_length, value_in}
 use Rattle.rule.proofs.ReadingLaws.{one-read}
 use Rattle.action.specs.declared.Actions.{Actions}
-use Rattle.action.specs.declared.Reading.TheVariants.{Read}
 use Rattle.action.specs.Actions.{actions_of}
 use Rattle.action.proofs.PossibleLaws.{read-possible}
 use Rattle.route.specs.Route.{sound_routes}
@@ -79,7 +79,7 @@ reach_task policy reach actions = Announce (record { origin = reach.origin; acti
 
 -- what is done for a rule that is read alone, on a sound table, is what its announcement does
 one-announced : (family : Family) (policy : Policy) (reach : Reach) (actions : Actions) → sound_routes family policy.routes ≡ true
-    → actions_of reach.communities ≡ Read actions → (rule t : List ℕ) → ReadAlone family rule → sound_table family t ≡ true
+    → actions_of reach.communities ≡ Some actions → (rule t : List ℕ) → ReadAlone family rule → sound_table family t ≡ true
     → announcing_one family policy reach rule t ≡ rule_call family policy.routes (reach_task policy reach actions) rule t
 unfolding announcing request_of read_with_routes rule_asks
 one-announced family policy reach actions routes acts rule t alone sound = rw (sound, routes, alone, acts, announced-told)
@@ -119,7 +119,7 @@ module _ (family : Family) (t : List ℕ) (sound : sound_table family t ≡ true
 
   -- **the announcements of a reach**
   pub announces-are : (policy : Policy) (reach : Reach) (actions : Actions) → sound_routes family policy.routes ≡ true
-      → actions_of reach.communities ≡ Read actions → reach.origin.originator < 2 ^ 32 → Octets reach.attribute
+      → actions_of reach.communities ≡ Some actions → reach.origin.originator < 2 ^ 32 → Octets reach.attribute
       → announcing_each family policy reach t ≡ tasks_from family policy.routes (reach_task policy reach actions) reach.attribute reach_head t
   announces-are policy reach actions routes acts small o =
       tasks-are (announcing_one family policy reach) policy.routes (reach_task policy reach actions)

@@ -103,11 +103,11 @@ fn read_reach(
     match attribute::count_rules(family, attribute, attribute::REACH_HEAD) {
         Counted::Refused { number, place } => RulesRead::Refused { number, place },
         Counted::Rules(count) => match action::actions_of(communities) {
-            action::Reading::Unsound => RulesRead::Refused {
+            None => RulesRead::Refused {
                 number: 13,
                 place: 0,
             },
-            action::Reading::Read(actions) => {
+            Some(actions) => {
                 if words < count {
                     return RulesRead::Refused {
                         number: 16,

@@ -109,11 +109,11 @@ fn compare_and_print(family: AddressFamily, octets: &[u8], middle: usize, end: u
 fn answer_actions(line: &[u8], octets: &mut [u8]) {
     let end = put_octets(line, 1, octets);
     match flowspec::read_actions(&octets[..end]) {
-        action::Reading::Read(actions) => {
+        Some(actions) => {
             print_first(0);
             fields::print_actions(actions);
         }
-        action::Reading::Unsound => {
+        None => {
             print_first(13);
             fields::print_actions(action::no_actions());
         }

@@ -3,8 +3,8 @@ use Rattle.flowspec.specs.Told.{actions_told}
 use Rattle.calls.proofs.CallLaws.{with_out, acts, answered, actions-refused, actions-done}
 use Rattle.calls.proofs.actions.Goals as goal
 
-pub returns-in-Unsound : goal.returns-in-Unsound
-returns-in-Unsound c = with_out (acts _) (answered actions_told _ _ c.read_actions.ensures.is _ c.in-Unsound.is _ _ _ (actions-refused _ _ c.word_of.ensures))
+pub returns-in-None : goal.returns-in-None
+returns-in-None c = with_out (acts _) (answered actions_told _ _ c.read_actions.ensures.is _ c.in-None.is _ _ _ (actions-refused _ _ c.word_of.ensures))
 
-pub returns-in-Read : goal.returns-in-Read
-returns-in-Read c = with_out (acts _) (answered actions_told _ _ c.read_actions.ensures.is _ c.in-Read.is _ _ _ (actions-done _ _ _ c.values_of.ensures))
+pub returns-in-Some : goal.returns-in-Some
+returns-in-Some c = with_out (acts _) (answered actions_told _ _ c.read_actions.ensures.is _ c.in-Some.is _ _ _ (actions-done _ _ _ c.values_of.ensures))

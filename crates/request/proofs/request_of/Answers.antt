@@ -14,8 +14,8 @@ slice_bounds-is_feasible-end c = omega (arith, rule-there _ _ _ _ _ _ c.read_wit
 pub returns-in-Refused : goal.returns-in-Refused
 returns-in-Refused c = search (ask-refused, rules)
 
-pub returns-in-Unsound : goal.returns-in-Unsound
-returns-in-Unsound c = search (ask-actions, rules)
+pub returns-in-None : goal.returns-in-None
+returns-in-None c = search (ask-actions, rules)
 
-pub returns-in-Read : goal.returns-in-Read
-returns-in-Read c = search (ask-announce, rules)
+pub returns-in-Some : goal.returns-in-Some
+returns-in-Some c = search (ask-announce, rules)

@@ -15,8 +15,8 @@ returns-then-words-count c = search (reach-short, rules)
 pub returns-in-Refused : goal.returns-in-Refused
 returns-in-Refused c = search (reach-refused, rules)
 
-pub returns-in-Unsound : goal.returns-in-Unsound
-returns-in-Unsound c = search (reach-actions, rules)
+pub returns-in-None : goal.returns-in-None
+returns-in-None c = search (reach-actions, rules)
 
 pub returns-else-words-count : goal.returns-else-words-count
 returns-else-words-count c = search (reach-read, rules)
