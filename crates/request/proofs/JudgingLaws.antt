@@ -11,9 +11,8 @@ use Rattle.rule.specs.declared.Reading.TheVariants.{Rule, Refused as NotRead}
 use Rattle.rule.specs.Reading.{one_rule}
 use Rattle.rule.proofs.ReadingLaws.{ReadRule, one-read}
 use Rattle.route.specs.declared.Origin.{Origin}
-use Rattle.route.specs.declared.Destination.{Destination}
 use Rattle.route.specs.Route.{routes_of, sound_routes}
-use Rattle.route.specs.Destination.{destination_in, destination_of}
+use Rattle.route.specs.Destination.{destination_of}
 use Rattle.route.specs.Feasible.{feasible}
 use Rattle.request.specs.Input.{Policy}
 use Rattle.request.specs.Judging.{read_with_routes, is_feasible}
@@ -39,9 +38,9 @@ module _ (family : Family) (words rule : List ℕ) where
   rule-there reading start size is e = one-read family rule start size (with-routes start size (sym is ∙ e))
 
 -- judging a value
-pub value-judged : (family chosen : Family) → chosen ≡ family → (policy : Policy) (value : List ℕ) (origin : Origin) (destination : Destination) (feasibly : Bool)
-    → destination_in destination ≡ destination_of chosen value
-    → feasibly ≡ feasible chosen.width policy.settings (destination_in destination) origin (routes_of chosen policy.routes)
+pub value-judged : (family chosen : Family) → chosen ≡ family → (policy : Policy) (value : List ℕ) (origin : Origin) (destination : _) (feasibly : Bool)
+    → destination ≡ destination_of chosen value
+    → feasibly ≡ feasible chosen.width policy.settings destination origin (routes_of chosen policy.routes)
     → feasibly ≡ is_feasible family policy value origin
 unfolding is_feasible
 value-judged family chosen chose policy value origin destination feasibly is says = says ∙ rw (← chose, is)

@@ -3,13 +3,13 @@
 use mathlib.Core.Path.{◌≡◌, refl}
 use mathlib.Core.List.{List, [], ◌∷◌}
 use Prim.Native.Nat.{ℕ}
+use Rattle.std.proofs.Common.{Option, Some, None}
 use Rattle.octets.specs.Test.{every}
 use Rattle.prefix.specs.Prefix.{Pattern}
 use Rattle.prefix.proofs.ContainLaws.{Alike, contains-alike, contained-alike}
 use Rattle.route.specs.declared.Origin.{Origin}
 use Rattle.route.specs.declared.Settings.{Settings}
 use Rattle.route.specs.Route.{Route}
-use Rattle.route.specs.Destination.{Destination, Missing, At}
 use Rattle.route.specs.Feasible.{covered_by, more_specific, matched, best_match, undisputed, feasible}
 use Rattle.route.proofs.FeasibleLaws.{judged-alike}
 
@@ -34,17 +34,17 @@ module _ (w : ℕ) (p q : Pattern) (same : Alike w p q) where
   undisputed-alike (r ∷ routes) neighbour = rw (inside-alike r, undisputed-alike routes neighbour)
 
 -- two destinations that differ past the length at most
-abbrev pub AlikeTo : ℕ → Destination → Destination → Type 0
-AlikeTo w Missing Missing = Unit {0}
-AlikeTo w Missing (At q) = ⊥
-AlikeTo w (At p) Missing = ⊥
-AlikeTo w (At p) (At q) = Alike w p q
+abbrev pub AlikeTo : ℕ → Option Pattern → Option Pattern → Type 0
+AlikeTo w None None = Unit {0}
+AlikeTo w None (Some q) = ⊥
+AlikeTo w (Some p) None = ⊥
+AlikeTo w (Some p) (Some q) = Alike w p q
 
-pub destinations-alike : (w : ℕ) (settings : Settings) (d e : Destination) (origin : Origin) (routes : List Route) → AlikeTo w d e
+pub destinations-alike : (w : ℕ) (settings : Settings) (d e : Option Pattern) (origin : Origin) (routes : List Route) → AlikeTo w d e
     → feasible w settings d origin routes ≡ feasible w settings e origin routes
 unfolding feasible
-destinations-alike w settings Missing Missing origin routes same = refl
-destinations-alike w settings Missing (At q) origin routes same = absurd same
-destinations-alike w settings (At p) Missing origin routes same = absurd same
-destinations-alike w settings (At p) (At q) origin routes same =
+destinations-alike w settings None None origin routes same = refl
+destinations-alike w settings None (Some q) origin routes same = absurd same
+destinations-alike w settings (Some p) None origin routes same = absurd same
+destinations-alike w settings (Some p) (Some q) origin routes same =
     judged-alike w p q origin routes routes (best-alike w p q same routes) (undisputed-alike w p q same routes)

@@ -4,9 +4,10 @@ use mathlib.Core.List.{List}
 use Prim.Native.Nat.{ℕ, ◌+◌, ◌≤◌}
 use native.Mathlib.Omega.{arith}
 use borrow.Author.Tests.{eq-eqb, ne_eqb}
+use Rattle.std.proofs.Common.{Option, Some, None}
 use Rattle.octets.specs.Walk.{Walk}
 use Rattle.prefix.specs.declared.Prefix.{Prefix}
-use Rattle.prefix.specs.Prefix.{pattern_of, pattern_in}
+use Rattle.prefix.specs.Prefix.{Pattern, pattern_of, pattern_in}
 use Rattle.rule.specs.declared.Family.{Family}
 use Rattle.rule.specs.declared.Next.{Next}
 use Rattle.rule.specs.declared.Next.TheVariants.{Nothing, Another, Refused}
@@ -14,23 +15,23 @@ use Rattle.rule.specs.declared.Checked.{Checked}
 use Rattle.rule.specs.Component.{component_at}
 use Rattle.rule.specs.Value.{Component, between, components_from, components}
 use Rattle.rule.proofs.ValueLaws.{was-found, components-more, components-none, components-refused, components-ind}
-use Rattle.route.specs.Destination.{Destination, Missing, At, destination_for, destination_among, destination_of}
+use Rattle.route.specs.Destination.{destination_for, destination_among, destination_of}
 
 -- how `destination_for` comes to its answers
 module _ (family : Family) (kind : ℕ) (body : List ℕ) where
   pub one-prefix : (p : Prefix) → kind ≡ 1 → pattern_of p ≡ pattern_in family.width family.offsets body
-      → At (pattern_of p) ≡ destination_for family (record { kind = kind; body = body }) Missing
+      → Some (pattern_of p) ≡ destination_for family (record { kind = kind; body = body }) None
   unfolding destination_for
   one-prefix p h e = rw (eq-eqb kind 1 h, e)
 
-  pub other-kind : (kind ≡ 1 → ⊥) → Missing ≡ destination_for family (record { kind = kind; body = body }) Missing
+  pub other-kind : (kind ≡ 1 → ⊥) → None ≡ destination_for family (record { kind = kind; body = body }) None
   unfolding destination_for
   other-kind h = rw (ne_eqb kind 1 h)
 
 module _ (family : Family) (v : List ℕ) where
   -- behind a component there is no destination
   Later : ℕ → ℕ → Walk Component Checked → Type 0
-  Later at previous w = 1 ≤ previous → destination_among family w.items ≡ Missing
+  Later at previous w = 1 ≤ previous → destination_among family w.items ≡ None
 
   later : (at previous : ℕ) → Later at previous (components_from family v (record { at = at; previous = previous }))
   unfolding Later destination_among destination_for
@@ -46,19 +47,19 @@ module _ (family : Family) (v : List ℕ) where
 
   -- how `destination_of` comes to its answers
   module _ (next : Next) (is : next ≡ component_at family v family.head 0) where
-    pub by_first : (kind behind : ℕ) (body : List ℕ) (r : Destination) → next ≡ Another kind behind → body ≡ between v (family.head + 1) behind
-        → r ≡ destination_for family (record { kind = kind; body = body }) Missing → r ≡ destination_of family v
+    pub by_first : (kind behind : ℕ) (body : List ℕ) (r : Option Pattern) → next ≡ Another kind behind → body ≡ between v (family.head + 1) behind
+        → r ≡ destination_for family (record { kind = kind; body = body }) None → r ≡ destination_of family v
     unfolding destination_of components destination_among parts Later
     by_first kind behind body r e handed s =
         let f = was-found family v family.head 0 kind behind (sym is ∙ e) in
         let given = f.given in
         let c = ap parts (components-more family v family.head 0 kind behind (sym is ∙ e)) in
-        s ∙ ap (λ (x : List ℕ). destination_for family (record { kind = kind; body = x }) Missing) handed ∙ rw (c, later behind kind (omega arith))
+        s ∙ ap (λ (x : List ℕ). destination_for family (record { kind = kind; body = x }) None) handed ∙ rw (c, later behind kind (omega arith))
 
-    pub by-none : next ≡ Nothing → Missing ≡ destination_of family v
+    pub by-none : next ≡ Nothing → None ≡ destination_of family v
     unfolding destination_of components destination_among parts
     by-none e = rw (ap parts (components-none family v family.head 0 (sym is ∙ e)))
 
-    pub by-refused : (number place : ℕ) → next ≡ Refused number place → Missing ≡ destination_of family v
+    pub by-refused : (number place : ℕ) → next ≡ Refused number place → None ≡ destination_of family v
     unfolding destination_of components destination_among parts
     by-refused number place e = rw (ap parts (components-refused family v family.head 0 number place (sym is ∙ e)))

@@ -3,11 +3,11 @@ use mathlib.Core.Path.{◌≡◌, refl}
 use mathlib.Core.Bool.{Bool, true, false}
 use mathlib.Core.List.{List, [], ◌∷◌, ◌++◌}
 use Prim.Native.Nat.{ℕ, ◌*◌, ◌^◌}
+use Rattle.std.proofs.Common.{Option, Some, None}
 use Rattle.octets.specs.Test.{every, same_list}
-use Rattle.prefix.specs.Prefix.{bits, covers_address, contains}
+use Rattle.prefix.specs.Prefix.{Pattern, bits, covers_address, contains}
 use Rattle.rule.specs.Family.{ipv4, ipv6}
 use Rattle.route.specs.Route.{number_in_words, route_at, routes_from, routes_of, plain_prefix, rises, rising, sound_routes}
-use Rattle.route.specs.Destination.{Destination, Missing, At}
 use Rattle.route.specs.Feasible.{covered_by, more_specific, longer, matched, best_match, originates, undisputed, judged, feasible}
 
 -- 192.0.2.0/24 of originator 7 and AS 64500
@@ -18,11 +18,11 @@ one = 0xc0000200 ∷ 24 ∷ 7 ∷ 64500 ∷ []
 abbrev two : List ℕ
 two = one ++ (0xc0000280 ∷ 25 ∷ 7 ∷ 64501 ∷ [])
 
-abbrev to : ℕ → ℕ → Destination
-to address length = At (record { offset = 0; length = length; address = address })
+abbrev to : ℕ → ℕ → Option Pattern
+to address length = Some (record { offset = 0; length = length; address = address })
 
 -- whether a rule to this destination is feasible by the routes, from an originator
-abbrev by : List ℕ → Bool → Destination → ℕ → Bool
+abbrev by : List ℕ → Bool → Option Pattern → ℕ → Bool
 by words allowed destination originator =
     feasible 32 (record { allows_no_destination = allowed }) destination (record { originator = originator }) (routes_of ipv4 words)
 
@@ -50,8 +50,8 @@ pub examples : (by one false (to 0xc0000200 25) 7
     ∷ by two false (to 0xc0000200 25) 7
     ∷ by two false (to 0 0) 7
     ∷ by two true (to 0 0) 7
-    ∷ by two false Missing 7
-    ∷ by two true Missing 7
+    ∷ by two false None 7
+    ∷ by two true None 7
     ∷ [])
     ≡ true ∷ false ∷ true ∷ false ∷ true ∷ false ∷ false ∷ false ∷ true ∷ []
 unfolding every bits same_list covers_address contains number_in_words route_at routes_from routes_of covered_by more_specific longer matched best_match originates undisputed judged feasible
@@ -64,7 +64,7 @@ long = 0x20010db8 ∷ 0 ∷ 0 ∷ 0 ∷ 32 ∷ 7 ∷ 64500 ∷ 0x20010db8 ∷ 1 
 -- whether a rule to these bits of 2001:db8:: is feasible by them
 abbrev widely : ℕ → ℕ → Bool
 widely offset length =
-    feasible 128 (record { allows_no_destination = true }) (At (record { offset = offset; length = length; address = 0x20010db8 * 2 ^ 96 }))
+    feasible 128 (record { allows_no_destination = true }) (Some (record { offset = offset; length = length; address = 0x20010db8 * 2 ^ 96 }))
     (record { originator = 7 }) (routes_of ipv6 long)
 
 -- the list is sound, with a bit past the length it is not; 2001:db8::/64 is feasible, 2001:db8::/32 is disputed by the other route, and

@@ -10,6 +10,7 @@ use native.Mathlib.Omega.{arith}
 use lib.Dec.{ltb}
 use lib.ListN.{length, get_or}
 use borrow.Author.Tests.{ltb-true, ltb-false}
+use Rattle.std.proofs.Common.{Option, Some, None}
 use Rattle.octets.specs.Test.{every}
 use Rattle.octets.proofs.Cases.{by-test, apart}
 use Rattle.prefix.specs.Prefix.{Pattern, WellFormed}
@@ -19,27 +20,26 @@ use Rattle.rule.specs.Family.{Fits}
 use Rattle.route.specs.declared.Origin.{Origin}
 use Rattle.route.specs.declared.Settings.{Settings}
 use Rattle.route.specs.Route.{Route, route_at, routes_from, routes_of, rising, sound_routes}
-use Rattle.route.specs.Destination.{Missing, At}
-use Rattle.route.specs.Feasible.{Longest, BestMatch, Nothing, Found, covered_by, more_specific, longer, matched, best_match, undisputed, judged, feasible}
+use Rattle.route.specs.Feasible.{Longest, covered_by, more_specific, longer, matched, best_match, undisputed, judged, feasible}
 use Rattle.route.proofs.SoundLaws.{only-once, sound-rising, sound-formed}
 
 -- a route is a match where it covers the destination
-covering-match : (w : ℕ) (d : Pattern) (r : Route) → covered_by w d r ≡ true → matched w d r ≡ Found r
+covering-match : (w : ℕ) (d : Pattern) (r : Route) → covered_by w d r ≡ true → matched w d r ≡ Some r
 unfolding matched
 covering-match w d r e = rw e
 
-no-match : (w : ℕ) (d : Pattern) (r : Route) → covered_by w d r ≡ false → matched w d r ≡ Nothing
+no-match : (w : ℕ) (d : Pattern) (r : Route) → covered_by w d r ≡ false → matched w d r ≡ None
 unfolding matched
 no-match w d r e = rw e
 
 -- a list with no best match has no route that covers the destination
-found-stays : {P : Type 0} (r : Route) (b : BestMatch) → longer (Found r) b ≡ Nothing → P
+found-stays : {P : Type 0} (r : Route) (b : Option Route) → longer (Some r) b ≡ None → P
 unfolding longer
-found-stays r Nothing e = apart (cc)
-found-stays r (Found s) e =
+found-stays r None e = apart (cc)
+found-stays r (Some s) e =
     by-test (ltb r.prefix.length s.prefix.length) (λ t. let f = rw t at e in apart (cc)) (λ t. let f = rw t at e in apart (cc))
 
-pub none-covers : (w : ℕ) (d : Pattern) (rs : List Route) → best_match w d rs ≡ Nothing → (s : Route) → Memᴰ s rs → covered_by w d s ≡ false
+pub none-covers : (w : ℕ) (d : Pattern) (rs : List Route) → best_match w d rs ≡ None → (s : Route) → Memᴰ s rs → covered_by w d s ≡ false
 unfolding best_match longer
 none-covers w d [] e s m = absurd (Memᴰ.not-nil m)
 none-covers w d (r ∷ rs) e s m =
@@ -66,10 +66,10 @@ module _ (w : ℕ) (d : Pattern) (s : Route) (rs : List Route) where
 
 -- one covering route before others, by the best match of those
 module _ (w : ℕ) (d : Pattern) (s : Route) (rs : List Route) (c : covered_by w d s ≡ true) where
-  alone : best_match w d rs ≡ Nothing → Longest w d (s ∷ rs) s
+  alone : best_match w d rs ≡ None → Longest w d (s ∷ rs) s
   alone none = first w d s rs c (λ t m e. let f = none-covers w d rs none t m in apart (cc))
 
-  before : (t : Route) → Longest w d rs t → (r : Route) → longer (Found s) (Found t) ≡ Found r → Longest w d (s ∷ rs) r
+  before : (t : Route) → Longest w d rs t → (r : Route) → longer (Some s) (Some t) ≡ Some r → Longest w d (s ∷ rs) r
   unfolding longer
   before t T r e =
       by-test (ltb s.prefix.length t.prefix.length)
@@ -83,17 +83,17 @@ module _ (w : ℕ) (d : Pattern) (s : Route) (rs : List Route) (c : covered_by w
       rw (← same) (first w d s rs c (λ u m f. let k = T.longest u m f in omega arith)))
 
 -- the best match is the longest
-pub best-longest : (w : ℕ) (d : Pattern) (rs : List Route) (r : Route) → best_match w d rs ≡ Found r → Longest w d rs r
+pub best-longest : (w : ℕ) (d : Pattern) (rs : List Route) (r : Route) → best_match w d rs ≡ Some r → Longest w d rs r
 unfolding best_match longer
 best-longest w d [] r e = apart (cc)
 best-longest w d (s ∷ rs) r e =
     by-test (covered_by w d s) (λ t. go (best_match w d rs) refl t (rw (covering-match w d s t) at e) (best-longest w d rs))
     (λ t. still w d s rs r (best-longest w d rs r (rw (no-match w d s t) at e)) (λ f. apart (cc)))
   where
-    go : (b : BestMatch) → best_match w d rs ≡ b → covered_by w d s ≡ true → longer (Found s) (best_match w d rs) ≡ Found r
-        → ((t : Route) → best_match w d rs ≡ Found t → Longest w d rs t) → Longest w d (s ∷ rs) r
-    go Nothing f t g below = let same : s ≡ r = let h = rw f at g in cc in rw (← same) (alone w d s rs t f)
-    go (Found u) f t g below = before w d s rs t u (below u f) r (rw f at g)
+    go : (b : Option Route) → best_match w d rs ≡ b → covered_by w d s ≡ true → longer (Some s) (best_match w d rs) ≡ Some r
+        → ((t : Route) → best_match w d rs ≡ Some t → Longest w d rs t) → Longest w d (s ∷ rs) r
+    go None f t g below = let same : s ≡ r = let h = rw f at g in cc in rw (← same) (alone w d s rs t f)
+    go (Some u) f t g below = before w d s rs t u (below u f) r (rw f at g)
 
 -- routes that rise, each with a well-formed prefix, have one longest at most
 pub one-longest : (w : ℕ) (d : Pattern) (rs : List Route) → rising rs ≡ true → ((r : Route) → Memᴰ r rs → WellFormed w r.prefix)
@@ -109,16 +109,16 @@ one-longest w d rs rise formed r s R S =
 
 -- and among them the longest is the best match
 pub longest-best : (w : ℕ) (d : Pattern) (rs : List Route) → rising rs ≡ true → ((r : Route) → Memᴰ r rs → WellFormed w r.prefix)
-    → (r : Route) → Longest w d rs r → best_match w d rs ≡ Found r
+    → (r : Route) → Longest w d rs r → best_match w d rs ≡ Some r
 longest-best w d rs rise formed r R = go (best_match w d rs) refl
   where
-    go : (b : BestMatch) → best_match w d rs ≡ b → best_match w d rs ≡ Found r
-    go Nothing e = let f = none-covers w d rs e r R.among in let g = R.covering in apart (cc)
-    go (Found s) e = e ∙ ap Found (one-longest w d rs rise formed s r (best-longest w d rs s e) R)
+    go : (b : Option Route) → best_match w d rs ≡ b → best_match w d rs ≡ Some r
+    go None e = let f = none-covers w d rs e r R.among in let g = R.covering in apart (cc)
+    go (Some s) e = e ∙ ap Some (one-longest w d rs rise formed s r (best-longest w d rs s e) R)
 
 -- **The best match** among the routes that sound words spell, each word of 32 bits, is the one longest route.
 pub sound-best : (family : Family) → Fits family → (d : Pattern) (ws : List ℕ) → sound_routes family ws ≡ true → ((i : ℕ) → get_or ws i 0 < 2 ^ 32)
-    → (r : Route) → (best_match family.width d (routes_of family ws) ≡ Found r) ↔ Longest family.width d (routes_of family ws) r
+    → (r : Route) → (best_match family.width d (routes_of family ws) ≡ Some r) ↔ Longest family.width d (routes_of family ws) r
 sound-best family F d ws sound fits r = (
   best-longest family.width d (routes_of family ws) r,
   longest-best family.width d (routes_of family ws) (sound-rising family ws sound) (sound-formed family ws sound F fits) r,
@@ -152,9 +152,9 @@ pub judged-alike : (w : ℕ) (d e : Pattern) (origin : Origin) (rs ss : List Rou
 unfolding judged
 judged-alike w d e origin rs ss b u = go (best_match w e ss) refl
   where
-    go : (best : BestMatch) → best_match w e ss ≡ best → judged w d origin rs ≡ judged w e origin ss
-    go Nothing f = rw (judged, b, f)
-    go (Found r) f = rw (judged, b, f, u r.neighbour)
+    go : (best : Option Route) → best_match w e ss ≡ best → judged w d origin rs ≡ judged w e origin ss
+    go None f = rw (judged, b, f)
+    go (Some r) f = rw (judged, b, f, u r.neighbour)
 
 -- a destination is judged by the routes that matter
 pub judged-only : (w : ℕ) (d : Pattern) (origin : Origin) (rs : List Route) → judged w d origin (only (matters w d) rs) ≡ judged w d origin rs
@@ -162,18 +162,18 @@ judged-only w d origin rs = judged-alike w d d origin (only (matters w d) rs) rs
 
 -- lists with the same routes that matter judge a rule alike
 pub feasible-alike : (w : ℕ) (settings : Settings) (d : Pattern) (origin : Origin) (rs ss : List Route) → only (matters w d) rs ≡ only (matters w d) ss
-    → feasible w settings (At d) origin rs ≡ feasible w settings (At d) origin ss
+    → feasible w settings (Some d) origin rs ≡ feasible w settings (Some d) origin ss
 unfolding feasible
 feasible-alike w settings d origin rs ss e =
     sym (judged-only w d origin rs) ∙ ap (judged w d origin) e ∙ judged-only w d origin ss
 
 -- a rule with a destination is judged the same whatever is allowed, and one with none is feasible exactly where that is
 pub whatever-allowed : (w : ℕ) (s t : Settings) (d : Pattern) (origin : Origin) (rs : List Route)
-    → feasible w s (At d) origin rs ≡ feasible w t (At d) origin rs
+    → feasible w s (Some d) origin rs ≡ feasible w t (Some d) origin rs
 unfolding feasible
 whatever-allowed w s t d origin rs = refl
 
-pub by-allowed : (w : ℕ) (s : Settings) (origin : Origin) (rs : List Route) → feasible w s Missing origin rs ≡ s.allows_no_destination
+pub by-allowed : (w : ℕ) (s : Settings) (origin : Origin) (rs : List Route) → feasible w s None origin rs ≡ s.allows_no_destination
 unfolding feasible
 by-allowed w s origin rs = refl
 
@@ -183,11 +183,11 @@ module _ (family : Family) (ws : List ℕ) (d : Pattern) (h : d.offset ≡ 0 →
   unfolding covered_by route_at
   elsewhere at = sym (other_offset family.width (route_at family ws at).prefix d (λ e. h (sym e)))
 
-  none-matches : (n at : ℕ) → best_match family.width d (routes_from family n ws at) ≡ Nothing
+  none-matches : (n at : ℕ) → best_match family.width d (routes_from family n ws at) ≡ None
   unfolding best_match routes_from longer
   none-matches zero at = refl
   none-matches (suc n) at = rw (no-match family.width d (route_at family ws at) (elsewhere at)) (none-matches n (at + family.words))
 
-  pub offset-infeasible : (settings : Settings) (origin : Origin) → feasible family.width settings (At d) origin (routes_of family ws) ≡ false
+  pub offset-infeasible : (settings : Settings) (origin : Origin) → feasible family.width settings (Some d) origin (routes_of family ws) ≡ false
   unfolding feasible judged routes_of
   offset-infeasible settings origin = rw (judged, none-matches (length ws / family.words) 0)

@@ -8,6 +8,7 @@ use native.Mathlib.Omega.{arith}
 use lib.Dec.{ltb, eqb}
 use lib.ListN.{length}
 use borrow.Author.Tests.{lt-ltb, le-ltb, ltb-true, ltb-false, ne_eqb, eqb-true, eqb-false, not-true, not-false}
+use Rattle.std.proofs.Common.{Option, Some, None, option_map}
 use Rattle.octets.specs.Test.{every}
 use Rattle.octets.proofs.Cases.{by-test, apart}
 use Rattle.prefix.specs.Prefix.{Pattern, pattern_of, contains}
@@ -17,25 +18,20 @@ use Rattle.rule.specs.Family.{Fits}
 use Rattle.route.specs.declared.Route.{Route as RouteInCode}
 use Rattle.route.specs.declared.Origin.{Origin}
 use Rattle.route.specs.declared.Settings.{Settings}
-use Rattle.route.specs.declared.Destination.{Destination as DestinationInCode}
-use Rattle.route.specs.declared.Destination.TheVariants.{Missing as MissingInCode, At as AtInCode}
-use Rattle.route.specs.declared.BestMatch.{BestMatch as BestMatchInCode}
-use Rattle.route.specs.declared.BestMatch.TheVariants.{Nothing as NothingInCode, Found as FoundInCode}
 use Rattle.route.specs.declared.Neighbours.{Neighbours}
 use Rattle.route.specs.declared.Neighbours.TheVariants.{Nobody, One, Several}
 use Rattle.route.specs.Route.{Route, route_of, route_at, routes_of}
-use Rattle.route.specs.Destination.{destination_in}
-use Rattle.route.specs.Feasible.{BestMatch, Nothing, Found, match_of, covered_by, more_specific, longer, matched, best_match, originates, undisputed, judged, feasible}
+use Rattle.route.specs.Feasible.{covered_by, more_specific, longer, matched, best_match, originates, undisputed, judged, feasible}
 use Rattle.route.specs.Pass.{added, noted, agrees, validated}
 use Rattle.route.proofs.RouteLaws.{ahead, routes-all, routes-next, routes-end}
 
 -- the longer of three matches is the same however they are taken together
-pub longer-none : (a : BestMatch) → longer a Nothing ≡ a
+pub longer-none : (a : Option Route) → longer a None ≡ a
 unfolding longer
-longer-none Nothing = refl
-longer-none (Found r) = refl
+longer-none None = refl
+longer-none (Some r) = refl
 
-longer-three : (r s t : Route) → longer (longer (Found r) (Found s)) (Found t) ≡ longer (Found r) (longer (Found s) (Found t))
+longer-three : (r s t : Route) → longer (longer (Some r) (Some s)) (Some t) ≡ longer (Some r) (longer (Some s) (Some t))
 unfolding longer
 longer-three r s t =
     let l = r.prefix.length in
@@ -50,12 +46,12 @@ longer-three r s t =
     by-test (ltb m n) (λ f. rw (e, f))
     (λ f. let a = ltb-false l m e in let b = ltb-false m n f in rw (e, f, le-ltb l n (omega arith), e)))
 
-pub longer-assoc : (a b c : BestMatch) → longer (longer a b) c ≡ longer a (longer b c)
+pub longer-assoc : (a b c : Option Route) → longer (longer a b) c ≡ longer a (longer b c)
 unfolding longer
-longer-assoc Nothing b c = refl
-longer-assoc (Found r) Nothing c = refl
-longer-assoc (Found r) (Found s) Nothing = longer-none (longer (Found r) (Found s))
-longer-assoc (Found r) (Found s) (Found t) = longer-three r s t
+longer-assoc None b c = refl
+longer-assoc (Some r) None c = refl
+longer-assoc (Some r) (Some s) None = longer-none (longer (Some r) (Some s))
+longer-assoc (Some r) (Some s) (Some t) = longer-three r s t
 
 -- all neighbour ASes agree with one more exactly where they do and it does
 added-agrees : (seen : Neighbours) (m n : ℕ) → agrees (added seen m) n ≡ agrees seen n && eqb m n
@@ -76,12 +72,12 @@ noted-agrees w d seen r n =
     by-test (more_specific w d r) (λ e. rw e (added-agrees seen r.neighbour n)) (λ e. rw e (sym (and-true (agrees seen n))))
 
 -- what holds before each route of the pass
-pub record Passed (family : Family) (d : Pattern) (ws : List ℕ) (best : BestMatch) (seen : Neighbours) (at : ℕ) : Type 0 where
+pub record Passed (family : Family) (d : Pattern) (ws : List ℕ) (best : Option Route) (seen : Neighbours) (at : ℕ) : Type 0 where
   pub within : at ≤ length ws
   pub matching : longer best (best_match family.width d (ahead family ws at)) ≡ best_match family.width d (routes_of family ws)
   pub agreeing : (n : ℕ) → agrees seen n && undisputed family.width d n (ahead family ws at) ≡ undisputed family.width d n (routes_of family ws)
 
-pub pass-start : (family : Family) (d : Pattern) (ws : List ℕ) → Passed family d ws Nothing Nobody 0
+pub pass-start : (family : Family) (d : Pattern) (ws : List ℕ) → Passed family d ws None Nobody 0
 unfolding longer agrees
 pass-start family d ws =
     let e = routes-all family ws in
@@ -92,8 +88,8 @@ neither : (a b : Bool) → a || b ≡ false → (a ≡ false) × (b ≡ false)
 neither true b e = apart (cc)
 neither false b e = (refl, e)
 
-module _ (family : Family) (F : Fits family) (d : Pattern) (ws : List ℕ) (best : BestMatch) (seen : Neighbours) (at : ℕ) (c : Passed family d ws best seen at) where
-  pub pass_on : (r : Route) (b : BestMatch) (s : Neighbours) → family.words ≤ length ws - at → r ≡ route_at family ws at
+module _ (family : Family) (F : Fits family) (d : Pattern) (ws : List ℕ) (best : Option Route) (seen : Neighbours) (at : ℕ) (c : Passed family d ws best seen at) where
+  pub pass_on : (r : Route) (b : Option Route) (s : Neighbours) → family.words ≤ length ws - at → r ≡ route_at family ws at
       → b ≡ longer best (matched family.width d r) → s ≡ noted family.width d seen r → Passed family d ws b s (at + family.words)
   unfolding best_match undisputed every
   pass_on r b s h e f g =
@@ -117,13 +113,13 @@ module _ (family : Family) (F : Fits family) (d : Pattern) (ws : List ℕ) (best
       pass_on r best seen h e (rw none.1 (sym (longer-none best))) (rw none.0 refl)
 
 -- what the pass has kept says what the routes do
-kept-says : (w : ℕ) (d : Pattern) (origin : Origin) (rs : List Route) (best : BestMatch) (seen : Neighbours) → best_match w d rs ≡ best
+kept-says : (w : ℕ) (d : Pattern) (origin : Origin) (rs : List Route) (best : Option Route) (seen : Neighbours) → best_match w d rs ≡ best
     → ((n : ℕ) → agrees seen n ≡ undisputed w d n rs) → validated best origin seen ≡ judged w d origin rs
 unfolding validated judged
-kept-says w d origin rs Nothing seen e f = rw (judged, e)
-kept-says w d origin rs (Found r) seen e f = rw (judged, e, f r.neighbour)
+kept-says w d origin rs None seen e f = rw (judged, e)
+kept-says w d origin rs (Some r) seen e f = rw (judged, e, f r.neighbour)
 
-pub pass-end : (family : Family) (d : Pattern) (ws : List ℕ) (best : BestMatch) (seen : Neighbours) (at : ℕ) (origin : Origin) (v : Bool)
+pub pass-end : (family : Family) (d : Pattern) (ws : List ℕ) (best : Option Route) (seen : Neighbours) (at : ℕ) (origin : Origin) (v : Bool)
     → Passed family d ws best seen at → length ws - at < family.words → v ≡ validated best origin seen
     → v ≡ judged family.width d origin (routes_of family ws)
 unfolding best_match undisputed every
@@ -134,22 +130,22 @@ pass-end family d ws best seen at origin v c h e =
     (λ n. sym (and-true (agrees seen n)) ∙ (rw none at (c.agreeing n)))
 
 -- one route more: the best match stays where the route does not cover the destination, or is no longer
-module _ (w : ℕ) (d : Pattern) (best : BestMatchInCode) (r : RouteInCode) (t : Bool) (says : t ≡ contains w (pattern_of r.prefix) d) where
-  pub not-covering : not t ≡ true → match_of best ≡ longer (match_of best) (matched w d (route_of r))
+module _ (w : ℕ) (d : Pattern) (best : Option RouteInCode) (r : RouteInCode) (t : Bool) (says : t ≡ contains w (pattern_of r.prefix) d) where
+  pub not-covering : not t ≡ true → option_map route_of best ≡ longer (option_map route_of best) (matched w d (route_of r))
   unfolding matched covered_by
-  not-covering e = rw (← says, not-true t e) (sym (longer-none (match_of best)))
+  not-covering e = rw (← says, not-true t e) (sym (longer-none (option_map route_of best)))
 
-  pub first-match : not t ≡ false → best ≡ NothingInCode → Found (route_of r) ≡ longer (match_of best) (matched w d (route_of r))
+  pub first-match : not t ≡ false → best ≡ None → Some (route_of r) ≡ longer (option_map route_of best) (matched w d (route_of r))
   unfolding matched covered_by longer
   first-match e f = rw (f, ← says, not-false t e)
 
-  pub longer-match : (s : RouteInCode) → not t ≡ false → best ≡ FoundInCode s → s.prefix.length < r.prefix.length
-      → Found (route_of r) ≡ longer (match_of best) (matched w d (route_of r))
+  pub longer-match : (s : RouteInCode) → not t ≡ false → best ≡ Some s → s.prefix.length < r.prefix.length
+      → Some (route_of r) ≡ longer (option_map route_of best) (matched w d (route_of r))
   unfolding matched covered_by longer
   longer-match s e f h = rw (f, ← says, not-false t e, lt-ltb s.prefix.length r.prefix.length h)
 
-  pub no_longer : (s : RouteInCode) → not t ≡ false → best ≡ FoundInCode s → r.prefix.length ≤ s.prefix.length
-      → Found (route_of s) ≡ longer (match_of best) (matched w d (route_of r))
+  pub no_longer : (s : RouteInCode) → not t ≡ false → best ≡ Some s → r.prefix.length ≤ s.prefix.length
+      → Some (route_of s) ≡ longer (option_map route_of best) (matched w d (route_of r))
   unfolding matched covered_by longer
   no_longer s e f h = rw (f, ← says, not-false t e, le-ltb s.prefix.length r.prefix.length h)
 
@@ -169,28 +165,28 @@ module _ (w : ℕ) (d : Pattern) (seen : Neighbours) (r : Route) where
   inside t s says e h f = rw (← says, not-false t e, lt-ltb d.length r.prefix.length h) f
 
 -- the three ways to conclude
-module _ (best : BestMatchInCode) (origin : Origin) (seen : Neighbours) where
-  pub no-match : best ≡ NothingInCode → false ≡ validated (match_of best) origin seen
+module _ (best : Option RouteInCode) (origin : Origin) (seen : Neighbours) where
+  pub no-match : best ≡ None → false ≡ validated (option_map route_of best) origin seen
   unfolding validated
   no-match e = rw e
 
-  module _ (r : RouteInCode) (e : best ≡ FoundInCode r) (has : Bool) (says : has ≡ originates origin (route_of r)) where
-    pub other-originator : not has ≡ true → false ≡ validated (match_of best) origin seen
+  module _ (r : RouteInCode) (e : best ≡ Some r) (has : Bool) (says : has ≡ originates origin (route_of r)) where
+    pub other-originator : not has ≡ true → false ≡ validated (option_map route_of best) origin seen
     unfolding validated
     other-originator h = rw (e, ← says, not-true has h)
 
-    pub by-neighbour : (v : Bool) → not has ≡ false → v ≡ agrees seen r.neighbour → v ≡ validated (match_of best) origin seen
+    pub by-neighbour : (v : Bool) → not has ≡ false → v ≡ agrees seen r.neighbour → v ≡ validated (option_map route_of best) origin seen
     unfolding validated
     by-neighbour v h g = rw (e, ← says, not-false has h) g
 
 -- with no destination what is allowed decides, and with one the routes do
-module _ (w : ℕ) (settings : Settings) (destination : DestinationInCode) (origin : Origin) (routes : List Route) where
-  pub no-destination : destination ≡ MissingInCode
-      → settings.allows_no_destination ≡ feasible w settings (destination_in destination) origin routes
+module _ (w : ℕ) (settings : Settings) (destination : Option Prefix) (origin : Origin) (routes : List Route) where
+  pub no-destination : destination ≡ None
+      → settings.allows_no_destination ≡ feasible w settings (option_map pattern_of destination) origin routes
   unfolding feasible
   no-destination e = rw e
 
-  pub by-routes : (d : Prefix) (v : Bool) → destination ≡ AtInCode d → v ≡ judged w (pattern_of d) origin routes
-      → v ≡ feasible w settings (destination_in destination) origin routes
+  pub by-routes : (d : Prefix) (v : Bool) → destination ≡ Some d → v ≡ judged w (pattern_of d) origin routes
+      → v ≡ feasible w settings (option_map pattern_of destination) origin routes
   unfolding feasible
   by-routes d v e f = rw e f

@@ -1,15 +1,12 @@
 -- Whether a rule is feasible by the unicast routes at hand: RFC 8955 section 6. Of a rule its destination counts, and who announces it.
 -- A route covers the destination, or is more specific than it, or does neither; w is the width of an address.
-use Rattle.std.specs.Prelude.{ℕ, ◌≤◌, ◌≡◌, Bool, true, false, cond, not, ◌&&◌, ◌||◌, ltb, eqb}
+use Rattle.std.specs.Prelude.{ℕ, ◌≤◌, ◌≡◌, Bool, true, false, cond, not, ◌&&◌, ◌||◌, ltb, eqb, Option, Some, None}
 use mathlib.Core.List.{List, [], ◌∷◌, Memᴰ}
 use Rattle.octets.specs.Test.{every}
 use Rattle.prefix.specs.Prefix.{Pattern, contains}
 use Rattle.route.specs.declared.Origin.{Origin}
 use Rattle.route.specs.declared.Settings.{Settings}
-use Rattle.route.specs.declared.BestMatch.{BestMatch as BestMatchInCode}
-use Rattle.route.specs.declared.BestMatch.TheVariants.{Nothing as NothingInCode, Found as FoundInCode}
-use Rattle.route.specs.Route.{Route, route_of}
-use Rattle.route.specs.Destination.{Destination, Missing, At}
+use Rattle.route.specs.Route.{Route}
 
 -- Section 6 b): a route covers the destination where its prefix contains it; a route equal to the destination covers it.
 unfoldable pub covered_by : ℕ → Pattern → Route → Bool
@@ -26,29 +23,19 @@ pub record Longest (w : ℕ) (destination : Pattern) (routes : List Route) (r : 
   pub covering : covered_by w destination r ≡ true
   pub longest : (s : Route) → Memᴰ s routes → covered_by w destination s ≡ true → s.prefix.length ≤ r.prefix.length
 
--- The best match for a destination, which may have none.
-pub data BestMatch : Type 0 where
-  Nothing : BestMatch
-  Found : Route → BestMatch
-
--- The best match that one in the code stands for.
-abbrev pub match_of : BestMatchInCode → BestMatch
-match_of NothingInCode = Nothing
-match_of (FoundInCode r) = Found (route_of r)
-
 -- Section 6 b): of two matches the one with the longer prefix.
-unfoldable pub longer : BestMatch → BestMatch → BestMatch
-longer Nothing best = best
-longer (Found r) Nothing = Found r
-longer (Found r) (Found s) = cond (ltb r.prefix.length s.prefix.length) (Found s) (Found r)
+unfoldable pub longer : Option Route → Option Route → Option Route
+longer None best = best
+longer (Some r) None = Some r
+longer (Some r) (Some s) = cond (ltb r.prefix.length s.prefix.length) (Some s) (Some r)
 
 -- Section 6 b): a route that covers the destination is a match.
-unfoldable pub matched : ℕ → Pattern → Route → BestMatch
-matched w destination r = cond (covered_by w destination r) (Found r) Nothing
+unfoldable pub matched : ℕ → Pattern → Route → Option Route
+matched w destination r = cond (covered_by w destination r) (Some r) None
 
 -- Section 6 b): the best match is the route with the longest prefix that covers the destination.
-unfoldable pub best_match : ℕ → Pattern → List Route → BestMatch
-best_match w destination [] = Nothing
+unfoldable pub best_match : ℕ → Pattern → List Route → Option Route
+best_match w destination [] = None
 best_match w destination (r ∷ routes) = longer (matched w destination r) (best_match w destination routes)
 
 -- Section 6 b): "The originator of the Flow Specification matches the originator of the best-match unicast route".
@@ -64,13 +51,13 @@ undisputed w destination neighbour routes = every (λ r. not (more_specific w de
 unfoldable pub judged : ℕ → Pattern → Origin → List Route → Bool
 judged w destination origin routes =
     elim (best_match w destination routes) [
-      | Nothing ↦ false
-      | Found best ↦ originates origin best && undisputed w destination best.neighbour routes
+      | None ↦ false
+      | Some best ↦ originates origin best && undisputed w destination best.neighbour routes
     ]
 
 -- Section 6 a): a rule with a destination, 0.0.0.0/0 like any other, is feasible as that is judged, whatever the setting; 01: "A setting
 -- may allow rules with no destination; those are then always feasible." A destination with an offset is infeasible, as RFC 8956 section 5
 -- a) asks for offset 0: routes have offset 0, so that none covers it.
-unfoldable pub feasible : ℕ → Settings → Destination → Origin → List Route → Bool
-feasible w settings Missing origin routes = settings.allows_no_destination
-feasible w settings (At destination) origin routes = judged w destination origin routes
+unfoldable pub feasible : ℕ → Settings → Option Pattern → Origin → List Route → Bool
+feasible w settings None origin routes = settings.allows_no_destination
+feasible w settings (Some destination) origin routes = judged w destination origin routes

@@ -1,12 +1,12 @@
 -- How the code goes over the routes: once with each beside the one before it, and once with the best match kept and, of the routes strictly
 -- inside the destination, whether they have no neighbour AS, one, or several. No promise to a caller names these words.
-use Rattle.std.specs.Prelude.{ℕ, Bool, true, false, cond, ◌&&◌, eqb}
+use Rattle.std.specs.Prelude.{ℕ, Bool, true, false, cond, ◌&&◌, eqb, Option, Some, None}
 use Rattle.prefix.specs.Prefix.{Pattern}
 use Rattle.route.specs.declared.Origin.{Origin}
 use Rattle.route.specs.declared.Neighbours.{Neighbours}
 use Rattle.route.specs.declared.Neighbours.TheVariants.{Nobody, One, Several}
 use Rattle.route.specs.Route.{Route, plain_prefix, rises}
-use Rattle.route.specs.Feasible.{BestMatch, Nothing, Found, more_specific, originates}
+use Rattle.route.specs.Feasible.{more_specific, originates}
 
 -- A prefix may follow another in a sound list: it is plain, and the other comes before it.
 unfoldable pub may_follow : ℕ → Pattern → Pattern → Bool
@@ -29,6 +29,6 @@ agrees (One m) n = eqb m n
 agrees Several n = false
 
 -- There is a best match, it has the announcement's originator, and all neighbour ASes noted are its own.
-unfoldable pub validated : BestMatch → Origin → Neighbours → Bool
-validated Nothing origin seen = false
-validated (Found best) origin seen = originates origin best && agrees seen best.neighbour
+unfoldable pub validated : Option Route → Origin → Neighbours → Bool
+validated None origin seen = false
+validated (Some best) origin seen = originates origin best && agrees seen best.neighbour

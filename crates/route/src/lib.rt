@@ -1,13 +1,13 @@
 // Unicast routes lent as 32-bit words, as many a route as the family has, and whether a rule is feasible by them: RFC 8955 section 6.
 #![tactic(auto)]
 
-ghost use Rattle.std.specs.Prelude.{◌≡◌, ◌+◌, ◌≤◌, length};
+ghost use Rattle.std.specs.Prelude.{◌≡◌, ◌+◌, ◌≤◌, length, option_map};
 ghost use Rattle.prefix.specs.Prefix.{address_of, pattern_of};
 ghost use Rattle.rule.specs.Family.{Fits};
 ghost use Rattle.rule.specs.Value.{component};
 ghost use Rattle.route.specs.Route.{route_of, number_in_words, route_at, routes_of, plain_prefix, rises, sound_routes};
-ghost use Rattle.route.specs.Destination.{Missing, destination_in, destination_for, destination_of};
-ghost use Rattle.route.specs.Feasible.{originates, match_of, matched, longer, judged, feasible};
+ghost use Rattle.route.specs.Destination.{destination_for, destination_of};
+ghost use Rattle.route.specs.Feasible.{originates, matched, longer, judged, feasible};
 ghost use Rattle.route.specs.Pass.{may_follow, added, noted, agrees, validated};
 
 use prefix::{Address, Prefix};
@@ -31,20 +31,6 @@ pub struct Origin {
 #[derive(Clone, Copy)]
 pub struct Settings {
     pub allows_no_destination: bool,
-}
-
-// The destination of a rule, which may have none.
-#[derive(Clone, Copy)]
-pub enum Destination {
-    Missing,
-    At(Prefix),
-}
-
-// The best match for a destination, which may have none.
-#[derive(Clone, Copy)]
-pub enum BestMatch {
-    Nothing,
-    Found(Route),
 }
 
 // The neighbour ASes of the routes seen strictly inside a destination.
@@ -181,19 +167,19 @@ pub fn sound_routes(family: Family, words: &[u32]) -> bool
 }
 
 // The better of the best match so far and one more route: a longer one that covers the destination.
-fn better(width: u8, best: BestMatch, destination: Prefix, route: Route) -> BestMatch
-    ensures { match_of result ≡ longer (match_of best) (matched width (pattern_of destination) (route_of route)) }
+fn better(width: u8, best: Option<Route>, destination: Prefix, route: Route) -> Option<Route>
+    ensures { option_map route_of result ≡ longer (option_map route_of best) (matched width (pattern_of destination) (route_of route)) }
 {
     let covering = route.prefix;
     if !prefix::contains_prefix(width, covering, destination) {
         return best;
     }
-    let BestMatch::Found(held) = best else {
-        return BestMatch::Found(route);
+    let Some(held) = best else {
+        return Some(route);
     };
     let longest = held.prefix;
     if longest.length < covering.length {
-        return BestMatch::Found(route);
+        return Some(route);
     }
     best
 }
@@ -248,10 +234,10 @@ fn originates(origin: Origin, route: Route) -> bool
 }
 
 // Whether the best match has the announcement's originator, and no other neighbour AS than its own was seen.
-fn is_validated(best: BestMatch, origin: Origin, seen: Neighbours) -> bool
-    ensures { result ≡ validated (match_of best) origin seen }
+fn is_validated(best: Option<Route>, origin: Origin, seen: Neighbours) -> bool
+    ensures { result ≡ validated (option_map route_of best) origin seen }
 {
-    let BestMatch::Found(route) = best else {
+    let Some(route) = best else {
         return false;
     };
     if !originates(origin, route) {
@@ -268,7 +254,7 @@ fn judge(family: Family, destination: Prefix, origin: Origin, words: &[u32]) -> 
 {
     let stride = family.words;
     let width = family.width;
-    let mut best = BestMatch::Nothing;
+    let mut best = None;
     let mut seen = Neighbours::Nobody;
     let mut at = 0;
     while stride <= words.len() - at {
@@ -287,34 +273,34 @@ fn judge(family: Family, destination: Prefix, origin: Origin, words: &[u32]) -> 
 pub fn is_feasible(
     family: Family,
     settings: Settings,
-    destination: Destination,
+    destination: Option<Prefix>,
     origin: Origin,
     words: &[u32],
 ) -> bool
     requires { Fits family }
-    ensures { result ≡ feasible family.width settings (destination_in destination) origin (routes_of family words.now) }
+    ensures { result ≡ feasible family.width settings (option_map pattern_of destination) origin (routes_of family words.now) }
 {
-    let Destination::At(prefix) = destination else {
+    let Some(prefix) = destination else {
         return settings.allows_no_destination;
     };
     judge(family, prefix, origin, words)
 }
 
 // The destination that a rule's first component spells, if it is of type 1.
-fn destination_for(family: Family, kind: u8, body: &[u8]) -> Destination
+fn destination_for(family: Family, kind: u8, body: &[u8]) -> Option<Prefix>
     requires { Fits family }
-    ensures { destination_in result ≡ destination_for family (component kind body.now) Missing }
+    ensures { option_map pattern_of result ≡ destination_for family (component kind body.now) None }
 {
     if kind == 1 {
-        return Destination::At(prefix::prefix_of(family.width, family.offsets, body));
+        return Some(prefix::prefix_of(family.width, family.offsets, body));
     }
-    Destination::Missing
+    None
 }
 
 // The destination of a rule's value; types rise strictly, so only its first component can be of type 1.
-pub fn destination_of(family: Family, value: &[u8]) -> Destination
+pub fn destination_of(family: Family, value: &[u8]) -> Option<Prefix>
     requires { Fits family }
-    ensures { destination_in result ≡ destination_of family value.now }
+    ensures { option_map pattern_of result ≡ destination_of family value.now }
 {
     let start = family.head;
     match rule::next_component(family, value, start, 0) {
@@ -322,10 +308,10 @@ pub fn destination_of(family: Family, value: &[u8]) -> Destination
             let body = rule::component_body(family, value, start, 0, next);
             destination_for(family, kind, body)
         }
-        Next::Nothing => Destination::Missing,
+        Next::Nothing => None,
         Next::Refused {
             number: _,
             place: _,
-        } => Destination::Missing,
+        } => None,
     }
 }
