@@ -14,6 +14,7 @@ use Rattle.octets.specs.Bit.{has}
 use Rattle.octets.specs.Number.{number_at}
 use Rattle.octets.proofs.Cases.{neither}
 use Rattle.rate.specs.declared.Rate.{Rate}
+use Rattle.rate.specs.Rate.{note_number}
 use Rattle.action.specs.declared.Actions.{Actions}
 use Rattle.action.specs.declared.Given.{Given}
 use Rattle.action.specs.declared.Kind.{Kind}
@@ -48,12 +49,12 @@ module _ (a : Actions) (c x : ℕ) (k : Kind) (here : x ≡ c) (kind : k ≡ kin
     refuses-packet-rate h = known PacketRate _ h (rw (← read, is))
 
   module _ (b : Actions) where
-    pub takes-byte-rate : (r : Option Rate) (rate : Rate) (l s : Limit) → k ≡ ByteRate → r ≡ rate_in x → r ≡ Some rate → l ≡ limit rate.number rate.note
+    pub takes-byte-rate : (r : Option Rate) (rate : Rate) (l s : Limit) → k ≡ ByteRate → r ≡ rate_in x → r ≡ Some rate → l ≡ limit rate.number (note_number rate.note)
         → s ≡ smaller_of a.bytes l → b ≡ with_byte_rate a s → with_community a c ≡ Some b
     unfolding with_kind with_rate
     takes-byte-rate r rate l s h read is l-is s-is b-is = known ByteRate _ h (rw (← read, is, b-is, s-is, l-is))
 
-    pub takes-packet-rate : (r : Option Rate) (rate : Rate) (l s : Limit) → k ≡ PacketRate → r ≡ rate_in x → r ≡ Some rate → l ≡ limit rate.number rate.note
+    pub takes-packet-rate : (r : Option Rate) (rate : Rate) (l s : Limit) → k ≡ PacketRate → r ≡ rate_in x → r ≡ Some rate → l ≡ limit rate.number (note_number rate.note)
         → s ≡ smaller_of a.packets l → b ≡ with_packet_rate a s → with_community a c ≡ Some b
     unfolding with_kind with_rate
     takes-packet-rate r rate l s h read is l-is s-is b-is = known PacketRate _ h (rw (← read, is, b-is, s-is, l-is))

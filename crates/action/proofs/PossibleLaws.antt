@@ -11,6 +11,7 @@ use Rattle.std.proofs.Common.{Option, Some, None}
 use Rattle.octets.proofs.Cases.{by-test, apart}
 use Rattle.rate.specs.declared.Rate.{Rate}
 use Rattle.rate.proofs.RatesGiven.{complete}
+use Rattle.rate.specs.Rate.{note_number}
 use Rattle.action.specs.declared.Actions.{Actions}
 use Rattle.action.specs.Given.{allowed}
 use Rattle.action.specs.Limit.{limit, could_be_limit}
@@ -49,7 +50,7 @@ could-be a c = rw (c.bytes, c.packets, c.marks, c.redirects)
 rate-smallest : (c : ℕ) (rates : List (Option Rate)) → could_be_limit (smallest rates) ≡ true → (r : Option Rate) → rate_in c ≡ r → could_be_limit (smallest (r ∷ rates)) ≡ true
 unfolding smallest
 rate-smallest c rates p (Some r) h =
-    smaller-could (limit r.number r.note) (smallest rates) (rate-could r.number r.note (complete (c % 2 ^ 32) r h)) p
+    smaller-could (limit r.number (note_number r.note)) (smallest rates) (rate-could r.number (note_number r.note) (complete (c % 2 ^ 32) r h)) p
 rate-smallest c rates p None h = p
 
 -- The smallest of rates read could be.

@@ -9,6 +9,7 @@ use Rattle.std.proofs.Common.{Option, Some, None, option_and_then}
 use Rattle.octets.specs.Test.{one_holds}
 use Rattle.octets.proofs.Cases.{by-test}
 use Rattle.rate.specs.declared.Rate.{Rate}
+use Rattle.rate.specs.Rate.{note_number}
 use Rattle.action.specs.declared.Actions.{Actions}
 use Rattle.action.specs.declared.Given.{Given}
 use Rattle.action.specs.declared.Kind.{Kind}
@@ -83,16 +84,16 @@ module _ (a : Actions) (tidy : Tidy a) (c : ℕ) (cs : List ℕ) (later : (b : A
       → option_and_then (λ b. with_communities b cs) (with_rate (λ l. with_byte_rate a (smaller_of a.bytes l)) r) ≡ answer a (c ∷ cs)
   unfolding with_rate rule_actions of_type smallest one_holds
   byte_step (Some rate) h t =
-      rw (t.bytes, t.packets, t.traffic, t.marking, t.redirect, h, ← (smaller-assoc a.bytes (limit rate.number rate.note) (smallest (rates_of is_byte_rate cs))))
-      (later _ (record { bytes = tidy-smaller a.bytes rate.number rate.note; packets = tidy.packets; marking = tidy.marking; redirect = tidy.redirect }))
+      rw (t.bytes, t.packets, t.traffic, t.marking, t.redirect, h, ← (smaller-assoc a.bytes (limit rate.number (note_number rate.note)) (smallest (rates_of is_byte_rate cs))))
+      (later _ (record { bytes = tidy-smaller a.bytes rate.number (note_number rate.note); packets = tidy.packets; marking = tidy.marking; redirect = tidy.redirect }))
   byte_step None h t = rw (t.bytes, h)
 
   packet-step : (r : Option Rate) → rate_in c ≡ r → Of PacketRate (c / 2 ^ 48)
       → option_and_then (λ b. with_communities b cs) (with_rate (λ l. with_packet_rate a (smaller_of a.packets l)) r) ≡ answer a (c ∷ cs)
   unfolding with_rate rule_actions of_type smallest one_holds
   packet-step (Some rate) h t =
-      rw (t.bytes, t.packets, t.traffic, t.marking, t.redirect, h, ← (smaller-assoc a.packets (limit rate.number rate.note) (smallest (rates_of is_packet_rate cs))))
-      (later _ (record { bytes = tidy.bytes; packets = tidy-smaller a.packets rate.number rate.note; marking = tidy.marking; redirect = tidy.redirect }))
+      rw (t.bytes, t.packets, t.traffic, t.marking, t.redirect, h, ← (smaller-assoc a.packets (limit rate.number (note_number rate.note)) (smallest (rates_of is_packet_rate cs))))
+      (later _ (record { bytes = tidy.bytes; packets = tidy-smaller a.packets rate.number (note_number rate.note); marking = tidy.marking; redirect = tidy.redirect }))
   packet-step None h t = rw (t.packets, h, or-true)
 
   step : (k : Kind) → Of k (c / 2 ^ 48) → option_and_then (λ b. with_communities b cs) (with_kind k a c) ≡ answer a (c ∷ cs)

@@ -12,6 +12,7 @@ use Rattle.std.proofs.Common.{Option, Some, None}
 use Rattle.octets.specs.Test.{Each}
 use Rattle.octets.proofs.Cases.{by-test, apart, both}
 use Rattle.rate.specs.declared.Rate.{Rate}
+use Rattle.rate.specs.Rate.{note_number}
 use Rattle.action.specs.declared.Limit.{Limit}
 use Rattle.action.specs.Limit.{no_limit, limit, smaller_of}
 use Rattle.action.specs.Actions.{is_byte_rate, is_packet_rate, rates_of, smallest, rule_actions}
@@ -109,7 +110,7 @@ module _ (ls : List Limit) (l x : Limit) (s : SmallestOf ls l) where
 pub smallest-first : (rates : List (Option Rate)) → SmallestOf (map limit_given rates) (smallest rates)
 unfolding smallest
 smallest-first [] = inl (tt, refl)
-smallest-first (Some r ∷ rates) = smallest-before (map limit_given rates) (smallest rates) (limit r.number r.note) (smallest-first rates)
+smallest-first (Some r ∷ rates) = smallest-before (map limit_given rates) (smallest rates) (limit r.number (note_number r.note)) (smallest-first rates)
 smallest-first (None ∷ rates) =
     rw (smaller_before (smallest rates)) at (smallest-before (map limit_given rates) (smallest rates) no_limit (smallest-first rates))
 

@@ -120,9 +120,12 @@ said-limit kind type change p h same =
     by-limit (Said change no_limit)
     (λ number note g.
     let s = sound number note g in
-    let below = s.1 in
-    let last : (type * 2 ^ 48 + s.0) % 2 ^ 32 ≡ s.0 = omega arith in
-    inl (adds-kind kind type s.0 (change no_limit) (change (limit number note)) p (omega arith) h (same (type * 2 ^ 48 + s.0) ∙ rw (last, s.2, smaller_before (limit number note)))))
+    let single = s.2 in
+    let below = s.3 in
+    let last : (type * 2 ^ 48 + single) % 2 ^ 32 ≡ single = omega arith in
+    inl
+    (adds-kind kind type single (change no_limit) (change (limit number note)) p (omega arith) h
+    (same (type * 2 ^ 48 + single) ∙ rw (last, s.4, s.1, smaller_before (limit number note)))))
     (inr refl)
 
 said-marking : (a : Actions) (g : Given) → Fine six_bits g → Said (with_marking a) absent g

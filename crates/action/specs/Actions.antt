@@ -6,7 +6,7 @@ use Rattle.octets.specs.Bit.{has, bit_if}
 use Rattle.octets.specs.Number.{number_at}
 use Rattle.octets.specs.Test.{one_holds}
 use Rattle.rate.specs.declared.Rate.{Rate}
-use Rattle.rate.specs.Rate.{rate_of}
+use Rattle.rate.specs.Rate.{note_number, rate_of}
 use Rattle.action.specs.declared.Actions.{Actions}
 use Rattle.action.specs.declared.Given.{Given}
 use Rattle.action.specs.declared.Limit.{Limit}
@@ -62,7 +62,7 @@ marking_in c = c % 2 ^ 6
 -- The smallest of several rates, the first of those that are equal; one that is not a number does not count.
 unfoldable pub smallest : List (Option Rate) → Limit
 smallest [] = no_limit
-smallest (Some rate ∷ rates) = smaller_of (limit rate.number rate.note) (smallest rates)
+smallest (Some rate ∷ rates) = smaller_of (limit rate.number (note_number rate.note)) (smallest rates)
 smallest (None ∷ rates) = smallest rates
 
 -- The first of several numbers.

@@ -2,6 +2,7 @@
 -- names these words; that they come to the actions of Actions is proved.
 use Rattle.std.specs.Prelude.{ℕ, ◌/◌, ◌^◌, Bool, cond, ◌||◌, List, [], ◌∷◌, Option, Some, option_map, option_and_then}
 use Rattle.rate.specs.declared.Rate.{Rate}
+use Rattle.rate.specs.Rate.{note_number}
 use Rattle.action.specs.declared.Actions.{Actions}
 use Rattle.action.specs.declared.Given.{Given}
 use Rattle.action.specs.declared.Kind.{Kind}
@@ -45,7 +46,7 @@ with_redirect a g =
 
 -- A rate that is a number changes the actions, and one that is not makes them unsound.
 unfoldable pub with_rate : (Limit → Actions) → Option Rate → Option Actions
-with_rate change = option_map (λ rate. change (limit rate.number rate.note))
+with_rate change = option_map (λ rate. change (limit rate.number (note_number rate.note)))
 
 -- What a community of a kind adds to the actions told so far.
 unfoldable pub with_kind : Kind → Actions → ℕ → Option Actions

@@ -4,12 +4,13 @@
 use Rattle.std.specs.Prelude.{ℕ, ◌<◌, ◌≤◌, ◌≡◌, true, false, List, ◌∷◌, ◌++◌, ◌⊎◌, Option, Some, None}
 use Rattle.octets.specs.Test.{Each}
 use Rattle.rate.specs.declared.Rate.{Rate}
+use Rattle.rate.specs.Rate.{note_number}
 use Rattle.action.specs.declared.Limit.{Limit}
 use Rattle.action.specs.Limit.{no_limit, limit}
 
 -- The limit that a community's rate gives: its number with its note, and none where it is not a number.
 abbrev pub limit_given : Option Rate → Limit
-limit_given (Some rate) = limit rate.number rate.note
+limit_given (Some rate) = limit rate.number (note_number rate.note)
 limit_given None = no_limit
 
 -- A limit that is missing gives no number.

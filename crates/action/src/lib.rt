@@ -2,6 +2,7 @@
 #![tactic(auto)]
 
 ghost use Rattle.std.specs.Prelude.{◌≡◌};
+ghost use Rattle.rate.specs.Rate.{note_number};
 ghost use Rattle.action.specs.Given.{given, first_of, allowed};
 ghost use Rattle.action.specs.Limit.{limit, smaller_of, could_be_limit};
 ghost use Rattle.action.specs.Actions.{no_actions, is_redirect, rate_in, actions_of};
@@ -60,12 +61,12 @@ fn given_of(number: u64) -> Given
 
 // The limit that is a rate's number, with its note.
 fn limit_of(rate: Rate) -> Limit
-    ensures { result ≡ limit rate.number rate.note }
+    ensures { result ≡ limit rate.number (note_number rate.note) }
 {
     Limit {
         present: true,
         number: rate.number,
-        note: rate.note,
+        note: rate.note as u8,
     }
 }
 

@@ -22,7 +22,6 @@ use Rattle.rule.specs.Reading.{one_rule, value_of}
 use Rattle.spelling.specs.Plain.{plain}
 use Rattle.order.specs.Key.{keys_of, RuleKey, key_order}
 use Rattle.order.proofs.KeyLaws.{key-order}
-use Rattle.rate.specs.Rate.{taken_as_zero}
 use Rattle.action.specs.Actions.{actions_of}
 use Rattle.entry.specs.Entry.{Entry, entry_key}
 use Rattle.table.specs.Sound.{most_octets}
@@ -42,7 +41,7 @@ use Rattle.update.specs.declared.Unreached.TheVariants.{Done as AllWithdrawn}
 use Rattle.update.specs.Apply.{reaching, unreaching}
 use Rattle.history.specs.History.{Made, announced, withdrew, deed_of, empty_table, end_of, last_counted, in_force_after, SamePolicy, Agree, FromEmpty, HoldsExactly, EndAlike}
 use Rattle.history.specs.Attributes.{reach, unreach, single, end_of_events, singles_of, EventsFromEmpty}
-use Rattle.history.specs.Worked.{Scene, seven, dropping, dropping_spelled, drops, marks, entry, other_entry, owned, foreign, respelled, marked, other_dropped, unrouted, worked, other, both_reached, attributes, standing, rerouted}
+use Rattle.history.specs.Worked.{Scene, seven, dropping, dropping_spelled, taken_as_zero, drops, marks, entry, other_entry, owned, foreign, respelled, marked, other_dropped, unrouted, worked, other, both_reached, attributes, standing, rerouted}
 use Rattle.history.proofs.HistoryLaws.{history-holds}
 use Rattle.history.proofs.AgreeLaws.{tie, histories-alike}
 use Rattle.history.proofs.AttributeLaws.{singles-from-empty, lent-events, events-alike}

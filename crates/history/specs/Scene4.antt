@@ -1,9 +1,8 @@
 -- A scene of IPv4 (Worked.antt), in a buffer of 104 octets: mail and ping to one network.
 use Rattle.std.specs.Prelude.{ℕ, false, List, [], ◌∷◌, ◌++◌, replicate}
 use Rattle.rule.specs.Family.{ipv4}
-use Rattle.rate.specs.Rate.{taken_as_zero}
 use Rattle.request.specs.Input.{settings_of, policy_of}
-use Rattle.history.specs.Worked.{Scene, head_for}
+use Rattle.history.specs.Worked.{Scene, taken_as_zero, head_for}
 
 -- Mail: destination 192.0.2.0/25, protocol 6, port 25.
 abbrev pub mail_value : List ℕ

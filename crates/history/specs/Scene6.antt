@@ -3,9 +3,8 @@
 -- offset, which is infeasible whatever the setting.
 use Rattle.std.specs.Prelude.{ℕ, true, false, List, [], ◌∷◌, ◌++◌, replicate}
 use Rattle.rule.specs.Family.{ipv6}
-use Rattle.rate.specs.Rate.{taken_as_zero}
 use Rattle.request.specs.Input.{Announcement, Policy, settings_of, announcement_of, policy_of}
-use Rattle.history.specs.Worked.{Scene, seven, dropping, head_for}
+use Rattle.history.specs.Worked.{Scene, seven, dropping, taken_as_zero, head_for}
 
 -- The words of the route 2001:db8::/32 to originator 7, over neighbour AS 64500.
 abbrev pub route_six : List ℕ

@@ -5,7 +5,8 @@
 use Rattle.std.specs.Prelude.{ℕ, false, List, [], ◌∷◌, ◌++◌, replicate}
 use Rattle.rule.specs.declared.Family.{Family}
 use Rattle.route.specs.declared.Origin.{Origin}
-use Rattle.rate.specs.Rate.{taken_as_zero}
+use Rattle.rate.specs.declared.Note.TheVariants.{TakenAsZero}
+use Rattle.rate.specs.Rate.{note_number}
 use Rattle.action.specs.declared.Actions.{Actions}
 use Rattle.action.specs.Given.{given}
 use Rattle.action.specs.Limit.{limit}
@@ -69,6 +70,10 @@ marking = 0x80 ∷ 0x09 ∷ 0 ∷ 0 ∷ 0 ∷ 0 ∷ 0 ∷ 10 ∷ []
 -- The same byte rate behind a route target, which is skipped.
 abbrev pub dropping_spelled : List ℕ
 dropping_spelled = 0x00 ∷ 0x02 ∷ 0xfd ∷ 0xe8 ∷ 0 ∷ 0 ∷ 0 ∷ 1 ∷ dropping
+
+-- Its note.
+abbrev pub taken_as_zero : ℕ
+taken_as_zero = note_number TakenAsZero
 
 -- The byte rate as read.
 abbrev pub drops : Actions

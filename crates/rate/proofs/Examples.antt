@@ -5,7 +5,8 @@ use mathlib.Core.Path.{◌≡◌, refl}
 use mathlib.Core.Bool.{cond}
 use mathlib.Core.List.{List, [], ◌∷◌, map}
 use Rattle.std.proofs.Common.{Some, None}
-use Rattle.rate.specs.Rate.{noted, exact, rounded_down, raised, capped, taken_as_zero, scaled, value_rate, rate_of_parts, rate_of, fits_significand, is_single, rate_given}
+use Rattle.rate.specs.declared.Note.TheVariants.{Exact, RoundedDown, Raised, Capped, TakenAsZero}
+use Rattle.rate.specs.Rate.{noted, scaled, value_rate, rate_of_parts, rate_of, fits_significand, is_single, rate_given}
 
 -- Both zeros; the least and the greatest of each sign; the single below 1, 1 and 1.5; 2^23 - 0.5 and 2^23; 2^63 between its neighbours; the
 -- infinities; and not-a-number of both signs.
@@ -17,12 +18,12 @@ pub singles : map rate_of
     ∷ 0x5eff_ffff ∷ 0x5f00_0000 ∷ 0x5f00_0001
     ∷ 0x7f80_0000 ∷ 0xff80_0000
     ∷ 0x7f80_0001 ∷ 0x7fff_ffff ∷ 0xff80_0001 ∷ 0xffff_ffff ∷ [])
-    ≡ Some (noted 0 exact) ∷ Some (noted 0 exact)
-    ∷ Some (noted 1 raised) ∷ Some (noted (2 ^ 63) capped) ∷ Some (noted 0 taken_as_zero) ∷ Some (noted 0 taken_as_zero)
-    ∷ Some (noted 1 raised) ∷ Some (noted 1 exact) ∷ Some (noted 1 rounded_down)
-    ∷ Some (noted (2 ^ 23 - 1) rounded_down) ∷ Some (noted (2 ^ 23) exact)
-    ∷ Some (noted (2 ^ 63 - 2 ^ 39) exact) ∷ Some (noted (2 ^ 63) exact) ∷ Some (noted (2 ^ 63) capped)
-    ∷ Some (noted (2 ^ 63) capped) ∷ Some (noted 0 taken_as_zero)
+    ≡ Some (noted 0 Exact) ∷ Some (noted 0 Exact)
+    ∷ Some (noted 1 Raised) ∷ Some (noted (2 ^ 63) Capped) ∷ Some (noted 0 TakenAsZero) ∷ Some (noted 0 TakenAsZero)
+    ∷ Some (noted 1 Raised) ∷ Some (noted 1 Exact) ∷ Some (noted 1 RoundedDown)
+    ∷ Some (noted (2 ^ 23 - 1) RoundedDown) ∷ Some (noted (2 ^ 23) Exact)
+    ∷ Some (noted (2 ^ 63 - 2 ^ 39) Exact) ∷ Some (noted (2 ^ 63) Exact) ∷ Some (noted (2 ^ 63) Capped)
+    ∷ Some (noted (2 ^ 63) Capped) ∷ Some (noted 0 TakenAsZero)
     ∷ None ∷ None ∷ None ∷ None ∷ []
 unfolding rate_of rate_of_parts value_rate scaled
 singles = refl

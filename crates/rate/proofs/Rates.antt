@@ -12,15 +12,16 @@ use lib.Arith.{mod-mul}
 use lib.Bits.{bit_and, and_mask}
 use lib.Pow.{pow-add, pow_mono, pow_pos, shl_lt, shl_exact, split}
 use Rattle.std.proofs.Common.{Some, None}
+use Rattle.rate.specs.declared.Note.TheVariants.{Exact, RoundedDown, Raised, Capped, TakenAsZero}
 use Rattle.rate.specs.declared.Rate.{Rate}
-use Rattle.rate.specs.Rate.{noted, exact, rounded_down, raised, capped, taken_as_zero, scaled, whole_part, value_rate, rate_of, rate_of_parts}
+use Rattle.rate.specs.Rate.{noted, scaled, whole_part, value_rate, rate_of, rate_of_parts}
 
 -- The whole part over any unit.
 abbrev pub whole_over : ℕ → ℕ → Rate
-whole_over unit value = noted (value / unit) (cond (eqb (value % unit) 0) exact rounded_down)
+whole_over unit value = noted (value / unit) (cond (eqb (value % unit) 0) Exact RoundedDown)
 
 -- A multiple of the unit is exact.
-pub multiple : (unit n : ℕ) → 0 < unit → whole_over unit (n * unit) ≡ noted n exact
+pub multiple : (unit n : ℕ) → 0 < unit → whole_over unit (n * unit) ≡ noted n Exact
 multiple unit n p = rw (mul-div_cancel n p, mul-mod_left n unit)
 
 zero-times : (n k : ℕ) → 0 < k → eqb (n * k) 0 ≡ eqb n 0
@@ -45,18 +46,18 @@ both-times unit value k p q =
 -- What a value gives over any unit and any limit.
 abbrev limited : Bool → ℕ → ℕ → ℕ → Rate
 limited negative unit limit value =
-    cond (eqb value 0) (noted 0 exact)
-    (cond negative (noted 0 taken_as_zero)
-    (cond (ltb value unit) (noted 1 raised) (cond (ltb (limit * unit) value) (noted limit capped) (whole_over unit value))))
+    cond (eqb value 0) (noted 0 Exact)
+    (cond negative (noted 0 TakenAsZero)
+    (cond (ltb value unit) (noted 1 Raised) (cond (ltb (limit * unit) value) (noted limit Capped) (whole_over unit value))))
 
 module _ (unit limit value : ℕ) (p : 0 < value) where
-  below-zero : noted 0 taken_as_zero ≡ limited true unit limit value
+  below-zero : noted 0 TakenAsZero ≡ limited true unit limit value
   below-zero = rw (ne_eqb value 0 (λ e. omega arith))
 
-  below-unit : value < unit → noted 1 raised ≡ limited false unit limit value
+  below-unit : value < unit → noted 1 Raised ≡ limited false unit limit value
   below-unit q = rw (ne_eqb value 0 (λ e. omega arith), lt-ltb value unit q)
 
-  past-limit : unit ≤ value → limit * unit < value → noted limit capped ≡ limited false unit limit value
+  past-limit : unit ≤ value → limit * unit < value → noted limit Capped ≡ limited false unit limit value
   past-limit q r = rw (ne_eqb value 0 (λ e. omega arith), le-ltb value unit q, lt-ltb (limit * unit) value r)
 
   within : unit ≤ value → value ≤ limit * unit → whole_over unit value ≡ limited false unit limit value
@@ -113,30 +114,30 @@ above-limit e f h p =
 
 module _ (negative : Bool) (e f : ℕ) (r : Rate) where
   -- Zero of either sign.
-  pub rate-zero : r ≡ noted 0 exact → eqb e 0 && eqb f 0 ≡ true → r ≡ value_rate negative (scaled e f)
+  pub rate-zero : r ≡ noted 0 Exact → eqb e 0 && eqb f 0 ≡ true → r ≡ value_rate negative (scaled e f)
   unfolding value_rate scaled
   rate-zero said h = let both = (and-eq-true_iff (eqb e 0) (eqb f 0)).0 h in said ∙ rw (both.0, both.1)
 
   -- Below zero.
-  pub rate-negative : r ≡ noted 0 taken_as_zero → eqb e 0 && eqb f 0 ≡ false → negative ≡ true → r ≡ value_rate negative (scaled e f)
+  pub rate-negative : r ≡ noted 0 TakenAsZero → eqb e 0 && eqb f 0 ≡ false → negative ≡ true → r ≡ value_rate negative (scaled e f)
   unfolding value_rate
   rate-negative said h n = said ∙ rw n (below-zero (2 ^ 149) (2 ^ 63) (scaled e f) (positive e f h))
 
   -- Positive and below 1.
-  pub rate-below-one : r ≡ noted 1 raised → eqb e 0 && eqb f 0 ≡ false → negative ≡ false → f < 2 ^ 23 → e < 127
+  pub rate-below-one : r ≡ noted 1 Raised → eqb e 0 && eqb f 0 ≡ false → negative ≡ false → f < 2 ^ 23 → e < 127
       → r ≡ value_rate negative (scaled e f)
   unfolding value_rate
   rate-below-one said h n b k = said ∙ rw n (below-unit (2 ^ 149) (2 ^ 63) (scaled e f) (positive e f h) (below_one e f b k))
 
   -- 2^63 itself.
-  pub rate-limit : r ≡ noted (2 ^ 63) exact → negative ≡ false → eqb e 190 && eqb f 0 ≡ true → r ≡ value_rate negative (scaled e f)
+  pub rate-limit : r ≡ noted (2 ^ 63) Exact → negative ≡ false → eqb e 190 && eqb f 0 ≡ true → r ≡ value_rate negative (scaled e f)
   unfolding value_rate scaled
   rate-limit said n h =
       let both = (and-eq-true_iff (eqb e 190) (eqb f 0)).0 h in
       said ∙ rw (n, eqb-true e 190 both.0, eqb-true f 0 both.1) refl
 
   -- Above 2^63.
-  pub rate-past-limit : r ≡ noted (2 ^ 63) capped → negative ≡ false → eqb e 190 && eqb f 0 ≡ false → 190 ≤ e
+  pub rate-past-limit : r ≡ noted (2 ^ 63) Capped → negative ≡ false → eqb e 190 && eqb f 0 ≡ false → 190 ≤ e
       → r ≡ value_rate negative (scaled e f)
   unfolding value_rate
   rate-past-limit said n h p =
@@ -156,7 +157,7 @@ exponents : (e k : ℕ) → 150 ≤ e → k ≡ e - 150 → e - 1 ≡ k + 149
 exponents e k p h = omega arith
 
 -- From 2^23 on a single has nothing behind the point.
-pub whole-up : (e f : ℕ) → 150 ≤ e → whole_part (scaled e f) ≡ noted ((2 ^ 23 + f) * 2 ^ (e - 150)) exact
+pub whole-up : (e f : ℕ) → 150 ≤ e → whole_part (scaled e f) ≡ noted ((2 ^ 23 + f) * 2 ^ (e - 150)) Exact
 whole-up e f p =
     let k = e - 150 in
     let parts : (2 ^ 23 + f) * 2 ^ (e - 1) ≡ (2 ^ 23 + f) * 2 ^ k * 2 ^ 149
@@ -179,18 +180,18 @@ shifted_back d k b =
     rw (mod-eq_of_lt {n = d / 2 ^ k * 2 ^ k} {m = 2 ^ 64} (omega arith)) whole
 
 module _ (e f : ℕ) (r : Rate) (b : f < 2 ^ 23) where
-  pub rate-up : r ≡ noted ((2 ^ 23 + f) * 2 ^ (e - 150) % 2 ^ 64) exact → 150 ≤ e → e < 190 → r ≡ whole_part (scaled e f)
+  pub rate-up : r ≡ noted ((2 ^ 23 + f) * 2 ^ (e - 150) % 2 ^ 64) Exact → 150 ≤ e → e < 190 → r ≡ whole_part (scaled e f)
   rate-up said p q = said ∙ rw (shl_exact {a = 2 ^ 23 + f} 24 (e - 150) 64 (omega arith) (omega arith), whole-up e f p)
 
   -- Nothing stands behind the point.
-  pub rate-exact : r ≡ noted ((2 ^ 23 + f) / 2 ^ (150 - e)) exact → 127 ≤ e → e < 150
+  pub rate-exact : r ≡ noted ((2 ^ 23 + f) / 2 ^ (150 - e)) Exact → 127 ≤ e → e < 150
       → (2 ^ 23 + f) / 2 ^ (150 - e) * 2 ^ (150 - e) % 2 ^ 64 ≡ 2 ^ 23 + f → r ≡ whole_part (scaled e f)
   rate-exact said p q h =
       let parts = shifted_back (2 ^ 23 + f) (150 - e) (omega arith) in
       said ∙ rw (whole-down e f p q, eq-eqb ((2 ^ 23 + f) % 2 ^ (150 - e)) 0 (omega arith))
 
   -- Something stands behind it.
-  pub rate-rounded : r ≡ noted ((2 ^ 23 + f) / 2 ^ (150 - e)) rounded_down → 127 ≤ e → e < 150
+  pub rate-rounded : r ≡ noted ((2 ^ 23 + f) / 2 ^ (150 - e)) RoundedDown → 127 ≤ e → e < 150
       → ((2 ^ 23 + f) / 2 ^ (150 - e) * 2 ^ (150 - e) % 2 ^ 64 ≡ 2 ^ 23 + f → ⊥) → r ≡ whole_part (scaled e f)
   rate-rounded said p q h =
       let parts = shifted_back (2 ^ 23 + f) (150 - e) (omega arith) in

@@ -11,8 +11,10 @@ use lib.Dec.{leb, ltb, eqb, lit<, lit≤}
 use lib.Pow.{shl_lt, shr_lt, pow_mono, pow_pos, high, low}
 use Rattle.octets.proofs.Cases.{by-test, both}
 use Rattle.std.proofs.Common.{Option, Some, None}
+use Rattle.rate.specs.declared.Note.{Note}
+use Rattle.rate.specs.declared.Note.TheVariants.{Exact, RoundedDown, Raised, Capped, TakenAsZero}
 use Rattle.rate.specs.declared.Rate.{Rate}
-use Rattle.rate.specs.Rate.{noted, exact, rounded_down, raised, capped, taken_as_zero, scaled, whole_part, value_rate, is_not_a_number, rate_of_parts, rate_of, fits_significand, is_single, rate_given}
+use Rattle.rate.specs.Rate.{note_number, noted, scaled, whole_part, value_rate, is_not_a_number, rate_of_parts, rate_of, fits_significand, is_single, rate_given}
 use Rattle.rate.proofs.Rates.{whole_over, multiple, both-times, rate-zero, rate-negative, rate-below-one, rate-limit, rate-past-limit, rate-whole, whole-up, whole-down}
 
 -- Above 2^63 nothing is a single, and up to it the halvings decide.
@@ -86,23 +88,23 @@ single-limit = sym (within-limit (2 ^ 63) (lit≤ tt)) ∙ fits-times 40 40 (2 ^
 
 -- What passes, note by note.
 module _ (n note : ℕ) where
-  pub given-exact : note ≡ exact → is_single n ≡ rate_given n note
+  pub given-exact : note ≡ note_number Exact → is_single n ≡ rate_given n note
   unfolding rate_given
   given-exact e = rw e
 
-  pub given-rounded : note ≡ rounded_down → leb 1 n && ltb n (2 ^ 23) ≡ rate_given n note
+  pub given-rounded : note ≡ note_number RoundedDown → leb 1 n && ltb n (2 ^ 23) ≡ rate_given n note
   unfolding rate_given
   given-rounded e = rw e
 
-  pub given-raised : note ≡ raised → eqb n 1 ≡ rate_given n note
+  pub given-raised : note ≡ note_number Raised → eqb n 1 ≡ rate_given n note
   unfolding rate_given
   given-raised e = rw e
 
-  pub given-capped : note ≡ capped → eqb n (2 ^ 63) ≡ rate_given n note
+  pub given-capped : note ≡ note_number Capped → eqb n (2 ^ 63) ≡ rate_given n note
   unfolding rate_given
   given-capped e = rw e
 
-  pub given-zero : note ≡ taken_as_zero → eqb n 0 ≡ rate_given n note
+  pub given-zero : note ≡ note_number TakenAsZero → eqb n 0 ≡ rate_given n note
   unfolding rate_given
   given-zero e = rw e
 
@@ -119,18 +121,18 @@ module _ (n note : ℕ) where
 
 -- Does a rate pass?
 abbrev passes : Rate → Bool
-passes r = rate_given r.number r.note
+passes r = rate_given r.number (note_number r.note)
 
 -- Does what a single gives pass? One that is not a number gives no rate.
 abbrev given-passes : Option Rate → Bool
 given-passes (Some r) = passes r
 given-passes None = true
 
-passes-exact : (n : ℕ) → is_single n ≡ true → passes (noted n exact) ≡ true
-passes-exact n h = sym (given-exact n exact refl) ∙ h
+passes-exact : (n : ℕ) → is_single n ≡ true → passes (noted n Exact) ≡ true
+passes-exact n h = sym (given-exact n (note_number Exact) refl) ∙ h
 
-passes-rounded : (n : ℕ) → 1 ≤ n → n < 2 ^ 23 → passes (noted n rounded_down) ≡ true
-passes-rounded n p q = sym (given-rounded n rounded_down refl) ∙ rw (le-leb 1 n p, lt-ltb n (2 ^ 23) q)
+passes-rounded : (n : ℕ) → 1 ≤ n → n < 2 ^ 23 → passes (noted n RoundedDown) ≡ true
+passes-rounded n p q = sym (given-rounded n (note_number RoundedDown) refl) ∙ rw (le-leb 1 n p, lt-ltb n (2 ^ 23) q)
 
 -- The whole part of a single passes.
 whole-passes : (e f : ℕ) → f < 2 ^ 23 → 127 ≤ e → e < 190 → passes (whole_part (scaled e f)) ≡ true
@@ -163,19 +165,19 @@ value_passes negative e f b =
     above : eqb e 0 && eqb f 0 ≡ false → passes (value_rate false (scaled e f)) ≡ true
     above z =
         elim (dec_lt e 127) [
-          | yes h ↦ rw (← (rate-below-one false e f _ refl z refl b h)) (sym (given-raised 1 raised refl))
+          | yes h ↦ rw (← (rate-below-one false e f _ refl z refl b h)) (sym (given-raised 1 (note_number Raised) refl))
           | no l ↦
               elim (dec_lt e 190) [
                 | yes h ↦ rw (← (rate-whole false e f _ refl refl b (omega arith) h)) (whole-passes e f b (omega arith) h)
                 | no h ↦
                     by-test (eqb e 190 && eqb f 0)
                     (λ t. rw (← (rate-limit false e f _ refl refl t)) (passes-exact (2 ^ 63) single-limit))
-                    (λ t. rw (← (rate-past-limit false e f _ refl refl t (omega arith))) (sym (given-capped (2 ^ 63) capped refl)))
+                    (λ t. rw (← (rate-past-limit false e f _ refl refl t (omega arith))) (sym (given-capped (2 ^ 63) (note_number Capped) refl)))
               ]
         ]
 
     signed : (n : Bool) → eqb e 0 && eqb f 0 ≡ false → passes (value_rate n (scaled e f)) ≡ true
-    signed true z = rw (← (rate-negative true e f _ refl z refl)) (sym (given-zero 0 taken_as_zero refl))
+    signed true z = rw (← (rate-negative true e f _ refl z refl)) (sym (given-zero 0 (note_number TakenAsZero) refl))
     signed false z = above z
 
 rate-passes : (single : ℕ) → given-passes (rate_of single) ≡ true
@@ -188,7 +190,7 @@ rate-passes single =
     (λ h. rw h (value_passes (not (eqb (single / 2 ^ 31) 0)) e f (mod-lt single (lit< tt))))
 
 -- Every rate read passes.
-pub complete : (single : ℕ) (r : Rate) → rate_of single ≡ Some r → rate_given r.number r.note ≡ true
+pub complete : (single : ℕ) (r : Rate) → rate_of single ≡ Some r → rate_given r.number (note_number r.note) ≡ true
 complete single r h = ap given-passes (sym h) ∙ rate-passes single
 
 -- A single with no sign, by its exponent and fraction.
@@ -279,25 +281,25 @@ parts-down d k p q least fits =
     }
 
 -- A number below 2^23.
-parts-small : (n : ℕ) → 0 < n → n < 2 ^ 23 → Parts (noted n exact)
+parts-small : (n : ℕ) → 0 < n → n < 2 ^ 23 → Parts (noted n Exact)
 parts-small n p h =
     let d = scaled-up 23 n (omega arith) (omega arith) in
     let k = d.power in
     rw (← (multiple (2 ^ k) n (pow_pos k))) (parts-down (n * 2 ^ k) k (power-positive n k h d.least) d.most d.least d.fits)
 
 -- A number below 2^23 and a half.
-parts-half : (n : ℕ) → 1 ≤ n → n < 2 ^ 23 → Parts (noted n rounded_down)
+parts-half : (n : ℕ) → 1 ≤ n → n < 2 ^ 23 → Parts (noted n RoundedDown)
 parts-half n p h =
     let m = 2 * n + 1 in
     let d = scaled-up 22 m (omega arith) (omega arith) in
     let k = d.power in
-    let half : whole_over 2 m ≡ noted n rounded_down
-    = rw (ne_eqb (m % 2) 0 (λ z. omega arith)) (ap (λ w. noted w rounded_down) (omega arith)) in
+    let half : whole_over 2 m ≡ noted n RoundedDown
+    = rw (ne_eqb (m % 2) 0 (λ z. omega arith)) (ap (λ w. noted w RoundedDown) (omega arith)) in
     rw (← half, ← (both-times 2 m (2 ^ k) (lit< tt) (pow_pos k)), ← (pow-succ' 2 k))
     (parts-down (m * 2 ^ k) (suc k) (omega arith) (omega arith) d.least d.fits)
 
 -- A number from 2^23 on.
-parts-large : (n : ℕ) → 2 ^ 23 ≤ n → is_single n ≡ true → Parts (noted n exact)
+parts-large : (n : ℕ) → 2 ^ 23 ≤ n → is_single n ≡ true → Parts (noted n Exact)
 unfolding is_single
 parts-large n p h =
     let tests = both (leb n (2 ^ 63)) (fits_significand 40 n) h in
@@ -315,7 +317,7 @@ parts-large n p h =
             gives =
                 sym (rate-whole false (150 + d.power) f _ refl refl (omega arith) (omega arith) (omega arith))
                 ∙ whole-up (150 + d.power) f (omega arith)
-                ∙ ap (λ w. noted w exact) (rw (add-sub_cancel_left 150 d.power, digits) (sym d.whole));
+                ∙ ap (λ w. noted w Exact) (rw (add-sub_cancel_left 150 d.power, digits) (sym d.whole));
           }
       | no q ↦
           let top : d.power ≡ 40 = omega arith in
@@ -326,11 +328,11 @@ parts-large n p h =
             fraction = 0;
             below = lit< tt;
             fits = lit< tt;
-            gives = sym (rate-limit false 190 0 (noted (2 ^ 63) exact) refl refl refl) ∙ ap (λ w. noted w exact) most;
+            gives = sym (rate-limit false 190 0 (noted (2 ^ 63) Exact) refl refl refl) ∙ ap (λ w. noted w Exact) most;
           }
     ]
 
-parts-exact : (n : ℕ) → is_single n ≡ true → Parts (noted n exact)
+parts-exact : (n : ℕ) → is_single n ≡ true → Parts (noted n Exact)
 parts-exact n h =
     elim (dec_lt n (2 ^ 23)) [
       | yes small ↦
@@ -342,7 +344,7 @@ parts-exact n h =
                   fraction = 0;
                   below = lit< tt;
                   fits = lit< tt;
-                  gives = sym (rate-zero false 0 0 (noted 0 exact) refl refl) ∙ ap (λ w. noted w exact) (omega arith);
+                  gives = sym (rate-zero false 0 0 (noted 0 Exact) refl refl) ∙ ap (λ w. noted w Exact) (omega arith);
                 }
           ]
       | no large ↦ parts-large n (omega arith) h
@@ -350,11 +352,11 @@ parts-exact n h =
 
 -- What each note says of its number.
 data Given : ℕ → ℕ → Type 0 where
-  is-exact : (n : ℕ) → is_single n ≡ true → Given n exact
-  is-rounded : (n : ℕ) → 1 ≤ n → n < 2 ^ 23 → Given n rounded_down
-  is-raised : Given 1 raised
-  is-capped : Given (2 ^ 63) capped
-  is_zero : Given 0 taken_as_zero
+  is-exact : (n : ℕ) → is_single n ≡ true → Given n (note_number Exact)
+  is-rounded : (n : ℕ) → 1 ≤ n → n < 2 ^ 23 → Given n (note_number RoundedDown)
+  is-raised : Given 1 (note_number Raised)
+  is-capped : Given (2 ^ 63) (note_number Capped)
+  is_zero : Given 0 (note_number TakenAsZero)
 
 by-note : (n note : ℕ) → rate_given n note ≡ true → Given n note
 by-note n note h =
@@ -381,22 +383,27 @@ by-note n note h =
           ]
     ]
 
--- Every pair that passes is read from some single.
+-- A rate is read from some single.
 abbrev Read : Rate → Type 0
 Read r = (single : ℕ) × (single < 2 ^ 32) × (rate_of single ≡ Some r)
 
 read-parts : {r : Rate} → Parts r → Read r
 read-parts p = (p.exponent * 2 ^ 23 + p.fraction, omega arith, joined p.exponent p.fraction p.below p.fits ∙ ap Some p.gives)
 
-read-given : {n note : ℕ} → Given n note → Read (noted n note)
-unfolding rate_of rate_of_parts value_rate scaled
-read-given (is-exact n h) = read-parts (parts-exact n h)
-read-given (is-rounded n p q) = read-parts (parts-half n p q)
-read-given is-raised = (1, lit< tt, refl)
-read-given is-capped = (0x7f80_0000, lit< tt, refl)
-read-given is_zero = (0xbf80_0000, lit< tt, refl)
+-- A pair of a number and a note's number that is read from some single.
+abbrev pub ReadAs : ℕ → ℕ → Type 0
+ReadAs number note = (m : Note) × (note_number m ≡ note) × (single : ℕ) × (single < 2 ^ 32) × (rate_of single ≡ Some (noted number m))
 
-pub sound : (number note : ℕ) → rate_given number note ≡ true → (single : ℕ) × (single < 2 ^ 32) × (rate_of single ≡ Some (noted number note))
+read-given : {n note : ℕ} → Given n note → ReadAs n note
+unfolding rate_of rate_of_parts value_rate scaled
+read-given (is-exact n h) = let r = read-parts (parts-exact n h) in (Exact, refl, r.0, r.1, r.2)
+read-given (is-rounded n p q) = let r = read-parts (parts-half n p q) in (RoundedDown, refl, r.0, r.1, r.2)
+read-given is-raised = (Raised, refl, 1, lit< tt, refl)
+read-given is-capped = (Capped, refl, 0x7f80_0000, lit< tt, refl)
+read-given is_zero = (TakenAsZero, refl, 0xbf80_0000, lit< tt, refl)
+
+-- Every pair that passes is read from some single.
+pub sound : (number note : ℕ) → rate_given number note ≡ true → ReadAs number note
 sound number note h = read-given (by-note number note h)
 
 -- What passes is at most 2^63, with a note of at most 4.

@@ -2,30 +2,22 @@
 -- is an IEEE 754 single: one bit of sign, eight of exponent and 23 of fraction. Without its sign a finite value times 2^149 is a natural
 -- number, since 2^-149 is the smallest positive single.
 use Rattle.std.specs.Prelude.{ℕ, zero, suc, ◌+◌, ◌*◌, ◌-◌, ◌/◌, ◌%◌, ◌^◌, Bool, false, cond, not, ◌&&◌, ◌||◌, leb, ltb, eqb, Option, Some, None}
+use Rattle.rate.specs.declared.Note.{Note}
+use Rattle.rate.specs.declared.Note.TheVariants.{Exact, RoundedDown, Raised, Capped, TakenAsZero}
 use Rattle.rate.specs.declared.Rate.{Rate}
 
--- The notes. 2026-05: "0 exact or absent, 1 to 4 the rest as listed". First: the number is the rate's value.
-abbrev pub exact : ℕ
-exact = 0
-
--- What stands behind the point was cut off.
-abbrev pub rounded_down : ℕ
-rounded_down = 1
-
--- A positive rate below 1 was raised to 1.
-abbrev pub raised : ℕ
-raised = 2
-
--- A rate above 2^63 was capped.
-abbrev pub capped : ℕ
-capped = 3
-
--- A negative rate was taken as zero. RFC 8955 section 7.1: "On decoding, negative values MUST be treated as zero (discard all traffic)."
-abbrev pub taken_as_zero : ℕ
-taken_as_zero = 4
+-- The number of a note. 2026-05: "0 exact or absent, 1 to 4 the rest as listed". Exact: the number is the rate's value; rounded down: what
+-- stands behind the point was cut off; raised: a positive rate below 1 was raised to 1; capped: a rate above 2^63 was capped; taken as
+-- zero: RFC 8955 section 7.1, "On decoding, negative values MUST be treated as zero (discard all traffic)."
+abbrev pub note_number : Note → ℕ
+note_number Exact = 0
+note_number RoundedDown = 1
+note_number Raised = 2
+note_number Capped = 3
+note_number TakenAsZero = 4
 
 -- A number with its note.
-abbrev pub noted : ℕ → ℕ → Rate
+abbrev pub noted : ℕ → Note → Rate
 noted number note = record { number = number; note = note }
 
 -- The value of a single without its sign, times 2^149 (IEEE 754-1985 section 3.2.1). Infinity, exponent 255 with no fraction, comes out
@@ -35,17 +27,17 @@ scaled exponent fraction = cond (eqb exponent 0) fraction ((2 ^ 23 + fraction) *
 
 -- The whole part of a value, which is given times 2^149: exact where nothing is left.
 abbrev pub whole_part : ℕ → Rate
-whole_part value = noted (value / 2 ^ 149) (cond (eqb (value % 2 ^ 149) 0) exact rounded_down)
+whole_part value = noted (value / 2 ^ 149) (cond (eqb (value % 2 ^ 149) 0) Exact RoundedDown)
 
 -- What a value gives, by whether its sign is set, and without that sign times 2^149. 01: "Negative, either zero, and minus infinity give 0
 -- (drop). A positive rate below 1 gives 1. Otherwise the whole part, at most 2^63; plus infinity gives 2^63." 2026-05: "minus zero is exact,
 -- negative numbers are "taken as zero"". 2^63 itself is exact.
 unfoldable pub value_rate : Bool → ℕ → Rate
 value_rate negative value =
-    cond (eqb value 0) (noted 0 exact)
-    (cond negative (noted 0 taken_as_zero)
-    (cond (ltb value (2 ^ 149)) (noted 1 raised)
-    (cond (ltb (2 ^ 63 * 2 ^ 149) value) (noted (2 ^ 63) capped) (whole_part value))))
+    cond (eqb value 0) (noted 0 Exact)
+    (cond negative (noted 0 TakenAsZero)
+    (cond (ltb value (2 ^ 149)) (noted 1 Raised)
+    (cond (ltb (2 ^ 63 * 2 ^ 149) value) (noted (2 ^ 63) Capped) (whole_part value))))
 
 -- Exponent 255 with a fraction is not a number, whatever the sign (IEEE 754-1985 section 3.2.1).
 abbrev pub is_not_a_number : ℕ → ℕ → Bool
@@ -74,8 +66,8 @@ is_single n = leb n (2 ^ 63) && fits_significand 40 n
 -- from 2^23 on a single has nothing behind the point, raised with 1, capped with 2^63, taken as zero with 0.
 unfoldable pub rate_given : ℕ → ℕ → Bool
 rate_given number note =
-    cond (eqb note exact) (is_single number)
-    (cond (eqb note rounded_down) (leb 1 number && ltb number (2 ^ 23))
-    (cond (eqb note raised) (eqb number 1)
-    (cond (eqb note capped) (eqb number (2 ^ 63))
-    (cond (eqb note taken_as_zero) (eqb number 0) false))))
+    cond (eqb note (note_number Exact)) (is_single number)
+    (cond (eqb note (note_number RoundedDown)) (leb 1 number && ltb number (2 ^ 23))
+    (cond (eqb note (note_number Raised)) (eqb number 1)
+    (cond (eqb note (note_number Capped)) (eqb number (2 ^ 63))
+    (cond (eqb note (note_number TakenAsZero)) (eqb number 0) false))))

@@ -2,36 +2,46 @@
 // which such pairs some rate gives.
 #![tactic(auto)]
 
-ghost use Rattle.std.specs.Prelude.{◌≡◌, ◌<◌, ◌≤◌, ◌^◌};
-ghost use Rattle.rate.specs.Rate.{noted, scaled, whole_part, value_rate, rate_of, is_single, rate_given};
-
-// The number is the rate's value.
-const EXACT: u8 = 0;
-
-// What stands behind the point was cut off.
-const ROUNDED_DOWN: u8 = 1;
-
-// A positive rate below 1 was raised to 1.
-const RAISED: u8 = 2;
-
-// A rate above 2^63 was capped.
-const CAPPED: u8 = 3;
-
-// A negative rate was taken as zero.
-const TAKEN_AS_ZERO: u8 = 4;
+ghost use Rattle.std.specs.Prelude.{◌≡◌, ◌<◌, ◌≤◌, ◌^◌, MatchOption};
+ghost use Rattle.rate.specs.Rate.{note_number, noted, scaled, whole_part, value_rate, rate_of, is_single, rate_given};
 
 // The highest number of a rate, 2^63.
 const MOST: u64 = 0x8000_0000_0000_0000;
 
-// What a rate that is a number gives: a number, and the note of what was done to come to it.
+// What was done to a rate's value to come to its number: nothing; what stands behind the point was cut off; a positive rate below 1 was
+// raised to 1; a rate above 2^63 was capped; a negative rate was taken as zero.
+#[derive(Clone, Copy)]
+pub enum Note {
+    Exact = 0,
+    RoundedDown = 1,
+    Raised = 2,
+    Capped = 3,
+    TakenAsZero = 4,
+}
+
+// What a rate that is a number gives: a number with its note.
 #[derive(Clone, Copy)]
 pub struct Rate {
     pub number: u64,
-    pub note: u8,
+    pub note: Note,
+}
+
+// The note that a number stands for, if it stands for one.
+fn note_of(number: u8) -> Option<Note>
+    ensures { MatchOption result (4 < number) (λ note. note_number note ≡ number) }
+{
+    match number {
+        0 => Some(Note::Exact),
+        1 => Some(Note::RoundedDown),
+        2 => Some(Note::Raised),
+        3 => Some(Note::Capped),
+        4 => Some(Note::TakenAsZero),
+        _ => None,
+    }
 }
 
 // A number with its note.
-fn noted(number: u64, note: u8) -> Rate
+fn noted(number: u64, note: Note) -> Rate
     ensures { result ≡ noted number note }
 {
     Rate { number, note }
@@ -45,14 +55,14 @@ fn whole_part(exponent: u32, fraction: u32) -> Rate
     let digits = 0x80_0000 + fraction as u64;
     if 150 <= exponent {
         let up = exponent - 150;
-        return noted(digits << up, EXACT);
+        return noted(digits << up, Note::Exact);
     }
     let down = 150 - exponent;
     let whole = digits >> down;
     if whole << down == digits {
-        return noted(whole, EXACT);
+        return noted(whole, Note::Exact);
     }
-    noted(whole, ROUNDED_DOWN)
+    noted(whole, Note::RoundedDown)
 }
 
 // What a single that is a number gives, by its sign and the size of its exponent.
@@ -61,19 +71,19 @@ fn value_rate(negative: bool, exponent: u32, fraction: u32) -> Rate
     ensures { result ≡ value_rate negative (scaled exponent fraction) }
 {
     if (exponent == 0) & (fraction == 0) {
-        return noted(0, EXACT);
+        return noted(0, Note::Exact);
     }
     if negative {
-        return noted(0, TAKEN_AS_ZERO);
+        return noted(0, Note::TakenAsZero);
     }
     if exponent < 127 {
-        return noted(1, RAISED);
+        return noted(1, Note::Raised);
     }
     if (exponent == 190) & (fraction == 0) {
-        return noted(MOST, EXACT);
+        return noted(MOST, Note::Exact);
     }
     if 190 <= exponent {
-        return noted(MOST, CAPPED);
+        return noted(MOST, Note::Capped);
     }
     whole_part(exponent, fraction)
 }
@@ -108,16 +118,16 @@ fn is_single(number: u64) -> bool
     true
 }
 
-// Is a number with a note one that some rate gives?
+// Is a number with the number of a note one that some rate gives?
 pub fn is_rate(number: u64, note: u8) -> bool
     ensures { result ≡ rate_given number note }
 {
-    match note {
-        EXACT => is_single(number),
-        ROUNDED_DOWN => (1 <= number) & (number < 0x80_0000),
-        RAISED => number == 1,
-        CAPPED => number == MOST,
-        TAKEN_AS_ZERO => number == 0,
-        _ => false,
+    match note_of(note) {
+        Some(Note::Exact) => is_single(number),
+        Some(Note::RoundedDown) => (1 <= number) & (number < 0x80_0000),
+        Some(Note::Raised) => number == 1,
+        Some(Note::Capped) => number == MOST,
+        Some(Note::TakenAsZero) => number == 0,
+        None => false,
     }
 }

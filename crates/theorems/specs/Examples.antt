@@ -10,8 +10,9 @@ use Rattle.rule.specs.Reading.{field_size, field_length}
 use Rattle.spelling.specs.Writing.{length_field}
 use Rattle.order.specs.Precedence.{precedence}
 use Rattle.rate.specs.declared.Rate.{Rate}
-use Rattle.rate.specs.Rate.{rate_of}
-use Rattle.packet.specs.declared.Packet.{Packet}
+use Rattle.rate.specs.Rate.{note_number, rate_of}
+use Rattle.packet.specs.declared.Reading.{Reading as PacketReading}
+use Rattle.packet.specs.declared.Reading.TheVariants.{Usable, Unusable}
 use Rattle.packet.specs.Packet.{packet_of}
 use Rattle.matching.specs.Match.{matches}
 use Rattle.order.specs.Compare.{comparison_of}
@@ -34,7 +35,7 @@ checked_as (Refused number place) = number ∷ place ∷ []
 
 -- 0, the number that a rate gives and its note, or 13.
 abbrev pub rated_as : Option Rate → List ℕ
-rated_as (Some r) = 0 ∷ r.number ∷ r.note ∷ []
+rated_as (Some r) = 0 ∷ r.number ∷ note_number r.note ∷ []
 rated_as None = 13 ∷ []
 
 -- 1 where the packet matches, 0 where it does not, 12 where it is unusable.

@@ -37,8 +37,12 @@ loop-at-preserved c =
       refl,
       next _ _ _ c.loop-at.invariant.1 (search rules) _
           (elim c.match-kind_of.branch [
-            | in-ByteRate+in_ok-rate-in-ByteRate w ↦ takes-byte-rate _ _ _ _ here kind _ _ _ _ _ w.in-ByteRate.is w.rate_in.ensures w.in_ok-rate-in-ByteRate.was w.limit_of.ensures w.smaller_of-actions.ensures w.actions-is
-            | in-PacketRate+in_ok-rate-in-PacketRate w ↦ takes-packet-rate _ _ _ _ here kind _ _ _ _ _ w.in-PacketRate.is w.rate_in-in-PacketRate.ensures w.in_ok-rate-in-PacketRate.was w.limit_of-in-PacketRate.ensures w.smaller_of-actions-in-PacketRate.ensures w.actions-is
+            | in-ByteRate+in_ok-rate-in-ByteRate w ↦
+                takes-byte-rate _ _ _ _ here kind _ _ _ _ _ w.in-ByteRate.is w.rate_in.ensures w.in_ok-rate-in-ByteRate.was w.limit_of.ensures
+                w.smaller_of-actions.ensures w.actions-is
+            | in-PacketRate+in_ok-rate-in-PacketRate w ↦
+                takes-packet-rate _ _ _ _ here kind _ _ _ _ _ w.in-PacketRate.is w.rate_in-in-PacketRate.ensures
+                w.in_ok-rate-in-PacketRate.was w.limit_of-in-PacketRate.ensures w.smaller_of-actions-in-PacketRate.ensures w.actions-is
             | in-TrafficAction w ↦ takes-flags _ _ _ _ here kind _ w.in-TrafficAction.is w.actions-is
             | in-Marking w ↦ takes-marking _ _ _ _ here kind _ _ _ w.in-Marking.is w.given_of.ensures w.first_of-actions.ensures w.actions-is
             | in-Redirect w ↦ takes-redirect _ _ _ _ here kind _ _ _ w.in-Redirect.is w.given_of-in-Redirect.ensures w.first_of-actions-in-Redirect.ensures w.actions-is
