@@ -9,7 +9,7 @@ ghost use Rattle.io.specs.Counts.{IsPrefixLen};
 
 use action::Actions;
 use octets::number_at;
-use text::{Numeral, field_end, place_of};
+use text::{field_end, place_of};
 
 // Standard output's number.
 const STDOUT_FILENO: i32 = 1;
@@ -58,14 +58,12 @@ pub fn name_of(call: &[u8]) -> u64 {
 // The field of a line behind so many tabs, empty where the line has fewer.
 fn field_of(line: &[u8], number: usize) -> &[u8] {
     let mut at = 0;
-    let mut left = number;
-    while 0 < left {
+    for _ in 0..number {
         let tab = field_end(line, at);
         if line.len() <= tab {
             return &line[..0];
         }
         at = tab + 1;
-        left -= 1;
     }
     let end = field_end(line, at);
     &line[at..end]
@@ -73,12 +71,9 @@ fn field_of(line: &[u8], number: usize) -> &[u8] {
 
 // How often a part is to stand: once where it has no star, else the number behind the star, and 0 where that is none.
 fn times_of(star: &[u8]) -> usize {
-    if star.len() == 0 {
-        return 1;
-    }
-    match text::read_number(&star[1..]) {
-        Numeral::Number(number) => number as usize,
-        Numeral::NotANumber => 0,
+    match star {
+        [] => 1,
+        [_, number @ ..] => text::read_number(number).unwrap_or(0) as usize,
     }
 }
 
@@ -86,11 +81,7 @@ fn times_of(star: &[u8]) -> usize {
 fn put_digits(digits: &[u8], room: &mut [u8]) -> usize
     ensures { result ≤ length room.old }
 {
-    let count = text::read_octets(digits, room);
-    if room.len() < count {
-        return room.len();
-    }
-    count
+    text::read_octets(digits, room).min(room.len())
 }
 
 // Fills the front of a room with a part, as often as it is to stand: how many octets there are.
@@ -99,12 +90,9 @@ fn put_part(part: &[u8], room: &mut [u8]) -> usize
 {
     let star = place_of(b'*', part);
     let digits = &part[0..star];
-    let mut left = times_of(&part[star..]);
     let mut at = 0;
-    while 0 < left {
-        let count = put_digits(digits, &mut room[at..]);
-        at += count;
-        left -= 1;
+    for _ in 0..times_of(&part[star..]) {
+        at += put_digits(digits, &mut room[at..]);
     }
     at
 }
@@ -113,13 +101,9 @@ fn put_part(part: &[u8], room: &mut [u8]) -> usize
 fn put_field(field: &[u8], room: &mut [u8]) -> usize
     ensures { result ≤ length room.old }
 {
-    let mut from = 0;
     let mut at = 0;
-    while from < field.len() {
-        let end = from + place_of(b'+', &field[from..]);
-        let count = put_part(&field[from..end], &mut room[at..]);
-        at += count;
-        from = end + 1;
+    for part in field.split(|octet| *octet == b'+') {
+        at += put_part(part, &mut room[at..]);
     }
     at
 }
@@ -164,16 +148,10 @@ pub fn octet_of(line: &[u8], number: usize) -> u8 {
 fn fill_words(octets: &[u8], words: &mut [u32]) -> usize
     ensures { result ≤ length words.old }
 {
-    let mut i = 0;
-    while i < words.len() {
-        let place = i * 4;
-        if octets.len() < place + 4 {
-            return i;
-        }
-        words[i] = number_at(4, octets, place) as u32;
-        i += 1;
+    for (word, four) in words.iter_mut().zip(octets.chunks_exact(4)) {
+        *word = number_at(4, four, 0) as u32;
     }
-    i
+    words.len().min(octets.len() / 4)
 }
 
 // Fills the front of words with those of a line's field, whose octets a room holds meanwhile: how many there are.
@@ -217,22 +195,16 @@ fn print_octet(octet: u8) {
 // Prints octets as one more field of an answer.
 pub fn print_octets(s: &[u8]) {
     io::write_all(STDOUT_FILENO, b"\t");
-    let mut i = 0;
-    while i < s.len() {
-        print_octet(s[i]);
-        i += 1;
+    for octet in s {
+        print_octet(*octet);
     }
 }
 
 // Prints the values of actions.
 pub fn print_actions(actions: Actions) {
-    let values = entry::values_of(actions);
-    print_number(values[0]);
-    print_number(values[1]);
-    print_number(values[2]);
-    print_number(values[3]);
-    print_number(values[4]);
-    print_number(values[5]);
+    for value in &entry::values_of(actions) {
+        print_number(*value);
+    }
 }
 
 // Ends an answer.

@@ -1,5 +1,5 @@
 -- Reading a line: the fields behind a place, one after the other, and whether they are of the kinds that they are to be. Assumes nothing.
-use mathlib.Core.Path.{◌≡◌, refl, sym, subst, ◌∙◌}
+use mathlib.Core.Path.{◌≡◌, refl, sym, ◌∙◌}
 use mathlib.Core.Bool.{Bool, true, false}
 use mathlib.Core.List.{List, [], ◌∷◌}
 use Prim.Native.Nat.{ℕ, ◌+◌, ◌<◌, ◌≤◌}
@@ -8,24 +8,13 @@ use lib.ListN.{length}
 use borrow.Author.Tests.{lt-ltb, le-ltb}
 use Rattle.octets.proofs.Cases.{apart}
 use Rattle.rule.specs.Value.{between}
-use Rattle.text.specs.declared.Numeral.{Numeral}
-use Rattle.text.specs.declared.Numeral.TheVariants.{NotANumber, Number as Numbering}
 use Rattle.text.specs.Decimal.{is_number, read_number}
 use Rattle.text.specs.Field.{field_end}
 use Rattle.text.proofs.DecimalLaws.{was-none, was_read}
 use Rattle.text.proofs.FieldLaws.{fields-from}
-use Rattle.line.specs.declared.Kind.{Kind}
-use Rattle.line.specs.declared.Kind.TheVariants.{Any}
-use Rattle.line.specs.declared.Field.{Field}
-use Rattle.line.specs.declared.Field.TheVariants.{Missing, At}
-use Rattle.line.specs.declared.Number.{Number}
-use Rattle.line.specs.declared.Number.TheVariants.{NoNumber, Read}
+use Rattle.std.proofs.Common.{Some, None}
 use Rattle.line.specs.Line.{are_of}
-use Rattle.line.specs.Form.{behind, is_of, first_is, Fielded, FieldSays, Numbered, NumberSays}
-
--- a kind and the answer of its test
-pub kind-is : (kind given : Kind) (text : List ℕ) {r : Bool} → kind ≡ given → r ≡ is_of given text → r ≡ is_of kind text
-kind-is kind given text e h = rw e h
+use Rattle.line.specs.Form.{behind, first_is, Fielded, FieldSays, NumberSays}
 
 -- behind the line's end is no field, and before it is one, with the others behind it
 pub at-end : (line : List ℕ) (end : ℕ) → length line ≤ end → behind line end ≡ []
@@ -38,7 +27,7 @@ next_field line end stop h e = rw (lt-ltb end (length line) h) (fields-from line
 
 -- whether the fields behind a place are of their kinds: the first field decides, or leaves it to those behind it
 module _ (test : List ℕ → Bool) (kinds : List (List ℕ → Bool)) where
-  fails : (fs : List (List ℕ)) → first_is test fs ≡ false → are_of (test ∷ kinds) fs ≡ false
+  pub fails : (fs : List (List ℕ)) → first_is test fs ≡ false → are_of (test ∷ kinds) fs ≡ false
   unfolding are_of
   fails [] e = refl
   fails (text ∷ fs) e = rw e
@@ -54,49 +43,34 @@ goes_on line end h = rw (next_field line end (field_end line (end + 1)) h refl)
 
 -- how `field_behind` comes to its answers
 module _ (test : List ℕ → Bool) (line : List ℕ) (end : ℕ) where
-  pub field-none : length line ≤ end → FieldSays test line end Missing
+  pub field-none : length line ≤ end → FieldSays test line end None
   field-none h = rw (at-end line end h)
 
   module _ (inside : end < length line) (stop : ℕ) (ends : (stop ≡ field_end line (end + 1)) × (end + 1 ≤ stop) × (stop ≤ length line))
       (found : Bool) (is : found ≡ test (between line (end + 1) stop)) where
-    pub field-not : found ≡ false → FieldSays test line end Missing
+    pub field-not : found ≡ false → FieldSays test line end None
     field-not f = rw (next_field line end stop inside ends.0) (sym is ∙ f)
 
-    pub field-some : found ≡ true → FieldSays test line end (At (end + 1) stop)
+    pub field-some : found ≡ true → FieldSays test line end (Some (record { start = end + 1; end = stop }))
     field-some f = record { is = next_field line end stop inside ends.0; good = sym is ∙ f; rising = ends.1; within = ends.2 }
 
--- what its answers say
-module _ (test : List ℕ → Bool) (line : List ℕ) (end : ℕ) (field : Field) (says : FieldSays test line end field) where
-  was-missing : field ≡ Missing → first_is test (behind line end) ≡ false
-  was-missing h = subst (FieldSays test line end) h says
-
-  pub field-fails : (kinds : List (List ℕ → Bool)) → field ≡ Missing → are_of (test ∷ kinds) (behind line end) ≡ false
-  field-fails kinds h = fails test kinds (behind line end) (was-missing h)
-
-  pub was-there : (start stop : ℕ) → field ≡ At start stop → Fielded test line end start stop
-  was-there start stop h = subst (FieldSays test line end) h says
+-- any field
+abbrev pub any : List ℕ → Bool
+any text = true
 
 -- how `number_behind` comes to its answers
-pub none_at_all : (line : List ℕ) (end : ℕ) (field : Field) → FieldSays (is_of Any) line end field → field ≡ Missing → NumberSays line end NoNumber
-none_at_all line end field says h = none (behind line end) (was-missing (is_of Any) line end field says h)
+pub none_at_all : (line : List ℕ) (end : ℕ) → FieldSays any line end None → NumberSays line end None
+none_at_all line end says = none (behind line end) says
   where
-    none : (fs : List (List ℕ)) → first_is (is_of Any) fs ≡ false → first_is is_number fs ≡ false
+    none : (fs : List (List ℕ)) → first_is any fs ≡ false → first_is is_number fs ≡ false
     none [] e = refl
     none (text ∷ fs) e = apart (cc)
 
-module _ (line : List ℕ) (end start stop : ℕ) (f : Fielded (is_of Any) line end start stop) (numeral : Numeral) (is : numeral ≡ read_number (between line start stop)) where
-  pub not-numbered : numeral ≡ NotANumber → NumberSays line end NoNumber
-  not-numbered e = rw f.is (was-none (between line start stop) numeral is e)
+module _ (line : List ℕ) (end start stop : ℕ) (f : Fielded any line end start stop) where
+  pub not-numbered : None ≡ read_number (between line start stop) → NumberSays line end None
+  not-numbered e = rw f.is (was-none (between line start stop) e)
 
-  pub numbered : (number : ℕ) → numeral ≡ Numbering number → NumberSays line end (Read number stop)
+  pub numbered : (number : ℕ) → Some number ≡ read_number (between line start stop) → NumberSays line end (Some (number, stop))
   numbered number e =
-      let n = was_read (between line start stop) numeral is number e in
+      let n = was_read (between line start stop) number e in
       record { start = start; there = record { is = f.is; good = n.0; rising = f.rising; within = f.within }; says = sym n.1 }
-
--- what its answers say
-module _ (line : List ℕ) (end : ℕ) (number : Number) (says : NumberSays line end number) where
-  pub number-fails : (kinds : List (List ℕ → Bool)) → number ≡ NoNumber → are_of (is_number ∷ kinds) (behind line end) ≡ false
-  number-fails kinds h = fails is_number kinds (behind line end) (subst (NumberSays line end) h says)
-
-  pub was-number : (n stop : ℕ) → number ≡ Read n stop → Numbered line end n stop
-  was-number n stop h = subst (NumberSays line end) h says

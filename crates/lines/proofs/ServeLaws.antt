@@ -27,8 +27,9 @@ use Rattle.text.proofs.PrintLaws.{laid-stored, length-laid, laid_none}
 use Rattle.answers.specs.Answer.{unknown_text, change_text, list_text, most_answer, most_text, Answered}
 use Rattle.answers.proofs.PrintLaws.{answer-fits}
 use Rattle.lines.specs.declared.Served.{Served}
+use Rattle.std.proofs.Common.{Option, Some, None}
 use Rattle.line.specs.declared.Form.{Form}
-use Rattle.line.specs.declared.Form.TheVariants.{Route, Announce, Withdraw, Listing, Unknown}
+use Rattle.line.specs.declared.Form.TheVariants.{Route, Announce, Withdraw, Listing}
 use Rattle.line.specs.Line.{Line, other, line_of, most_signs}
 use Rattle.line.specs.Form.{form_says, FormIn, Says}
 use Rattle.lines.specs.Serve.{Serving, most_words, route_fits, printing, changing, adding, setting_off, served_as, served, Changes, Adds, served_told}
@@ -126,21 +127,25 @@ said-short : (line : List ℕ) (what : Line) → line_of line ≡ what → (what
 said-short line what e n =
     elim (dec_lt most_signs (length line)) [ yes l ↦ absurd (n (sym e ∙ too_long line l)) | no g ↦ omega arith ]
 
+-- which form a line was read as
+pub read-as : {read : Option Form} {form shape : Form} → read ≡ Some form → form ≡ shape → read ≡ Some shape
+read-as e h = e ∙ ap (λ (form : Form). Some form) h
+
 -- a line that was read as a form: its places lie in it, and it is not too long
-module _ (line : List ℕ) (form : Form) (read : Says line form (line_of line)) where
-  pub announce-places : (rule rule_end originator communities : ℕ) → form ≡ Announce rule rule_end originator communities
+module _ (line : List ℕ) (form : Option Form) (read : Says line form (line_of line)) where
+  pub announce-places : (rule rule_end originator communities : ℕ) → form ≡ Some (Announce rule rule_end originator communities)
       → (rule ≤ rule_end) × ((rule_end ≤ length line) × ((communities ≤ length line) × (length line ≤ most_signs)))
   announce-places rule rule_end originator communities is =
       let w = subst (FormIn line) is read.within in
       (w.0, (w.1.0, (w.1.1, said-short line _ (sym read.is ∙ ap (form_says line) is) (λ e. apart (cc)))))
 
-  pub withdraw-places : (rule : ℕ) → form ≡ Withdraw rule → (rule ≤ length line) × (length line ≤ most_signs)
+  pub withdraw-places : (rule : ℕ) → form ≡ Some (Withdraw rule) → (rule ≤ length line) × (length line ≤ most_signs)
   withdraw-places rule is =
       (subst (FormIn line) is read.within, said-short line _ (sym read.is ∙ ap (form_says line) is) (λ e. apart (cc)))
 
 -- what serving it leaves
-module _ (line : List ℕ) (used : ℕ) (routes table out : List ℕ) (form : Form) (read : Says line form (line_of line)) where
-  served-as : (f : Form) → form ≡ f → served line used routes table ≡ served_as (form_says line f) used routes table
+module _ (line : List ℕ) (used : ℕ) (routes table out : List ℕ) (form : Option Form) (read : Says line form (line_of line)) where
+  served-as : (f : Option Form) → form ≡ f → served line used routes table ≡ served_as (form_says line f) used routes table
   unfolding served
   served-as f e = rw (← read.is, e)
 
@@ -149,28 +154,28 @@ module _ (line : List ℕ) (used : ℕ) (routes table out : List ℕ) (form : Fo
       → x ≡ laid out 0 o.text → answer.printed ≤ most_text (length table) → Serves line used routes table out answer r t x (line ∷ [])
   serves o e answer r t x a b c d s = record { is = rw e a; leaves_routes = rw e b; leaves_table = rw e c; prints = rw e d; short = s; keeps = refl }
 
-  pub serve-routed : (address size originator neighbour : ℕ) → form ≡ Route address size originator neighbour → (answer : Served) (r x : List ℕ)
+  pub serve-routed : (address size originator neighbour : ℕ) → form ≡ Some (Route address size originator neighbour) → (answer : Served) (r x : List ℕ)
       → Adds (adding (address ∷ size ∷ originator ∷ neighbour ∷ []) used routes []) out answer r x
       → Serves line used routes table out answer r table x (line ∷ [])
   serve-routed address size originator neighbour is answer r x a =
       serves (with-table (adding (address ∷ size ∷ originator ∷ neighbour ∷ []) used routes []) table)
-      (served-as (Route address size originator neighbour) is ∙ any-table (address ∷ size ∷ originator ∷ neighbour ∷ []) used routes table) _ _ _ _
+      (served-as (Some (Route address size originator neighbour)) is ∙ any-table (address ∷ size ∷ originator ∷ neighbour ∷ []) used routes table) _ _ _ _
       a.is a.leaves refl a.prints (answer-fits _ _ a.short)
 
-  module _ (rule rule_end originator communities : ℕ) (is : form ≡ Announce rule rule_end originator communities) where
+  module _ (rule rule_end originator communities : ℕ) (is : form ≡ Some (Announce rule rule_end originator communities)) where
     pub serve-announced : (count printed : ℕ) (t x : List ℕ) → count ≡ min used (length routes)
         → Changes announced_told (announcing ipv4 (policy_of (take count routes) setting_off) (announcement_of (octets_in (between line rule rule_end)) (origin_of originator) (octets_in (between line communities (length line)))) table) out printed t x
         → Serves line used routes table out (record { printed = printed; used = used }) routes t x (line ∷ [])
     serve-announced count printed t x e c =
         serves (changing announced_told (announcing ipv4 (policy_of (take count routes) setting_off) (announcement_of (octets_in (between line rule rule_end)) (origin_of originator) (octets_in (between line communities (length line)))) table) used routes)
-        (served-as (Announce rule rule_end originator communities) is ∙ rw (in_use used count routes e)) _ _ _ _
+        (served-as (Some (Announce rule rule_end originator communities)) is ∙ rw (in_use used count routes e)) _ _ _ _
         (λ i. record { printed = c.prints.1 i; used = used }) refl c.leaves c.prints.0 (answer-fits _ _ c.prints.2)
 
-  module _ (rule : ℕ) (is : form ≡ Withdraw rule) where
+  module _ (rule : ℕ) (is : form ≡ Some (Withdraw rule)) where
     pub serve-withdrawn : (printed : ℕ) (t x : List ℕ) → Changes withdrawn_told (withdrawing ipv4 (octets_in (between line rule (length line))) table) out printed t x
         → Serves line used routes table out (record { printed = printed; used = used }) routes t x (line ∷ [])
     serve-withdrawn printed t x c =
-        serves (changing withdrawn_told (withdrawing ipv4 (octets_in (between line rule (length line))) table) used routes) (served-as (Withdraw rule) is) _ _ _ _
+        serves (changing withdrawn_told (withdrawing ipv4 (octets_in (between line rule (length line))) table) used routes) (served-as (Some (Withdraw rule)) is) _ _ _ _
         (λ i. record { printed = c.prints.1 i; used = used }) refl c.leaves c.prints.0 (answer-fits _ _ c.prints.2)
 
   -- a line that prints and changes nothing
@@ -179,10 +184,10 @@ module _ (line : List ℕ) (used : ℕ) (routes table out : List ℕ) (form : Fo
       → Serves line used routes table out (record { printed = printed; used = used }) routes table x (line ∷ [])
   serve-printed text e printed x p = serves (printing text used routes table) e _ _ _ _ (λ i. record { printed = p.1 i; used = used }) refl refl p.0 p.2
 
-  pub serve-listed : form ≡ Listing → (printed : ℕ) (x : List ℕ) → Answered (most_text (length table)) out (list_text table) x printed
+  pub serve-listed : form ≡ Some Listing → (printed : ℕ) (x : List ℕ) → Answered (most_text (length table)) out (list_text table) x printed
       → Serves line used routes table out (record { printed = printed; used = used }) routes table x (line ∷ [])
-  serve-listed is = serve-printed (list_text table) (served-as Listing is)
+  serve-listed is = serve-printed (list_text table) (served-as (Some Listing) is)
 
-  pub serve-unknown : form ≡ Unknown → (printed : ℕ) (x : List ℕ) → Answered most_answer out unknown_text x printed
+  pub serve-unknown : form ≡ None → (printed : ℕ) (x : List ℕ) → Answered most_answer out unknown_text x printed
       → Serves line used routes table out (record { printed = printed; used = used }) routes table x (line ∷ [])
-  serve-unknown is printed x p = serve-printed unknown_text (served-as Unknown is) printed x (p.0, p.1, answer-fits _ _ p.2)
+  serve-unknown is printed x p = serve-printed unknown_text (served-as None is) printed x (p.0, p.1, answer-fits _ _ p.2)

@@ -158,20 +158,24 @@ pub fn serve(
     ensures { Serves line.now used routes.old table.old out.old result routes.new table.new out.new (line.now ∷ []) }
 {
     let printed = match line::read_line(line) {
-        Form::Route {
-            address,
-            size,
-            originator,
-            neighbour,
-        } => {
+        Some(
+            Form::Route {
+                address,
+                size,
+                originator,
+                neighbour,
+            },
+        ) => {
             return serve_route(routes, used, address, size, originator, neighbour, out);
         }
-        Form::Announce {
-            rule,
-            rule_end,
-            originator,
-            communities,
-        } => {
+        Some(
+            Form::Announce {
+                rule,
+                rule_end,
+                originator,
+                communities,
+            },
+        ) => {
             let count = octets::least(used, routes.len());
             serve_announce(
                 &line[rule..rule_end],
@@ -182,9 +186,9 @@ pub fn serve(
                 out,
             )
         }
-        Form::Withdraw(rule) => serve_withdraw(&line[rule..], table, out),
-        Form::Listing => answers::put_list(out, table),
-        Form::Unknown => answers::put_unknown(out),
+        Some(Form::Withdraw(rule)) => serve_withdraw(&line[rule..], table, out),
+        Some(Form::Listing) => answers::put_list(out, table),
+        None => answers::put_unknown(out),
     };
     Served { printed, used }
 }

@@ -14,8 +14,7 @@ use lib.Seq.{drop-cons}
 use borrow.Author.Tests.{le-leb, lt-ltb, le-ltb, ne_eqb, eqb-false, not-true, not-false}
 use Rattle.octets.specs.Test.{every}
 use Rattle.octets.proofs.Cases.{by-test, apart}
-use Rattle.text.specs.declared.Numeral.{Numeral}
-use Rattle.text.specs.declared.Numeral.TheVariants.{Number, NotANumber}
+use Rattle.std.proofs.Common.{Option, Some, None}
 use Rattle.text.specs.Decimal.{number_from, number_in, starts_well, is_number, read_number, digits_of, decimal_of}
 use Rattle.text.specs.Spelling.{is_digit}
 use Rattle.text.specs.Print.{laid}
@@ -188,33 +187,33 @@ number-rises n [] = omega arith
 number-rises n (x ∷ t) = omega (arith, number-rises (n * 10 + (x - 0x30)) t)
 
 -- the first digit, by the text's length
-pub well-none : (t : List ℕ) → length t ≡ 0 → starts_well t ≡ false
+pub well-none : (t : List ℕ) → length t ≡ 0 → false ≡ starts_well t
 unfolding starts_well
 well-none [] e = refl
 well-none (x ∷ t) e = absurd (omega arith)
 
-pub well-one : (t : List ℕ) → length t ≡ 1 → starts_well t ≡ true
+pub well-one : (t : List ℕ) → length t ≡ 1 → true ≡ starts_well t
 unfolding starts_well
 well-one [] e = absurd (omega arith)
 well-one (x ∷ []) e = refl
 well-one (x ∷ y ∷ t) e = absurd (omega arith)
 
-pub well-many : (t : List ℕ) → (length t ≡ 0 → ⊥) → (length t ≡ 1 → ⊥) → starts_well t ≡ not (eqb (get_or t 0 0) 0x30)
+pub well-many : (t : List ℕ) → 2 ≤ length t → not (eqb (get_or t 0 0) 0x30) ≡ starts_well t
 unfolding starts_well
-well-many [] h k = absurd (h refl)
-well-many (x ∷ []) h k = absurd (k refl)
-well-many (x ∷ y ∷ t) h k = refl
+well-many [] h = absurd (omega arith)
+well-many (x ∷ []) h = absurd (omega arith)
+well-many (x ∷ y ∷ t) h = refl
 
 -- what reading digits behind those that spell n answers
-abbrev pub goes_on : ℕ → List ℕ → Numeral
-goes_on n t = cond (every is_digit t && ltb (number_from n t) (2 ^ 32)) (Number (number_from n t)) NotANumber
+abbrev pub goes_on : ℕ → List ℕ → Option ℕ
+goes_on n t = cond (every is_digit t && ltb (number_from n t) (2 ^ 32)) (Some (number_from n t)) None
 
 module _ (t : List ℕ) (found : Bool) (is : found ≡ starts_well t) where
   pub number-starts : not found ≡ false → read_number t ≡ goes_on 0 (drop 0 t)
   unfolding read_number is_number number_in
   number-starts f = rw (sym is ∙ not-false found f)
 
-  pub number-not : not found ≡ true → NotANumber ≡ read_number t
+  pub number-not : not found ≡ true → None ≡ read_number t
   unfolding read_number is_number
   number-not f = rw (sym is ∙ not-true found f)
 
@@ -227,30 +226,30 @@ unfolding number_from
 number-all t i n h = rw (drop_of_length-le t h)
 
 -- what is past 32 bits stays so
-large : (n : ℕ) (t : List ℕ) → 2 ^ 32 ≤ n → goes_on n t ≡ NotANumber
+large : (n : ℕ) (t : List ℕ) → 2 ^ 32 ≤ n → goes_on n t ≡ None
 large n t h = rw (le-ltb (number_from n t) (2 ^ 32) (omega (arith, number-rises n t)), and-false (every is_digit t))
 
 -- reading a number, from its first digit on
-module _ (t : List ℕ) (i n : ℕ) (r : Numeral) (so_far : r ≡ goes_on n (drop i t)) where
+module _ (t : List ℕ) (i n : ℕ) (r : Option ℕ) (so_far : r ≡ goes_on n (drop i t)) where
   module _ (found : Bool) (is : found ≡ is_digit (get_or t i 0)) (inside : i < length t) where
     pub goes-more : (m : ℕ) → not found ≡ false → m ≡ n * 10 + (get_or t i 0 - 0x30) → r ≡ goes_on m (drop (i + 1) t)
     goes-more m f e = so_far ∙ rw (number-next t i n inside, ← e, sign-more is_digit t i (every is_digit (drop i t)) refl found is inside f)
 
-    pub goes-past : not found ≡ false → 2 ^ 32 ≤ n * 10 + (get_or t i 0 - 0x30) → NotANumber ≡ r
+    pub goes-past : not found ≡ false → 2 ^ 32 ≤ n * 10 + (get_or t i 0 - 0x30) → None ≡ r
     goes-past f h = sym (goes-more (n * 10 + (get_or t i 0 - 0x30)) f refl ∙ large (n * 10 + (get_or t i 0 - 0x30)) (drop (i + 1) t) h)
 
-    pub goes-not : not found ≡ true → NotANumber ≡ r
+    pub goes-not : not found ≡ true → None ≡ r
     goes-not f = sym (so_far ∙ rw (← sign-not is_digit t i (every is_digit (drop i t)) refl found is inside f))
 
-  pub goes-all : length t ≤ i → n < 2 ^ 32 → Number n ≡ r
+  pub goes-all : length t ≤ i → n < 2 ^ 32 → Some n ≡ r
   goes-all h k = sym (so_far ∙ rw (← sign-all is_digit t i (every is_digit (drop i t)) refl h, number-all t i n h, lt-ltb n (2 ^ 32) k))
 
 -- what a caller knows by the answer
-module _ (t : List ℕ) (found : Numeral) (is : found ≡ read_number t) where
-  pub was_read : (n : ℕ) → found ≡ Number n → (is_number t ≡ true) × (n ≡ number_in t)
+module _ (t : List ℕ) where
+  pub was_read : (n : ℕ) → Some n ≡ read_number t → (is_number t ≡ true) × (n ≡ number_in t)
   unfolding read_number
-  was_read n e = by-test (is_number t) (λ h. (h, let z : Number n ≡ Number (number_in t) = sym e ∙ is ∙ rw h in cc)) (λ h. let z : Number n ≡ NotANumber = sym e ∙ is ∙ rw h in apart (cc))
+  was_read n e = by-test (is_number t) (λ h. (h, let z : Some n ≡ Some (number_in t) = e ∙ rw h in cc)) (λ h. let z : Some n ≡ None = e ∙ rw h in apart (cc))
 
-  pub was-none : found ≡ NotANumber → is_number t ≡ false
+  pub was-none : None ≡ read_number t → is_number t ≡ false
   unfolding read_number
-  was-none e = by-test (is_number t) (λ h. let z : Number (number_in t) ≡ NotANumber = sym (is ∙ rw h) ∙ e in apart (cc)) (λ h. h)
+  was-none e = by-test (is_number t) (λ h. let z : None ≡ Some (number_in t) = e ∙ rw h in apart (cc)) (λ h. h)

@@ -5,11 +5,14 @@ use mathlib.Core.List.{List, [], ◌∷◌}
 use Prim.Native.Nat.{ℕ, suc, ◌+◌, ◌-◌, ◌<◌, ◌≤◌}
 use native.Mathlib.Omega.{arith}
 use native.Mathlib.Numerals.{add-one}
-use native.Mathlib.Nat.{add-zero}
 use native.Mathlib.Decide.{dec_lt}
 use lib.Dec.{eqb, ltb, leb-suc-suc}
-use lib.ListN.{length, get_or, take, drop, length-drop, drop_of_length-le}
-use lib.Seq.{drop-cons, drop-drop, take_all}
+use lib.ListN.{length, take, drop, length-drop}
+use lib.Seq.{drop-drop, take_all}
+use Rattle.std.specs.List.{AllWithin, HoldsAt}
+use Rattle.std.specs.Option.{MatchOption, unwrap_or}
+use Rattle.std.proofs.Common.{Option, ◌≢◌}
+use Rattle.std.proofs.lemmas.Iterator.{index_from_first}
 use borrow.Author.Tests.{lt-ltb, le-ltb, eq-eqb, ne_eqb}
 use Rattle.octets.proofs.Cases.{by-test}
 use Rattle.text.specs.Field.{fields, place_of, field_end}
@@ -54,16 +57,15 @@ field-ends line from size h p =
     let l = simp length-drop at (rw rest at p.1) in
     (rw e, omega arith, omega arith)
 
--- the search for a mark
-module _ (mark : ℕ) (s : List ℕ) (i r : ℕ) (so_far : r ≡ i + place_of mark (drop i s)) where
-  pub mark-more : i < length s → (get_or s i 0 ≡ mark → ⊥) → r ≡ i + 1 + place_of mark (drop (i + 1) s)
-  unfolding place_of
-  mark-more h n = so_far ∙ rw (drop-cons s i 0 h, place_of, ne_eqb (get_or s i 0) mark n, add-one) (omega arith)
-
-  pub mark-here : i < length s → get_or s i 0 ≡ mark → i ≡ r
-  unfolding place_of
-  mark-here h n = sym (so_far ∙ rw (drop-cons s i 0 h, place_of, eq-eqb (get_or s i 0) mark n) (add-zero i))
-
-  pub mark-none : length s ≤ i → i ≡ r
-  unfolding place_of
-  mark-none h = sym (so_far ∙ rw (drop_of_length-le s h, place_of) (add-zero i))
+-- the first octet that is a mark, as a search finds it
+pub mark-found : (mark : ℕ) (s : List ℕ) (found : Option ℕ) (r : ℕ)
+    → MatchOption found (AllWithin (λ x. x ≢ mark) s 0 (length s)) (λ i. (i < length s) × HoldsAt (λ x. x ≡ mark) s i × AllWithin (λ x. x ≢ mark) s 0 i)
+    → r ≡ unwrap_or found (length s) → (r ≡ place_of mark s) × (r ≤ length s)
+unfolding place_of
+mark-found mark s found r first is =
+    let e : r ≡ place_of mark s =
+    is
+    ∙ sym (index_from_first (place_of mark) (λ x. x ≡ mark) (λ x. x ≢ mark) refl (λ x s h. rw (eq-eqb x mark h))
+    (λ x s h. rw (ne_eqb x mark h) (sym (add-one _))) s found first)
+    in
+    (e, rw e (place-within mark s))

@@ -2,13 +2,13 @@
 -- along a text knows at each turn. Assumes nothing.
 use mathlib.Core.Path.{◌≡◌, refl, sym, ◌∙◌}
 use mathlib.Core.Bool.{and-eq-true_iff, Bool, true, false, ◌&&◌, ◌||◌, not}
-use mathlib.Core.List.{List, [], ◌∷◌}
+use mathlib.Core.List.{List, [], ◌∷◌, ◌++◌}
 use Prim.Native.Nat.{ℕ, zero, suc, ◌+◌, ◌-◌, ◌*◌, ◌/◌, ◌%◌, ◌<◌, ◌≤◌}
 use native.Mathlib.Omega.{arith}
 use native.Mathlib.Numerals.{add-one}
 use native.Mathlib.Decide.{dec_lt}
 use lib.Dec.{eqb, ltb, leb}
-use lib.ListN.{length, get_or, drop, length-drop, drop_of_length-le}
+use lib.ListN.{length, get_or, drop, drop_of_length-le}
 use lib.Seq.{drop-cons}
 use borrow.Author.Tests.{leb-true, ltb-true, eqb-true, eq-eqb, ne_eqb, not-true, not-false, le-leb, lt-leb}
 use Rattle.octets.specs.Test.{every}
@@ -177,30 +177,29 @@ module _ (test : ℕ → Bool) (s : List ℕ) (i : ℕ) (r : Bool) (so_far : r �
   sign-all h = sym (so_far ∙ rw (drop_of_length-le s h, every))
 
 -- the next two digits
-pub octets-next : (t : List ℕ) (i : ℕ) → i < length t / 2
-    → octets_in (drop (i * 2) t) ≡ (hex_value (get_or t (i * 2) 0) * 16 + hex_value (get_or t (i * 2 + 1) 0)) ∷ octets_in (drop ((i + 1) * 2) t)
+pub octets-next : (t pair rest : List ℕ) → t ≡ pair ++ rest → length pair ≡ 2
+    → octets_in t ≡ (hex_value (get_or pair 0 0) * 16 + hex_value (get_or pair 1 0)) ∷ octets_in rest
 unfolding octets_in
-octets-next t i h =
-    let l : i * 2 < length t = omega arith in
-    let k : suc (i * 2) < length t = omega arith in
-    let e : (i + 1) * 2 ≡ suc (suc (i * 2)) = omega arith in
-    rw (drop-cons t (i * 2) 0 l, drop-cons t (suc (i * 2)) 0 k, e, add-one)
+octets-next t [] rest e h = absurd (omega arith)
+octets-next t (x ∷ []) rest e h = absurd (omega arith)
+octets-next t (x ∷ y ∷ []) rest e h = rw e
+octets-next t (x ∷ y ∷ z ∷ s) rest e h = absurd (omega arith)
+
+pub octets-count : (t pair rest : List ℕ) → t ≡ pair ++ rest → length pair ≡ 2 → length (octets_in t) ≡ length (octets_in rest) + 1
+octets-count t pair rest e h = rw (octets-next t pair rest e h, add-one)
 
 -- no two digits are left
-pub octets-none : (t : List ℕ) (i : ℕ) → length t / 2 ≤ i → octets_in (drop (i * 2) t) ≡ []
+pub octets-none : (t : List ℕ) → length t < 2 → octets_in t ≡ []
 unfolding octets_in
-octets-none t i h = short (drop (i * 2) t) (simp length-drop (omega arith))
-  where
-    short : (t : List ℕ) → length t ≤ 1 → octets_in t ≡ []
-    short [] h = refl
-    short (x ∷ []) h = refl
-    short (x ∷ y ∷ t) h = absurd (omega arith)
+octets-none [] h = refl
+octets-none (x ∷ []) h = refl
+octets-none (x ∷ y ∷ t) h = absurd (omega arith)
 
 -- whether a text is octets, by its length
 pub are-odd : (t : List ℕ) → (length t % 2 ≡ 0 → ⊥) → false ≡ are_octets t
 unfolding are_octets
 are-odd t h = rw (ne_eqb (length t % 2) 0 h)
 
-pub are-even : (t : List ℕ) → length t % 2 ≡ 0 → are_octets t ≡ every is_hex_digit (drop 0 t)
+pub are-even : (t : List ℕ) → length t % 2 ≡ 0 → are_octets t ≡ every is_hex_digit t
 unfolding are_octets
 are-even t h = rw (eq-eqb (length t % 2) 0 h)

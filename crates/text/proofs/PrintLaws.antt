@@ -95,11 +95,11 @@ hex-more w b e f s at second next i high low h so_far is-high is-low one to two 
     in
     laid_next w e f second next low (hex_of (drop (i + 1) s)) step two on
 
-pub read_more : (w b e t : List ℕ) (i high low : ℕ) → i < length t / 2 → w ≡ laid b i (octets_in (drop (i * 2) t))
-    → high ≡ hex_value (get_or t (i * 2) 0) → low ≡ hex_value (get_or t (i * 2 + 1) 0) → e ≡ laid b i ((high * 16 + low) ∷ [])
-    → w ≡ laid e (i + 1) (octets_in (drop ((i + 1) * 2) t))
-read_more w b e t i high low h so_far is-high is-low one =
-    laid_next w b e i (i + 1) (high * 16 + low) (octets_in (drop ((i + 1) * 2) t)) (so_far ∙ rw (octets-next t i h, is-high, is-low)) one refl
+pub read_more : (w b e t pair rest : List ℕ) (at next high low : ℕ) → t ≡ pair ++ rest → length pair ≡ 2 → w ≡ laid b at (octets_in t)
+    → high ≡ hex_value (get_or pair 0 0) → low ≡ hex_value (get_or pair 1 0) → e ≡ laid b at ((high * 16 + low) ∷ []) → next ≡ at + 1
+    → w ≡ laid e next (octets_in rest)
+read_more w b e t pair rest at next high low cut two so_far is-high is-low one on =
+    laid_next w b e at next (high * 16 + low) (octets_in rest) (so_far ∙ rw (octets-next t pair rest cut two, is-high, is-low)) one on
 
 pub put_all : (w b t : List ℕ) (at : ℕ) → t ≡ [] → w ≡ laid b at t → b ≡ w
 put_all w b t at e f = sym (f ∙ rw e (laid_none b at))

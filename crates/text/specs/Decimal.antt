@@ -1,8 +1,6 @@
 -- Numbers in decimal, as the lines of the program have them (01: "other numbers decimal, within 32 bits, no leading zero").
-use Rattle.std.specs.Prelude.{ℕ, zero, suc, ◌+◌, ◌-◌, ◌*◌, ◌/◌, ◌%◌, ◌^◌, Bool, true, false, cond, ◌&&◌, not, List, [], ◌∷◌, ◌++◌, ltb, eqb}
+use Rattle.std.specs.Prelude.{ℕ, zero, suc, ◌+◌, ◌-◌, ◌*◌, ◌/◌, ◌%◌, ◌^◌, Bool, true, false, cond, ◌&&◌, not, List, [], ◌∷◌, ◌++◌, ltb, eqb, Option, Some, None}
 use Rattle.octets.specs.Test.{every}
-use Rattle.text.specs.declared.Numeral.{Numeral}
-use Rattle.text.specs.declared.Numeral.TheVariants.{Number, NotANumber}
 use Rattle.text.specs.Spelling.{is_digit}
 
 -- The number that digits go on to spell behind those that spell n.
@@ -24,9 +22,9 @@ starts_well (digit ∷ next ∷ text) = not (eqb digit 0x30)
 unfoldable pub is_number : List ℕ → Bool
 is_number text = starts_well text && (every is_digit text && ltb (number_in text) (2 ^ 32))
 
--- What reading a text as a number answers.
-unfoldable pub read_number : List ℕ → Numeral
-read_number text = cond (is_number text) (Number (number_in text)) NotANumber
+-- What reading a text as a number answers: the number, or none.
+unfoldable pub read_number : List ℕ → Option ℕ
+read_number text = cond (is_number text) (Some (number_in text)) None
 
 -- The digits of a number: one below 10 is a digit by itself, any other has the digits of its tenth and then its last.
 -- `steps` bounds how many they are.

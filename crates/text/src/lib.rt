@@ -17,14 +17,7 @@ use octets::number_at;
 pub fn place_of(mark: u8, s: &[u8]) -> usize
     ensures { (result ≡ place_of mark s.now) × (result ≤ length s.now) }
 {
-    let mut i = 0;
-    while i < s.len() {
-        if s[i] == mark {
-            return i;
-        }
-        i += 1;
-    }
-    i
+    s.iter().position(|octet| *octet == mark).unwrap_or(s.len())
 }
 
 // Where the field of a line that begins at a place ends: at the first tab from there on, or at the line's end.
@@ -73,32 +66,17 @@ fn hex_value(sign: u8) -> u8
 pub fn are_octets(text: &[u8]) -> bool
     ensures { result ≡ are_octets text.now }
 {
-    if text.len() % 2 != 0 {
-        return false;
-    }
-    let mut i = 0;
-    while i < text.len() {
-        if !is_hex_digit(text[i]) {
-            return false;
-        }
-        i += 1;
-    }
-    true
+    text.len() % 2 == 0 && text.iter().all(|sign| is_hex_digit(*sign))
 }
 
 // Fills the front of a room with the octets that a text spells, as far as the room reaches: how many they are.
 pub fn read_octets(text: &[u8], room: &mut [u8]) -> usize
     ensures { (room.new ≡ laid room.old 0 (octets_in text.now)) × (result ≡ length (octets_in text.now)) }
 {
-    let count = text.len() / 2;
-    let mut i = 0;
-    while i < count {
-        let first = i * 2;
-        let second = first + 1;
-        let high = hex_value(text[first]);
-        let low = hex_value(text[second]);
-        put_octet(room, i, high * 16 + low);
-        i += 1;
+    let mut count = 0;
+    for pair in text.chunks_exact(2) {
+        let octet = hex_value(pair[0]) * 16 + hex_value(pair[1]);
+        count = put_octet(room, count, octet);
     }
     count
 }
@@ -114,49 +92,36 @@ pub fn word_in(text: &[u8]) -> u32
 
 // ---- Decimal ----
 
-// What a text is as a number: the number that it spells, or none.
-#[derive(Clone, Copy)]
-pub enum Numeral {
-    Number(u32),
-    NotANumber,
-}
-
 // Whether a text has a first digit that may stand there.
 fn starts_well(text: &[u8]) -> bool
     ensures { result ≡ starts_well text.now }
 {
-    if text.len() == 0 {
-        return false;
+    match text {
+        [] => false,
+        [_] => true,
+        [first, ..] => *first != b'0',
     }
-    if text.len() == 1 {
-        return true;
-    }
-    text[0] != b'0'
 }
 
-// The number that a text spells, or that it is none: a number is decimal, within 32 bits, and has no leading zero.
-pub fn read_number(text: &[u8]) -> Numeral
+// The number that a text spells, if it is one: a number is decimal, within 32 bits, and has no leading zero.
+pub fn read_number(text: &[u8]) -> Option<u32>
     ensures { result ≡ read_number text.now }
 {
     if !starts_well(text) {
-        return Numeral::NotANumber;
+        return None;
     }
     let mut number: u64 = 0;
-    let mut i = 0;
-    while i < text.len() {
-        let sign = text[i];
-        if !is_from(b'0', b'9', sign) {
-            return Numeral::NotANumber;
+    for sign in text {
+        if !is_from(b'0', b'9', *sign) {
+            return None;
         }
-        let digit = sign - b'0';
+        let digit = *sign - b'0';
         number = number * 10 + digit as u64;
         if 4294967295 < number {
-            return Numeral::NotANumber;
+            return None;
         }
-        i += 1;
     }
-    let read = number as u32;
-    Numeral::Number(read)
+    Some(number as u32)
 }
 
 // ---- Printing ----
@@ -179,10 +144,8 @@ pub fn put_octets(out: &mut [u8], at: usize, s: &[u8]) -> usize
     ensures { Printed out.old at s.now out.new result }
 {
     let mut place = at;
-    let mut i = 0;
-    while i < s.len() {
-        place = put_octet(out, place, s[i]);
-        i += 1;
+    for octet in s {
+        place = put_octet(out, place, *octet);
     }
     place
 }
@@ -201,14 +164,11 @@ pub fn put_hex(out: &mut [u8], at: usize, s: &[u8]) -> usize
     ensures { Printed out.old at (hex_of s.now) out.new result }
 {
     let mut place = at;
-    let mut i = 0;
-    while i < s.len() {
-        let octet = s[i];
-        let high = hex_digit(octet / 16);
-        let low = hex_digit(octet % 16);
+    for octet in s {
+        let high = hex_digit(*octet / 16);
+        let low = hex_digit(*octet % 16);
         let second = put_octet(out, place, high);
         place = put_octet(out, second, low);
-        i += 1;
     }
     place
 }

@@ -1,19 +1,15 @@
--- Every sign passed is a digit, so that the answer for all of them is the answer for the rest.
-use borrow.Author.Rules.{rules}
-use Rattle.text.proofs.HexLaws.{are-odd, are-even, sign-more, sign-not, sign-all}
+-- An odd number of signs is none, and of an even number each is asked.
+use Rattle.std.proofs.Common.{refl, sym, ◌∙◌, rules}
+use Rattle.std.proofs.lemmas.List.Recursion.{and_is}
+use Rattle.octets.specs.Test.{every}
+use Rattle.text.specs.Hex.{is_hex_digit}
+use Rattle.text.proofs.HexLaws.{are-odd, are-even}
 use Rattle.text.proofs.are_octets.Goals as goal
 
-pub returns-then-text-ne0 : goal.returns-then-text-ne0
-returns-then-text-ne0 c = search (are-odd, rules)
+pub returns-then-text-eq0 : goal.returns-then-text-eq0
+unfolding every
+returns-then-text-eq0 c =
+    and_is (every is_hex_digit) is_hex_digit refl (λ _ _. refl) c.args.text.now 0 _ (search rules) (search rules) ∙ sym (are-even _ (search rules))
 
-pub loop-i-init : goal.loop-i-init
-loop-i-init c = search (are-even, rules)
-
-pub returns-then-not-is_hex_digit : goal.returns-then-not-is_hex_digit
-returns-then-not-is_hex_digit c = search (sign-not, rules)
-
-pub loop-i-preserved : goal.loop-i-preserved
-loop-i-preserved c = search (sign-more, rules)
-
-pub returns : goal.returns
-returns c = search (sign-all, rules)
+pub returns-else-text-eq0 : goal.returns-else-text-eq0
+returns-else-text-eq0 c = search (are-odd, rules)

@@ -1,18 +1,9 @@
--- No octet passed is the mark, so that what is before it is what was passed and what is before it in the rest.
-use borrow.Author.Rules.{rules}
-use mathlib.Core.Path.{sym}
-use native.Mathlib.Nat.{zero-add}
-use Rattle.text.proofs.FieldLaws.{mark-more, mark-here, mark-none}
+-- How many octets stand before the first that is the mark.
+use Rattle.std.proofs.Common.{◌≡◌, ◌≢◌, rules, tests}
+use Rattle.std.proofs.lemmas.Iterator.{YieldsList-from_slice, IsFirst-from_position}
+use Rattle.text.proofs.FieldLaws.{mark-found}
 use Rattle.text.proofs.place_of.Goals as goal
 
-pub loop-i-init : goal.loop-i-init
-loop-i-init c = (search rules, sym (zero-add _))
-
-pub returns-then-s-i : goal.returns-then-s-i
-returns-then-s-i c = search (mark-here, rules)
-
-pub loop-i-preserved : goal.loop-i-preserved
-loop-i-preserved c = search (mark-more, rules)
-
 pub returns : goal.returns
-returns c = search (mark-none, rules)
+returns c = let s = c.args.s.now in let mark = c.args.mark in
+    mark-found mark s _ _ (IsFirst-from_position _ _ _ (λ x. x ≡ mark) (λ x. x ≢ mark) c.position.ensures.ran (YieldsList-from_slice s cc) (λ x q k. search (rules, tests)) (λ x q k. search (rules, tests))) c.unwrap_or.ensures

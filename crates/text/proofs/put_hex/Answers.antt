@@ -8,17 +8,17 @@ use Rattle.text.proofs.HexLaws.{length-hex_of}
 use Rattle.text.proofs.PrintLaws.{hex-more, put_all}
 use Rattle.text.proofs.put_hex.Goals as goal
 
-pub loop-i-init : goal.loop-i-init
-loop-i-init c = (omega (arith, length-hex_of c.args.s.now), search rules, search rules, refl, refl)
+pub loop-octet-init : goal.loop-octet-init
+loop-octet-init c = (omega (arith, length-hex_of c.args.s.now), search rules, search rules, refl, refl)
 
 pub hex_digit-high-requires : goal.hex_digit-high-requires
-hex_digit-high-requires c = omega (arith, c.type_inv.s c.loop-i.i)
+hex_digit-high-requires c = omega (arith, c.type_inv.s c.loop-octet.octet-index)
 
-pub loop-i-preserved : goal.loop-i-preserved
-loop-i-preserved c = (search rules, search rules, search rules, search rules, search (hex-more, rules))
+pub loop-octet-preserved : goal.loop-octet-preserved
+loop-octet-preserved c = (search rules, search rules, search rules, search rules, search (hex-more, rules))
 
 pub returns : goal.returns
 unfolding hex_of
 returns c = let s = c.args.s.now in
-    let none = ap hex_of (drop_of_length-le s {i = c.loop-i.i} (search rules)) in
-    (put_all _ _ _ _ none c.loop-i.invariant.4, omega (arith, length-hex_of s))
+    let none = ap hex_of (drop_of_length-le s {i = c.loop-octet.octet-index} (search rules)) in
+    (put_all _ _ _ _ none c.loop-octet.invariant.4, omega (arith, length-hex_of s))

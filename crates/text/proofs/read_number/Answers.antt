@@ -11,8 +11,8 @@ use Rattle.text.proofs.read_number.Goals as goal
 pub returns-then-not-starts_well : goal.returns-then-not-starts_well
 returns-then-not-starts_well c = search (number-not, rules)
 
-pub loop-i-init : goal.loop-i-init
-loop-i-init c = (search rules, search (number-starts, rules))
+pub loop-sign-init : goal.loop-sign-init
+loop-sign-init c = (search rules, search (number-starts, rules))
 
 pub returns-then-not-is_from : goal.returns-then-not-is_from
 returns-then-not-is_from c = search (goes-not, rules)
@@ -21,17 +21,17 @@ pub overflow_sub-digit : goal.overflow_sub-digit
 overflow_sub-digit c = search (low-decimal, not-false, rules)
 
 pub overflow_cast-number : goal.overflow_cast-number
-overflow_cast-number c = omega (arith, c.type_inv.text c.loop-i.i)
+overflow_cast-number c = omega (arith, c.type_inv.text c.loop-sign.sign-index)
 
 pub overflow_add-number : goal.overflow_add-number
-overflow_add-number c = omega (arith, c.type_inv.text c.loop-i.i)
+overflow_add-number c = omega (arith, c.type_inv.text c.loop-sign.sign-index)
 
 pub returns-then-number-gt4294967295 : goal.returns-then-number-gt4294967295
-returns-then-number-gt4294967295 c = let l = c.loop-i in
-    goes-past _ l.i _ _ l.invariant.1 _ c.is_from.ensures (omega arith) (ap not c.if-not-is_from.false) (omega arith)
+returns-then-number-gt4294967295 c = let l = c.loop-sign in
+    goes-past _ l.sign-index _ _ l.invariant.1 _ c.is_from.ensures (omega arith) (ap not c.if-not-is_from.false) (omega arith)
 
-pub loop-i-preserved : goal.loop-i-preserved
-loop-i-preserved c = (search rules, search (goes-more, rules))
+pub loop-sign-preserved : goal.loop-sign-preserved
+loop-sign-preserved c = (search rules, search (goes-more, rules))
 
 pub returns : goal.returns
 returns c = search (goes-all, rules)

@@ -1,13 +1,13 @@
 -- An empty text, a single sign and a longer text are the definition's three cases.
-use borrow.Author.Rules.{rules}
+use Rattle.std.proofs.Common.{arith}
 use Rattle.text.proofs.DecimalLaws.{well-none, well-one, well-many}
 use Rattle.text.proofs.starts_well.Goals as goal
 
-pub returns-then-text-eq0 : goal.returns-then-text-eq0
-returns-then-text-eq0 c = search (well-none, rules)
+pub returns-in-empty : goal.returns-in-empty
+returns-in-empty c = well-none _ (omega (arith, c.in-empty))
 
-pub returns-then-text-eq1 : goal.returns-then-text-eq1
-returns-then-text-eq1 c = search (well-one, rules)
+pub returns-in-len1 : goal.returns-in-len1
+returns-in-len1 c = well-one _ (omega (arith, c.in-len1))
 
-pub returns : goal.returns
-returns c = search (well-many, rules)
+pub returns-in-len1-up : goal.returns-in-len1-up
+returns-in-len1-up c = well-many _ (omega (arith, c.in-len1-up))
