@@ -48,10 +48,10 @@ pub fn gather(block: &[u8], line: &mut [u8], held: usize) -> Gathered
     ensures { Gathers block.now line.old held result line.new (block.now ∷ []) }
 {
     let size = text::place_of(b'\n', block);
-    let start = octets::least(held, line.len());
-    let count = octets::least(size, line.len() - start);
+    let start = held.min(line.len());
+    let count = size.min(line.len() - start);
     octets::store(line, start, &block[..count]);
-    let taken = octets::least(size + 1, block.len());
+    let taken = (size + 1).min(block.len());
     Gathered {
         taken,
         held: start + count,
@@ -176,7 +176,7 @@ pub fn serve(
                 communities,
             },
         ) => {
-            let count = octets::least(used, routes.len());
+            let count = used.min(routes.len());
             serve_announce(
                 &line[rule..rule_end],
                 originator,

@@ -3,13 +3,13 @@
 use mathlib.Core.Path.{◌≡◌, refl, sym, ap, ◌∙◌}
 use mathlib.Core.Bool.{Bool, true, false, ◌&&◌, and-true, and_assoc}
 use mathlib.Core.List.{List, [], ◌∷◌}
-use Prim.Native.Nat.{ℕ, zero, suc, ◌+◌, ◌<◌, ◌≤◌, compare, Ordering}
+use Prim.Native.Nat.{ℕ, zero, suc, ◌-◌, min, compare, Ordering}
 use native.Mathlib.Omega.{arith}
-use native.Mathlib.Numerals.{add-one}
 use lib.Bits.{bit_or, and_le_l, and_le_r, or_add_and}
 use lib.Dec.{eqb}
-use lib.ListN.{length, get_or, drop, replicate, drop_of_length-le}
-use lib.Seq.{drop-cons}
+use lib.ListN.{length, take, drop, replicate, length-drop}
+use lib.Seq.{take_all}
+use Rattle.std.specs.List.{fold}
 use borrow.Author.Tests.{eqb-true, eq-eqb}
 use Rattle.octets.specs.Order.{lex, ordered}
 use Rattle.octets.specs.Test.{every, all_zero, same_list}
@@ -17,6 +17,7 @@ use Rattle.octets.specs.declared.Order.{Order}
 use Rattle.octets.specs.declared.Order.TheVariants.{First, Second, Same}
 use Rattle.octets.proofs.Cases.{by-test, apart, both, same_test}
 use Rattle.octets.proofs.OrderLaws.{nat-order, lex-order}
+use Rattle.octets.proofs.StoreLaws.{drop-within}
 
 -- the first passes and so do the others
 pub every-both : {A : Type 0} (test : A → Bool) (x : A) (xs : List A) → every test (x ∷ xs) ≡ true → (test x ≡ true) × (every test xs ≡ true)
@@ -37,16 +38,17 @@ zero_or a b =
     let ts = both (eqb a 0) (eqb b 0) t in
     rw (eqb-true a 0 ts.0, eqb-true b 0 ts.1))
 
--- looking for a bit that is set, in one octet after another
-pub zero_more : (s : List ℕ) (i seen : ℕ) (t : Bool) → i < length s → t ≡ (eqb seen 0 && all_zero (drop i s))
-    → t ≡ (eqb (bit_or seen (get_or s i 0)) 0 && all_zero (drop (i + 1) s))
+-- looking for a bit that is set in any octet
+zero_fold : (s : List ℕ) (seen : ℕ) → eqb (fold bit_or seen s) 0 ≡ (eqb seen 0 && all_zero s)
 unfolding all_zero every
-zero_more s i seen t h e =
-    e ∙ rw (drop-cons s i 0 h, zero_or seen (get_or s i 0), add-one) (sym (and_assoc (eqb seen 0) (eqb (get_or s i 0) 0) (all_zero (drop (suc i) s))))
+zero_fold [] seen = sym (and-true (eqb seen 0))
+zero_fold (x ∷ s) seen = zero_fold s (bit_or seen x) ∙ rw (zero_or seen x) (and_assoc (eqb seen 0) (eqb x 0) (all_zero s))
 
-pub zero-all : (s : List ℕ) (i seen : ℕ) (t : Bool) → length s ≤ i → t ≡ (eqb seen 0 && all_zero (drop i s)) → eqb seen 0 ≡ t
-unfolding all_zero every
-zero-all s i seen t h e = sym (e ∙ rw (drop_of_length-le s h) (and-true (eqb seen 0)))
+pub zero-from : (s : List ℕ) (from start seen : ℕ) → start ≡ min from (length s) → seen ≡ fold bit_or 0 (take (length s - start) (drop start s))
+    → eqb seen 0 ≡ all_zero (drop from s)
+zero-from s from start seen is e =
+    let rest : take (length s - start) (drop start s) ≡ drop start s = take_all (length s - start) (drop start s) (simp length-drop (omega arith)) in
+    rw (e, rest, drop-within s from start is) (zero_fold (drop from s) 0)
 
 pub all-zero : (s : List ℕ) → all_zero s ≡ true → s ≡ replicate (length s) 0
 unfolding all_zero every

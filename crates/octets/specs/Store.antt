@@ -10,10 +10,6 @@ stored buffer at s = take at buffer ++ s ++ drop (at + length s) buffer
 unfoldable pub cleared : List ℕ → ℕ → List ℕ
 cleared buffer from = take from buffer ++ replicate (length buffer - from) 0
 
--- The buffer with all that follows the part moved down over it; the last `size` octets are left as they were.
-unfoldable pub moved_down : List ℕ → ℕ → ℕ → List ℕ
-moved_down buffer at size = take at buffer ++ (drop (at + size) buffer ++ drop (length buffer - size) buffer)
-
 -- The buffer without the part, all that follows moved down, and zeros at its end.
 unfoldable pub cut_out : List ℕ → ℕ → ℕ → List ℕ
 cut_out buffer at size = take at buffer ++ (drop (at + size) buffer ++ replicate size 0)

@@ -3,11 +3,11 @@
 #![tactic(auto)]
 
 ghost use Rattle.std.specs.Prelude.{◌≡◌, ◌++◌, length, get_or, take, drop};
-ghost use Prim.Native.Nat.{◌+◌, ◌<◌, ◌≤◌, ◌^◌, compare, min};
+ghost use Prim.Native.Nat.{◌+◌, ◌<◌, ◌≤◌, ◌^◌, compare};
 ghost use Rattle.octets.specs.Bit.{bit_if};
 ghost use Rattle.octets.specs.Number.{number_at, octets_of};
 ghost use Rattle.octets.specs.Order.{lex, ordered};
-ghost use Rattle.octets.specs.Store.{stored, cleared, moved_down, cut_out, gap_opened};
+ghost use Rattle.octets.specs.Store.{stored, cleared, cut_out, gap_opened};
 ghost use Rattle.octets.specs.Test.{all_zero, same_list};
 
 // Which of two comes first.
@@ -38,11 +38,8 @@ fn number_of(s: &[u8]) -> u64
     ensures { (result ≡ number_at (length s.now) s.now 0) × (result < 256 ^ length s.now) }
 {
     let mut number: u64 = 0;
-    let mut i = 0;
-    while i < s.len() {
-        let octet = s[i];
-        number = number * 256 + octet as u64;
-        i += 1;
+    for octet in s {
+        number = number * 256 + *octet as u64;
     }
     number
 }
@@ -61,13 +58,6 @@ pub fn number_at(n: usize, s: &[u8], at: usize) -> u64
     }
     let missing = end - s.len();
     number_of(&s[at..]) << (missing * 8)
-}
-
-// The lesser of two numbers.
-pub fn least(a: usize, b: usize) -> usize
-    ensures { result ≡ min a b }
-{
-    if a < b { a } else { b }
 }
 
 // Which of two numbers comes first: the lower.
@@ -123,11 +113,8 @@ pub fn store(buffer: &mut [u8], at: usize, s: &[u8])
     requires { at + length s.now ≤ length buffer.old }
     ensures { buffer.new ≡ stored buffer.old at s.now }
 {
-    let mut i = 0;
-    while i < s.len() {
-        let place = at + i;
-        buffer[place] = s[i];
-        i += 1;
+    for (i, octet) in s.iter().enumerate() {
+        buffer[at + i] = *octet;
     }
 }
 
@@ -137,12 +124,9 @@ pub fn write_number(n: usize, number: u64, buffer: &mut [u8], at: usize)
     ensures { buffer.new ≡ stored buffer.old at (octets_of n number) }
 {
     let mut rest = number;
-    let mut i = n;
-    while 0 < i {
-        i -= 1;
-        let place = at + i;
-        buffer[place] = (rest % 256) as u8;
-        rest = rest / 256;
+    for i in (0..n).rev() {
+        buffer[at + i] = (rest % 256) as u8;
+        rest /= 256;
     }
 }
 
@@ -150,25 +134,8 @@ pub fn write_number(n: usize, number: u64, buffer: &mut [u8], at: usize)
 pub fn clear(buffer: &mut [u8], from: usize)
     ensures { buffer.new ≡ cleared buffer.old from }
 {
-    let mut i = from;
-    while i < buffer.len() {
-        buffer[i] = 0;
-        i += 1;
-    }
-}
-
-// Moves all that follows the `size` octets at a place down over them.
-fn move_down(buffer: &mut [u8], at: usize, size: usize)
-    requires { at + size ≤ length buffer.old }
-    ensures { buffer.new ≡ moved_down buffer.old at size }
-{
-    let end = buffer.len() - size;
-    let mut i = at;
-    while i < end {
-        let from = i + size;
-        buffer[i] = buffer[from];
-        i += 1;
-    }
+    let start = from.min(buffer.len());
+    buffer[start..].fill(0);
 }
 
 // Takes the `size` octets at a place out of a buffer, and clears as many at its end.
@@ -176,7 +143,7 @@ pub fn cut_out(buffer: &mut [u8], at: usize, size: usize)
     requires { at + size ≤ length buffer.old }
     ensures { buffer.new ≡ cut_out buffer.old at size }
 {
-    move_down(buffer, at, size);
+    buffer.copy_within(at + size.., at);
     let end = buffer.len() - size;
     clear(buffer, end);
 }
@@ -186,24 +153,14 @@ pub fn open_gap(buffer: &mut [u8], at: usize, size: usize)
     requires { at + size ≤ length buffer.old }
     ensures { buffer.new ≡ gap_opened buffer.old at size }
 {
-    let gap_end = at + size;
-    let mut i = buffer.len();
-    while gap_end < i {
-        i -= 1;
-        let from = i - size;
-        buffer[i] = buffer[from];
-    }
+    let end = buffer.len() - size;
+    buffer.copy_within(at..end, at + size);
 }
 
 // Whether every octet from a place on is 0: whether no bit is set in any, so that no octet has to wait for the one before it.
 pub fn is_zero(s: &[u8], from: usize) -> bool
     ensures { result ≡ all_zero (drop from s.now) }
 {
-    let mut seen = 0;
-    let mut i = from;
-    while i < s.len() {
-        seen = seen | s[i];
-        i += 1;
-    }
-    seen == 0
+    let start = from.min(s.len());
+    s[start..].iter().fold(0, |seen, octet| seen | *octet) == 0
 }

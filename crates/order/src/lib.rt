@@ -138,8 +138,8 @@ fn compare_lists(family: Family, first: &[u8], second: &[u8]) -> Order
 fn compare_heads(family: Family, first: &[u8], second: &[u8]) -> Order
     ensures { result ≡ ordered (heads_order family first.now second.now) }
 {
-    let here = octets::least(family.head, first.len());
-    let there = octets::least(family.head, second.len());
+    let here = family.head.min(first.len());
+    let there = family.head.min(second.len());
     octets::compare_octets(&first[..here], &second[..there])
 }
 

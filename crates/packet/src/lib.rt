@@ -9,8 +9,8 @@ ghost use Rattle.packet.specs.Header6.{traffic_class, flow_label, address_at, ip
 ghost use Rattle.packet.specs.Transport.{transport_octets, has_ports, has_icmp, has_flags, transport_fields};
 ghost use Rattle.packet.specs.Packet.{fragment_data, ipv4_fields, ipv6_fields, reading_of, packet_of};
 
-use extension::Progress;
-use octets::{bit_if, least, number_at, octet_at};
+use extension::Ended;
+use octets::{bit_if, number_at, octet_at};
 use prefix::Address;
 use rule::Family;
 
@@ -122,7 +122,7 @@ fn transport_octets(octets: &[u8]) -> &[u8]
     let offset = field & 0x1fff;
     let total = number_at(2, octets, 2);
     let start = 4 * words as usize;
-    let end = least(octets.len(), total as usize);
+    let end = octets.len().min(total as usize);
     if offset != 0 {
         return &[];
     }
@@ -194,8 +194,8 @@ fn counted_octets(octets: &[u8]) -> &[u8]
     ensures { result.now ≡ counted octets.now }
 {
     let length = number_at(2, octets, 4) as usize + 40;
-    let end = least(octets.len(), length);
-    &octets[..end]
+    let end = octets.len().min(length);
+    &octets[0..end]
 }
 
 // The octets from the upper layer's first one on; none where it is not found or behind a fragment offset that is not 0.

@@ -27,13 +27,6 @@ pub struct Prefix {
     pub address: Address,
 }
 
-// By how much a number exceeds another, 0 where it does not.
-fn difference(n: u32, other: u32) -> u32
-    ensures { result ≡ n - other }
-{
-    if other < n { n - other } else { 0 }
-}
-
 // The mask of a word's lowest bits.
 fn low_mask(count: u32) -> u64
     ensures { result ≡ 2 ^ min count 64 - 1 }
@@ -65,7 +58,7 @@ fn agree_under(mask: u64, a: u64, b: u64) -> bool
 pub fn low_bits(count: u32, address: Address) -> Address
     ensures { address_of result ≡ address_of address % 2 ^ count }
 {
-    let high = address.high & low_mask(difference(count, 64));
+    let high = address.high & low_mask(count.saturating_sub(64));
     let low = address.low & low_mask(count);
     Address { high, low }
 }
@@ -77,13 +70,13 @@ pub fn same_bits(width: u8, from: u32, to: u32, a: Address, b: Address) -> bool
 {
     let bits = width as u32;
     if bits < 64 {
-        let mask = mask_between(difference(bits, from), difference(bits, to));
+        let mask = mask_between(bits.saturating_sub(from), bits.saturating_sub(to));
         return agree_under(mask, a.low, b.low);
     }
-    let highest = difference(bits, from);
-    let lowest = difference(bits, to);
+    let highest = bits.saturating_sub(from);
+    let lowest = bits.saturating_sub(to);
     let low = mask_between(highest, lowest);
-    let high = mask_between(difference(highest, 64), difference(lowest, 64));
+    let high = mask_between(highest.saturating_sub(64), lowest.saturating_sub(64));
     agree_under(high, a.high, b.high) & agree_under(low, a.low, b.low)
 }
 
@@ -123,13 +116,6 @@ pub fn compare_addresses(a: Address, b: Address) -> Order
     octets::compare_numbers(a.low as usize, b.low as usize)
 }
 
-// The lesser of two numbers.
-fn lesser(n: u32, other: u32) -> u32
-    ensures { result ≡ min n other }
-{
-    if other < n { other } else { n }
-}
-
 // Whether one of two prefixes contains the other: where they begin alike and have the same bits up to the end of the shorter one.
 pub fn are_nested(width: u8, first: Prefix, second: Prefix) -> bool
     ensures { result ≡ (contains width (pattern_of first) (pattern_of second) || contains width (pattern_of second) (pattern_of first)) }
@@ -137,7 +123,7 @@ pub fn are_nested(width: u8, first: Prefix, second: Prefix) -> bool
     if first.offset != second.offset {
         return false;
     }
-    let shared = lesser(first.length, second.length);
+    let shared = first.length.min(second.length);
     same_bits(width, first.offset, shared, first.address, second.address)
 }
 
@@ -161,7 +147,7 @@ fn word_at(count: usize, s: &[u8], at: usize) -> u64
     ensures { result ≡ number_at count s.now at }
 {
     let end = at + count;
-    let stop = octets::least(end, s.len());
+    let stop = end.min(s.len());
     if stop <= at {
         return 0;
     }
@@ -174,7 +160,7 @@ fn address_at(count: usize, s: &[u8], at: usize) -> Address
     requires { (count ≤ 16) × (at ≤ 2) }
     ensures { address_of result ≡ number_at count s.now at }
 {
-    let few = octets::least(count, 8);
+    let few = count.min(8);
     let rest = count - few;
     let high = word_at(rest, s, at);
     let low = word_at(few, s, at + rest);

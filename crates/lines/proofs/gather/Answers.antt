@@ -14,4 +14,4 @@ store-requires c = simp length-take (omega arith)
 
 pub returns : goal.returns
 returns c =
-    gathers _ _ _ _ _ _ _ c.place_of-size.ensures.0 c.least-start.ensures c.least-count.ensures c.store.ensures _ c.least-taken.ensures
+    gathers _ _ _ _ _ _ _ c.place_of-size.ensures.0 c.min-start.ensures c.min-count.ensures c.store.ensures _ c.min-taken.ensures

@@ -1,10 +1,14 @@
--- Clears: what is left to clear gives the same at every turn, and nothing is left at the end.
-use borrow.Author.Rules.{rules}
-use Rattle.octets.proofs.StoreLaws.{clear-more, clear-all}
+-- The part from the place on holds zeros.
+use Prim.Native.Nat.{◌-◌}
+use mathlib.Core.Path.{◌≡◌, refl}
+use native.Mathlib.Omega.{arith}
+use lib.ListN.{length, take, drop, length-take, length-drop}
+use Rattle.octets.proofs.StoreLaws.{put-cleared}
 use Rattle.octets.proofs.clear.Goals as goal
 
-pub loop-i-preserved : goal.loop-i-preserved
-loop-i-preserved c = search (clear-more, rules)
-
 pub returns : goal.returns
-returns c = search (clear-all, rules)
+returns c =
+    let b = c.args.buffer.now in
+    let start = c.min-start.result in
+    let size : length (take (length b - start) (drop start b)) ≡ length b - start = simp (length-take, length-drop) (omega arith) in
+    put-cleared _ _ _ _ _ c.min-start.ensures refl (rw size at (c.fill.ensures.after (λ y e. e)))
