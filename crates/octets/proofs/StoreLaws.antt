@@ -54,7 +54,7 @@ unfolding stored
 stored-none b at = rw (add-zero, append-nil) (take-append-drop at b)
 
 -- a place that may lie past the end, and the end in place of it
-pub take-within : (b : List ℕ) (from start : ℕ) → start ≡ min from (length b) → take start b ≡ take from b
+take-within : (b : List ℕ) (from start : ℕ) → start ≡ min from (length b) → take start b ≡ take from b
 take-within b from start e =
     elim (dec_lt (length b) from) [
       | yes l ↦ let k : start ≡ length b = omega arith in rw (k, take-length b, take_all from b (omega arith))

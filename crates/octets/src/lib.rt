@@ -108,7 +108,8 @@ pub fn same_octets(a: &[u8], b: &[u8]) -> bool
     }
 }
 
-// Stores octets in a buffer from a place on, and keeps the rest of the buffer.
+// Stores octets in a buffer from a place on, and keeps the rest of the buffer: one by one, since `copy_from_slice` asks the C library for
+// memmove.
 pub fn store(buffer: &mut [u8], at: usize, s: &[u8])
     requires { at + length s.now ≤ length buffer.old }
     ensures { buffer.new ≡ stored buffer.old at s.now }
