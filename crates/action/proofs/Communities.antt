@@ -1,18 +1,17 @@
 -- Laws of communities: the kind of each type, what a community of each kind adds, and what one community more adds.
-use Prim.Native.Nat.{ℕ, suc, ◌+◌, ◌-◌, ◌/◌, ◌%◌, ◌^◌, ◌<◌, ◌≤◌}
-use mathlib.Core.Path.{◌≡◌}
-use mathlib.Core.Bool.{Bool, true, false, cond, not, ◌||◌}
-use mathlib.Core.List.{List}
-use native.Mathlib.Nat.{sub-zero}
+use Prim.Native.Nat.{ℕ, zero, suc, ◌+◌, ◌/◌, ◌^◌, ◌<◌}
+use mathlib.Core.Path.{◌≡◌, refl, ap, ◌∙◌}
+use mathlib.Core.Bool.{Bool, true, false, cond, ◌||◌}
+use mathlib.Core.List.{List, ◌∷◌, ◌++◌}
+use native.Mathlib.Nat.{add_assoc}
 use native.Mathlib.Omega.{arith}
-use borrow.Author.Tests.{ne_eqb, ltb-false, eqb-true, not-false}
+use borrow.Author.Tests.{ne_eqb}
 use lib.Bits.{bit_and, and_mask}
-use lib.Dec.{ltb, eqb}
-use lib.ListN.{length}
+use lib.ListN.{length, length-append}
 use Rattle.std.proofs.Common.{Option, Some, None, option_and_then}
 use Rattle.octets.specs.Bit.{has}
 use Rattle.octets.specs.Number.{number_at}
-use Rattle.octets.proofs.Cases.{neither}
+use Rattle.octets.proofs.NumberLaws.{number_behind, number-before}
 use Rattle.rate.specs.declared.Rate.{Rate}
 use Rattle.rate.specs.Rate.{note_number}
 use Rattle.action.specs.declared.Actions.{Actions}
@@ -22,7 +21,7 @@ use Rattle.action.specs.declared.Kind.TheVariants.{ByteRate, PacketRate, Traffic
 use Rattle.action.specs.declared.Limit.{Limit}
 use Rattle.action.specs.Given.{given, first_of}
 use Rattle.action.specs.Limit.{limit, smaller_of}
-use Rattle.action.specs.Actions.{no_actions, is_redirect, rate_in, communities_at, wrong_length, actions_of}
+use Rattle.action.specs.Actions.{no_actions, is_redirect, rate_in, communities_at, communities_of, wrong_length, actions_of}
 use Rattle.action.specs.Reading.{kind_of, with_byte_rate, with_packet_rate, with_flags, with_marking, with_redirect, with_rate, with_kind, with_community, with_communities}
 use Rattle.action.proofs.ReadingLaws.{by-reading}
 
@@ -77,49 +76,47 @@ module _ (a : Actions) (c x : ℕ) (k : Kind) (here : x ≡ c) (kind : k ≡ kin
     unfolding with_kind
     skipped h b-is = known Other _ h (rw b-is)
 
--- How far the communities have been read: the actions so far and the rest give the whole answer.
-pub record Reached (s : List ℕ) (a : Actions) (at : ℕ) : Type 0 where
-  pub few : length s ≤ 512
-  pub within : at ≤ length s
-  pub whole : (length s - at) % 8 ≡ 0
-  pub goes_on : with_communities a (communities_at ((length s - at) / 8) s at) ≡ actions_of s
-
 -- A wrong length is refused.
 pub refused : (s : List ℕ) → wrong_length (length s) ≡ true → None ≡ actions_of s
 refused s h = rw (by-reading s, h)
 
+-- The communities behind the place where some octets end are those of the octets behind.
+communities-behind : (n : ℕ) (p s : List ℕ) (at : ℕ) → communities_at n (p ++ s) (length p + at) ≡ communities_at n s at
+unfolding communities_at
+communities-behind zero p s at = refl
+communities-behind (suc n) p s at = rw (number_behind 8 p s at, add_assoc, communities-behind n p s (at + 8))
+
+-- Octets with eight at their front hold the community in these, and those in the rest.
+communities-next : (s eight rest : List ℕ) → s ≡ eight ++ rest → length eight ≡ 8 → communities_of s ≡ number_at 8 eight 0 ∷ communities_of rest
+unfolding communities_at
+communities-next s eight rest e h =
+    let size : length s ≡ 8 + length rest = ap length e ∙ length-append eight rest ∙ ap (λ n. n + length rest) h in
+    let one_more : length s / 8 ≡ suc (length rest / 8) = omega arith in
+    rw (one_more, e, number-before 8 eight rest 0 (omega arith), ← communities-behind (length rest / 8) eight rest 0, h)
+
+-- What holds before each community: the actions so far and the communities in the rest give the whole answer.
+abbrev pub Reached : List ℕ → Actions → List ℕ → Type 0
+Reached s a rest = with_communities a (communities_of rest) ≡ actions_of s
+
 -- Before the first community.
-pub start : (s : List ℕ) (a : Actions) → wrong_length (length s) ≡ false → a ≡ no_actions → Reached s a 0
-start s a h e =
-    let both = neither (ltb 512 (length s)) (not (eqb (length s % 8) 0)) h in
-    record {
-      few = ltb-false 512 (length s) both.0;
-      within = omega arith;
-      whole = rw sub-zero (eqb-true (length s % 8) 0 (not-false (eqb (length s % 8) 0) both.1));
-      goes_on = rw (by-reading s, h, e, sub-zero);
-    }
+pub start : (s rest : List ℕ) (a : Actions) → rest ≡ s → wrong_length (length s) ≡ false → a ≡ no_actions → Reached s a rest
+start s rest a all h e = rw (all, by-reading s, h, e)
 
-module _ (s : List ℕ) (a : Actions) (at : ℕ) (reached : Reached s a at) where
+module _ (s : List ℕ) (a : Actions) (more : List ℕ) (reached : Reached s a more) where
   -- After the last community.
-  pub finished : length s ≤ at → Some a ≡ actions_of s
+  pub finished : length more < 8 → Some a ≡ actions_of s
   unfolding with_communities communities_at
-  finished h = let none : (length s - at) / 8 ≡ 0 = omega arith in rw none at reached.goes_on
+  finished h = let none : length more / 8 ≡ 0 = omega arith in rw none at reached
 
-  module _ (more : at < length s) where
-    first-of-rest : option_and_then (λ b. with_communities b (communities_at ((length s - (at + 8)) / 8) s (at + 8))) (with_community a (number_at 8 s at))
-        ≡ actions_of s
-    unfolding with_communities communities_at
-    first-of-rest =
-        let w = reached.whole in
-        let one_more : (length s - at) / 8 ≡ suc ((length s - (at + 8)) / 8) = omega arith in
-        rw one_more at reached.goes_on
+  module _ (eight rest : List ℕ) (cut : more ≡ eight ++ rest) (whole : length eight ≡ 8) where
+    first-of-more : option_and_then (λ b. with_communities b (communities_of rest)) (with_community a (number_at 8 eight 0)) ≡ actions_of s
+    unfolding with_communities
+    first-of-more = rw (communities-next more eight rest cut whole) at reached
 
     -- One community more.
-    pub next : (b : Actions) → with_community a (number_at 8 s at) ≡ Some b → Reached s b (at + 8)
-    next b h =
-        let w = reached.whole in
-        record { few = reached.few; within = omega arith; whole = omega arith; goes_on = rw h at first-of-rest }
+    pub next : (b : Actions) → with_community a (number_at 8 eight 0) ≡ Some b → Reached s b rest
+    next b h = rw h at first-of-more
 
     -- A community that is refused.
-    pub stopped : with_community a (number_at 8 s at) ≡ None → None ≡ actions_of s
-    stopped h = rw h at first-of-rest
+    pub stopped : with_community a (number_at 8 eight 0) ≡ None → None ≡ actions_of s
+    stopped h = rw h at first-of-more

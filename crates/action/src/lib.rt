@@ -168,9 +168,8 @@ pub fn actions_of(communities: &[u8]) -> Option<Actions>
         return None;
     }
     let mut actions = no_actions();
-    let mut at = 0;
-    while at < size {
-        let community = octets::number_at(8, communities, at);
+    for eight in communities.chunks_exact(8) {
+        let community = octets::number_at(8, eight, 0);
         match kind_of(community >> 48) {
             Kind::ByteRate => {
                 let rate = rate_in(community)?;
@@ -192,7 +191,6 @@ pub fn actions_of(communities: &[u8]) -> Option<Actions>
             }
             Kind::Other => {}
         }
-        at += 8;
     }
     Some(actions)
 }

@@ -11,13 +11,12 @@ use borrow.Author.Tests.{leb-true}
 use Rattle.octets.proofs.Cases.{by-test, apart}
 use Rattle.octets.specs.Walk.{Walk, before}
 use Rattle.rule.specs.declared.Family.{Family}
+use Rattle.rule.specs.declared.Refusal.{Refusal}
+use Rattle.rule.specs.declared.Refusal.TheVariants.{UnsoundTable}
+use Rattle.rule.specs.Refusal.{number_of, place_of}
 use Rattle.rule.specs.Value.{between}
-use Rattle.table.proofs.LeaveLaws.{was-sound, was-unsound}
-use Rattle.table.specs.declared.NextRecord.{NextRecord}
-use Rattle.table.specs.declared.NextRecord.TheVariants.{Nothing, Record, Unsound}
+use Rattle.table.proofs.LeaveLaws.{was-sound}
 use Rattle.rule.specs.Family.{ipv4}
-use Rattle.table.specs.declared.Soundness.{Soundness}
-use Rattle.table.specs.declared.Soundness.TheVariants.{Sound, Unsound as NotSound}
 use Rattle.table.specs.Walk.{record_at, records_from, records}
 use Rattle.table.specs.Sound.{most_octets, sound_table, soundness}
 use Rattle.table.proofs.WalkLaws.{was-found, records-more, records-end, records-unsound, records-ind}
@@ -29,6 +28,7 @@ use Rattle.text.proofs.HexLaws.{length-hex_of}
 use Rattle.text.proofs.PrintLaws.{laid-append, laid_none, length-laid}
 use Rattle.answers.specs.Answer.{answer_text, count_text, rule_text, rules_text, list_text, most_answer, least_record, most_text}
 use Rattle.answers.proofs.PrintLaws.{printed-then, count-short}
+use Rattle.std.proofs.Common.{Result, Ok, Err, Option, Some, None}
 
 -- the records from a place on
 abbrev pub records_left : List ℕ → ℕ → List (List ℕ)
@@ -36,14 +36,15 @@ records_left t at = (records_from t at).items
 
 -- how the records go on, and how they end
 module _ (t : List ℕ) (at : ℕ) where
-  pub left-more : (next : ℕ) → record_at t at ≡ Record next → records_left t at ≡ between t at next ∷ records_left t next
+  pub left-more : (next : ℕ) → record_at t at ≡ Ok (Some next) → records_left t at ≡ between t at next ∷ records_left t next
   left-more next e = ap (λ w. w.items) (records-more t at next e)
 
-  -- what is found there is no record
-  pub left-none : (found : NextRecord) → found ≡ record_at t at → ((next : ℕ) → found ≡ Record next → ⊥) → records_left t at ≡ []
-  left-none Nothing e h = ap (λ w. w.items) (records-end t at (sym e))
-  left-none Unsound e h = ap (λ w. w.items) (records-unsound t at (sym e))
-  left-none (Record next) e h = absurd (h next refl)
+  -- nothing is found there, or what is no record
+  pub left-end : (result : Result (Option ℕ) Refusal) → result ≡ record_at t at → (found : Option ℕ) → result ≡ Ok found → found ≡ None → records_left t at ≡ []
+  left-end result is found e n = ap (λ w. w.items) (records-end t at (sym is ∙ e ∙ ap (λ f. Ok f) n))
+
+  pub left-unsound : (result : Result (Option ℕ) Refusal) → result ≡ record_at t at → (refusal : Refusal) → result ≡ Err refusal → records_left t at ≡ []
+  left-unsound result is refusal e = ap (λ w. w.items) (records-unsound t at refusal (sym is ∙ e))
 
 -- so many records are counted, and those from a place on are left
 pub record Counting (t : List ℕ) (at count : ℕ) : Type 0 where
@@ -59,7 +60,7 @@ module _ (t : List ℕ) (at count : ℕ) (counting : Counting t at count) where
   pub count-done : records_left t at ≡ [] → (count ≡ length (records t)) × (count ≤ length t)
   count-done e = let few = counting.few in let within = counting.within in (sym (counting.is ∙ rw e (add-zero count)), omega arith)
 
-  pub count-more : (next : ℕ) → record_at t at ≡ Record next → Counting t next (count + 1)
+  pub count-more : (next : ℕ) → record_at t at ≡ Ok (Some next) → Counting t next (count + 1)
   count-more next e =
       let f = was-found t at next e in
       let i = counting.is in
@@ -83,7 +84,7 @@ records-short : (t : List ℕ) → Short t 0 (records_from t 0)
 unfolding rules_text
 records-short t = records-ind t (Short t) (λ at e h. (omega arith, omega arith)) (λ at e h. (omega arith, omega arith)) more 0
   where
-    more : (at next : ℕ) (w : Walk (List ℕ) Bool) → record_at t at ≡ Record next → Short t next w → Short t at (before (between t at next) w)
+    more : (at next : ℕ) (w : Walk (List ℕ) Bool) → record_at t at ≡ Ok (Some next) → Short t next w → Short t at (before (between t at next) w)
     more at next w e rest h =
         let f = was-found t at next e in
         let size = f.size in
@@ -119,7 +120,7 @@ module _ (t out : List ℕ) (at place : ℕ) (now : List ℕ) (end : ℕ) (print
   pub print-within : length t ≤ most_octets → at ≤ most_answer → end ≤ most_text most_octets
   print-within h k = let counts = printing.counts in omega (arith, rules-short t)
 
-  pub print-more : (next : ℕ) → record_at t place ≡ Record next → (then : List ℕ) (stop : ℕ) → Printed now end (rule_text (between t place next)) then stop
+  pub print-more : (next : ℕ) → record_at t place ≡ Ok (Some next) → (then : List ℕ) (stop : ℕ) → Printed now end (rule_text (between t place next)) then stop
       → Printing t out at next then stop
   unfolding rules_text
   print-more next e then stop p =
@@ -143,25 +144,28 @@ list-fits t h =
     rw (length-append (count_text (length (records t))) (rules_text (records t))) (omega (arith, count-short (length (records t)) (omega arith)))
 
 -- the table's text: a count and the records, or the answer for an unsound table
-module _ (t : List ℕ) (family : Family) (four : family ≡ ipv4) (sound : Soundness) (told : sound ≡ soundness family t) where
+module _ (t : List ℕ) (family : Family) (four : family ≡ ipv4) (sound : Result ℕ Refusal) (told : sound ≡ soundness family t) where
   is : sound ≡ soundness ipv4 t
   is = rw four at told
 
-  pub list-unsound : sound ≡ NotSound → list_text t ≡ answer_text 10 0
-  unfolding list_text
-  list-unsound e = rw (was-unsound ipv4 t sound is e)
+  pub list-unsound : (refusal : Refusal) → sound ≡ Err refusal → list_text t ≡ answer_text (number_of refusal) (place_of refusal)
+  unfolding list_text soundness
+  list-unsound refusal e =
+      let found : Err refusal ≡ soundness ipv4 t = sym e ∙ is in
+      by-test (sound_table ipv4 t) (λ h. let z = rw h at found in apart (cc))
+      (λ h. let z = rw h at found in let r : UnsoundTable ≡ refusal = cc in rw (h, ← r))
 
-  pub list-sound : (used : ℕ) → sound ≡ Sound used → (count : ℕ) → count ≡ length (records t) → (out middle : List ℕ) (start : ℕ) → Printed out 0 (count_text count) middle start
+  pub list-sound : (used : ℕ) → sound ≡ Ok used → (count : ℕ) → count ≡ length (records t) → (out middle : List ℕ) (start : ℕ) → Printed out 0 (count_text count) middle start
       → (exit : List ℕ) (next : ℕ) → Printed middle start (rules_text (records t)) exit next → Printed out 0 (list_text t) exit next
   unfolding list_text
   list-sound used e count c out middle start p exit next q = rw ((was-sound ipv4 t sound is used e).0, ← c) (printed-then _ _ _ _ _ _ _ _ p q)
 
-  pub list-short : (used : ℕ) → sound ≡ Sound used → length t ≤ most_octets
+  pub list-short : (used : ℕ) → sound ≡ Ok used → length t ≤ most_octets
   unfolding sound_table
   list-short used e =
       let z = (was-sound ipv4 t sound is used e).0 in
       by-test (leb (length t) most_octets) (λ h. leb-true (length t) most_octets h) (λ h. let f : false ≡ true = rw h at z in apart (cc))
 
-  pub list-within : (used : ℕ) → sound ≡ Sound used → length (list_text t) ≤ most_text (length t)
+  pub list-within : (used : ℕ) → sound ≡ Ok used → length (list_text t) ≤ most_text (length t)
   unfolding list_text
   list-within used e = rw (was-sound ipv4 t sound is used e).0 (list-fits t (list-short used e))

@@ -9,7 +9,6 @@ ghost use Rattle.text.specs.Print.{Printed};
 ghost use Rattle.answers.specs.Answer.{place_text, answer_text, unknown_text, count_text, rule_text, rules_text, list_text, most_answer, most_text, Answered};
 
 use rule::AddressFamily;
-use table::{NextRecord, Soundness};
 
 // No answer has more octets than these, which `most_answer` in specs/Answer.antt counts.
 pub const MOST_ANSWER: usize = 32;
@@ -60,7 +59,7 @@ fn count_records(table: &[u8]) -> usize
     let mut at: usize = 0;
     let mut count: usize = 0;
     loop {
-        let NextRecord::Record(next) = table::record_at(table, at) else {
+        let Ok(Some(next)) = table::record_at(table, at) else {
             return count;
         };
         count += 1;
@@ -96,7 +95,7 @@ fn put_records(table: &[u8], out: &mut [u8], at: usize) -> usize
     let mut place: usize = 0;
     let mut end = at;
     loop {
-        let NextRecord::Record(next) = table::record_at(table, place) else {
+        let Ok(Some(next)) = table::record_at(table, place) else {
             return end;
         };
         end = put_record(out, end, &table[place..next]);
@@ -109,8 +108,8 @@ pub fn put_list(out: &mut [u8], table: &[u8]) -> usize
     ensures { Answered (most_text (length table.now)) out.old (list_text table.now) out.new result }
 {
     match table::sound_table(rule::family_of(AddressFamily::Ipv4), table) {
-        Soundness::Unsound => put_answer(out, 10, 0),
-        Soundness::Sound(_) => {
+        Err(refusal) => put_answer(out, refusal.number(), refusal.place()),
+        Ok(_) => {
             let count = count_records(table);
             let start = put_count(out, count);
             put_records(table, out, start)

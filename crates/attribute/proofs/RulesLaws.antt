@@ -15,21 +15,22 @@ use Rattle.octets.proofs.Cases.{by-test, apart}
 use Rattle.octets.proofs.Facts.{Octets}
 use Rattle.octets.proofs.WalkLaws.{walk-stop, walk_more, walk-ind}
 use Rattle.rule.specs.declared.Family.{Family}
-use Rattle.rule.specs.declared.Checked.{Checked}
-use Rattle.rule.specs.declared.Checked.TheVariants.{Accepted, Refused as RefusedRule}
-use Rattle.rule.specs.declared.Reading.{Reading}
-use Rattle.rule.specs.declared.Reading.TheVariants.{Rule, Refused as NotRead}
 use Rattle.rule.specs.Value.{between, check_value}
 use Rattle.rule.specs.Reading.{field_size, field_length, value_in, first_rule, one_rule}
 use Rattle.rule.proofs.ReadingLaws.{some-field, front-size, front_length, ReadRule, rule-read, read-accepted, alone-whole}
 use Rattle.rule.proofs.ComponentsLaws.{octets-between}
-use Rattle.attribute.specs.declared.NextRule.{NextRule}
-use Rattle.attribute.specs.declared.NextRule.TheVariants.{Nothing, Another, Refused}
 use Rattle.attribute.specs.Rules.{rule_from, rule_at, rule_step, rules_from}
+use Rattle.std.proofs.Common.{Result, Ok, Err, Option, Some, None}
+use Rattle.rule.specs.declared.Refusal.{Refusal}
+use Rattle.rule.specs.declared.Refusal.TheVariants.{Overlong}
+use Rattle.rule.specs.declared.Span.{Span}
+use Rattle.attribute.specs.declared.RulePlace.{RulePlace}
+use Rattle.rule.specs.Reading.{span}
+use Rattle.attribute.specs.Rules.{rule_place}
 
 -- a rule that is lent alone is read as it stands
 abbrev pub ReadAlone : Family → List ℕ → Type 0
-ReadAlone family rule = one_rule family rule ≡ Rule (field_size rule) (field_length rule)
+ReadAlone family rule = one_rule family rule ≡ Ok (span (field_size rule) (field_length rule))
 
 -- the octets of a rule that was read, cut off behind it: they have its value, and are that rule alone
 module _ (family : Family) (s : List ℕ) (start size : ℕ) (read : ReadRule family s start size) where
@@ -53,14 +54,14 @@ module _ (family : Family) (s : List ℕ) (start size : ℕ) (read : ReadRule fa
   pub front-value : value_in front ≡ take size (drop start s)
   front-value = rw (start_is, size_is) value-is
 
-  front-accepted : Accepted ≡ check_value family (take (start + size - start) (drop start front))
+  front-accepted : Ok tt ≡ check_value family (take (start + size - start) (drop start front))
   front-accepted = rw (add-sub_cancel_left start size, value-is) (sym read.accepted)
 
   pub front-alone : ReadAlone family front
   front-alone =
       let n : start + size ≡ length front = sym (length-take-le (start + size) s read.inside) in
-      let one = read-accepted family front start size (sym start_is) (sym size_is) Accepted front-accepted (omega arith) refl in
-      rw (start_is, size_is) (sym (alone-whole family front (Rule start size) one start size refl n))
+      let one = read-accepted family front start size (sym start_is) (sym size_is) (Ok tt) front-accepted (omega arith) refl in
+      rw (start_is, size_is) (sym (alone-whole family front (Ok (span start size)) one start size refl n))
 
 -- ---- what stands at a place ----
 
@@ -74,10 +75,10 @@ pub record Stands (family : Family) (a : List ℕ) (at start end : ℕ) : Type 0
   pub read : ReadRule family (drop at a) field size
 
 -- what each answer says of the place
-abbrev pub Says : Family → List ℕ → ℕ → NextRule → Type 0
-Says family a at Nothing = length a ≤ at
-Says family a at (Another start end) = Stands family a at start end
-Says family a at (Refused number place) = (at < length a) × (first_rule family (drop at a) ≡ NotRead number place)
+abbrev pub Says : Family → List ℕ → ℕ → Result (Option RulePlace) Refusal → Type 0
+Says family a at (Ok None) = length a ≤ at
+Says family a at (Ok (Some found)) = Stands family a at found.start found.end
+Says family a at (Err refusal) = (at < length a) × (first_rule family (drop at a) ≡ Err refusal)
 
 module _ (family : Family) (a : List ℕ) (at : ℕ) where
   pub place-says : Says family a at (rule_at family a at)
@@ -85,32 +86,33 @@ module _ (family : Family) (a : List ℕ) (at : ℕ) where
   place-says =
       by-test (leb (length a) at) (λ t. rw t (leb-true _ _ t)) (λ t. rw t (go (leb-false _ _ t) (first_rule family (drop at a)) refl))
     where
-      go : at < length a → (r : Reading) → first_rule family (drop at a) ≡ r → Says family a at (rule_from at r)
-      go h (Rule field size) e =
-          record { inside = h; field = field; size = size; starts = refl; ends = refl; read = rule-read family (drop at a) field size e }
-      go h (NotRead number place) e = (h, e)
+      go : at < length a → (r : Result Span Refusal) → first_rule family (drop at a) ≡ r → Says family a at (rule_from at r)
+      go h (Ok read) e =
+          record { inside = h; field = read.start; size = read.size; starts = refl; ends = refl; read = rule-read family (drop at a) read.start read.size e }
+      go h (Err refusal) e = (h, e)
 
-  pub says : (next : NextRule) → rule_at family a at ≡ next → Says family a at next
+  pub says : (next : Result (Option RulePlace) Refusal) → rule_at family a at ≡ next → Says family a at next
   says next e = subst (Says family a at) e place-says
 
   -- how `rule_at` comes to each of its answers
-  pub at-end : length a ≤ at → Nothing ≡ rule_at family a at
+  pub at-end : length a ≤ at → Ok None ≡ rule_at family a at
   unfolding rule_at
   at-end h = rw (le-leb _ _ h)
 
-  module _ (inside : at < length a) (reading : Reading) (reads : reading ≡ first_rule family (take (length a - at) (drop at a))) where
+  module _ (inside : at < length a) (reading : Result Span Refusal) (reads : reading ≡ first_rule family (take (length a - at) (drop at a))) where
     is : reading ≡ first_rule family (drop at a)
     is = reads ∙ ap (first_rule family) (take_all (length a - at) (drop at a) (omega (arith, length-drop at a)))
 
-    pub at-rule : (start size : ℕ) → reading ≡ Rule start size → Another (at + start) (at + start + size) ≡ rule_at family a at
+    pub at-rule : (start size : ℕ) → reading ≡ Ok (span start size)
+        → Ok (Some (rule_place (at + start) (at + start + size))) ≡ rule_at family a at
     unfolding rule_at
     at-rule start size e = rw (lt-leb _ _ inside, ← is, e)
 
-    pub at-refused : (number place : ℕ) → reading ≡ NotRead number place → Refused number place ≡ rule_at family a at
+    pub at-refused : (refusal : Refusal) → reading ≡ Err refusal → Err refusal ≡ rule_at family a at
     unfolding rule_at
-    at-refused number place e = rw (lt-leb _ _ inside, ← is, e)
+    at-refused refusal e = rw (lt-leb _ _ inside, ← is, e)
 
-    pub at-within : (start size : ℕ) → reading ≡ Rule start size → at + start + size ≤ length a
+    pub at-within : (start size : ℕ) → reading ≡ Ok (span start size) → at + start + size ≤ length a
     at-within start size e = omega (arith, (rule-read family (drop at a) start size (sym is ∙ e)).inside, length-drop at a)
 
 -- a rule of an attribute: where it stands, its value, and that it is read when its octets are lent alone
@@ -119,11 +121,12 @@ pub record RuleThere (family : Family) (a : List ℕ) (at start end : ℕ) : Typ
   pub ordered : start ≤ end
   pub within : end ≤ length a
   pub value : value_in (between a at end) ≡ between a start end
-  pub accepted : check_value family (between a start end) ≡ Accepted
+  pub accepted : check_value family (between a start end) ≡ Ok tt
   pub alone : ReadAlone family (between a at end)
 
-pub rule-there : (family : Family) (a : List ℕ) (at start end : ℕ) → rule_at family a at ≡ Another start end → RuleThere family a at start end
-rule-there family a at start end e = go (says family a at (Another start end) e)
+pub rule-there : (family : Family) (a : List ℕ) (at start end : ℕ) → rule_at family a at ≡ Ok (Some (rule_place start end))
+    → RuleThere family a at start end
+rule-there family a at start end e = go (says family a at (Ok (Some (rule_place start end))) e)
   where
     go : Stands family a at start end → RuleThere family a at start end
     go s =
@@ -151,69 +154,74 @@ module _ (family : Family) (a : List ℕ) where
   falls : (i j : ℕ) (r : List ℕ) → rule_step a i (rule_at family a i) ≡ more r j → length a - j < length a - i
   falls i j r = go (rule_at family a i) refl
     where
-      go : (x : NextRule) → rule_at family a i ≡ x → rule_step a i x ≡ more r j → length a - j < length a - i
-      go Nothing e q = apart (cc)
-      go (Another start end) e q =
-          let there = rule-there family a i start end e in
-          let s : end ≡ j = cc in
+      go : (x : Result (Option RulePlace) Refusal) → rule_at family a i ≡ x → rule_step a i x ≡ more r j → length a - j < length a - i
+      go (Ok None) e q = apart (cc)
+      go (Ok (Some found)) e q =
+          let there = rule-there family a i found.start found.end e in
+          let s : found.end ≡ j = cc in
           omega (arith, there.begins, there.ordered, there.within)
-      go (Refused number place) e q = apart (cc)
+      go (Err refusal) e q = apart (cc)
 
   -- what holds at the end and at a refusal, and before a rule where it holds behind it, holds of the rules from every place on
-  pub rules-ind : (P : ℕ → Walk (List ℕ) Checked → Type 0)
-      → ((at : ℕ) → rule_at family a at ≡ Nothing → P at (record { items = []; ending = Accepted }))
-      → ((at number place : ℕ) → rule_at family a at ≡ Refused number place → P at (record { items = []; ending = RefusedRule number place }))
-      → ((at start end : ℕ) (w : Walk (List ℕ) Checked) → rule_at family a at ≡ Another start end → P end w → P at (before (between a at end) w))
+  pub rules-ind : (P : ℕ → Walk (List ℕ) (Result Unit Refusal) → Type 0)
+      → ((at : ℕ) → rule_at family a at ≡ Ok None → P at (record { items = []; ending = Ok tt }))
+      → ((at : ℕ) (refusal : Refusal) → rule_at family a at ≡ Err refusal → P at (record { items = []; ending = Err refusal }))
+      → ((at start end : ℕ) (w : Walk (List ℕ) (Result Unit Refusal)) → rule_at family a at ≡ Ok (Some (rule_place start end)) → P end w
+      → P at (before (between a at end) w))
       → (at : ℕ) → P at (rules_from family a at)
   unfolding rules_from
   rules-ind P ends refused goes at =
-      walk-ind (RefusedRule 1 0) (λ i. rule_step a i (rule_at family a i)) (λ i. length a - i) falls P (λ i e q. stops i e (rule_at family a i) refl q)
+      walk-ind (Err Overlong) (λ i. rule_step a i (rule_at family a i)) (λ i. length a - i) falls P (λ i e q. stops i e (rule_at family a i) refl q)
       (λ i r e q. lasts i r e (rule_at family a i) q) (λ i j r w q h. mores i j r w (rule_at family a i) refl q h) (length a + 1) at (omega arith)
     where
-      stops : (i : ℕ) (e : Checked) (x : NextRule) → rule_at family a i ≡ x → rule_step a i x ≡ stop e → P i (record { items = []; ending = e })
-      stops i e Nothing f q = let s : Accepted ≡ e = cc in rw (← s) (ends i f)
-      stops i e (Another start end) f q = apart (cc)
-      stops i e (Refused number place) f q = let s : RefusedRule number place ≡ e = cc in rw (← s) (refused i number place f)
+      stops : (i : ℕ) (e : Result Unit Refusal) (x : Result (Option RulePlace) Refusal) → rule_at family a i ≡ x
+          → rule_step a i x ≡ stop e → P i (record { items = []; ending = e })
+      stops i e (Ok None) f q = let s : Ok tt ≡ e = cc in rw (← s) (ends i f)
+      stops i e (Ok (Some found)) f q = apart (cc)
+      stops i e (Err refusal) f q = let s : Err refusal ≡ e = cc in rw (← s) (refused i refusal f)
 
-      lasts : (i : ℕ) (r : List ℕ) (e : Checked) (x : NextRule) → rule_step a i x ≡ last r e → P i (record { items = r ∷ []; ending = e })
-      lasts i r e Nothing q = apart (cc)
-      lasts i r e (Another start end) q = apart (cc)
-      lasts i r e (Refused number place) q = apart (cc)
+      lasts : (i : ℕ) (r : List ℕ) (e : Result Unit Refusal) (x : Result (Option RulePlace) Refusal) → rule_step a i x ≡ last r e
+          → P i (record { items = r ∷ []; ending = e })
+      lasts i r e (Ok None) q = apart (cc)
+      lasts i r e (Ok (Some found)) q = apart (cc)
+      lasts i r e (Err refusal) q = apart (cc)
 
-      mores : (i j : ℕ) (r : List ℕ) (w : Walk (List ℕ) Checked) (x : NextRule) → rule_at family a i ≡ x → rule_step a i x ≡ more r j → P j w
+      mores : (i j : ℕ) (r : List ℕ) (w : Walk (List ℕ) (Result Unit Refusal)) (x : Result (Option RulePlace) Refusal)
+          → rule_at family a i ≡ x → rule_step a i x ≡ more r j → P j w
           → P i (before r w)
-      mores i j r w Nothing f q h = apart (cc)
-      mores i j r w (Another start end) f q h =
-          let s : end ≡ j = cc in
-          let u : between a i end ≡ r = cc in
-          rw (← u) (goes i start end w f (rw s h))
-      mores i j r w (Refused number place) f q h = apart (cc)
+      mores i j r w (Ok None) f q h = apart (cc)
+      mores i j r w (Ok (Some found)) f q h =
+          let s : found.end ≡ j = cc in
+          let u : between a i found.end ≡ r = cc in
+          rw (← u) (goes i found.start found.end w f (rw s h))
+      mores i j r w (Err refusal) f q h = apart (cc)
 
   module _ (at : ℕ) where
-    pub rules-end : rule_at family a at ≡ Nothing → rules_from family a at ≡ record { items = []; ending = Accepted }
+    pub rules-end : rule_at family a at ≡ Ok None → rules_from family a at ≡ record { items = []; ending = Ok tt }
     unfolding rules_from
-    rules-end e = walk-stop (RefusedRule 1 0) (λ i. rule_step a i (rule_at family a i)) (length a + 1) at Accepted (omega arith) (ap (rule_step a at) e)
+    rules-end e = walk-stop (Err Overlong) (λ i. rule_step a i (rule_at family a i)) (length a + 1) at (Ok tt) (omega arith) (ap (rule_step a at) e)
 
-    pub rules-refused : (number place : ℕ) → rule_at family a at ≡ Refused number place
-        → rules_from family a at ≡ record { items = []; ending = RefusedRule number place }
+    pub rules-refused : (refusal : Refusal) → rule_at family a at ≡ Err refusal
+        → rules_from family a at ≡ record { items = []; ending = Err refusal }
     unfolding rules_from
-    rules-refused number place e =
-        walk-stop (RefusedRule 1 0) (λ i. rule_step a i (rule_at family a i)) (length a + 1) at (RefusedRule number place) (omega arith)
+    rules-refused refusal e =
+        walk-stop (Err Overlong) (λ i. rule_step a i (rule_at family a i)) (length a + 1) at (Err refusal) (omega arith)
         (ap (rule_step a at) e)
 
-    pub rules-next : (start end : ℕ) → rule_at family a at ≡ Another start end → rules_from family a at ≡ before (between a at end) (rules_from family a end)
+    pub rules-next : (start end : ℕ) → rule_at family a at ≡ Ok (Some (rule_place start end))
+        → rules_from family a at ≡ before (between a at end) (rules_from family a end)
     unfolding rules_from
     rules-next start end e =
-        walk_more (RefusedRule 1 0) (λ i. rule_step a i (rule_at family a i)) (λ i. length a - i) falls (length a + 1) at end (between a at end)
+        walk_more (Err Overlong) (λ i. rule_step a i (rule_at family a i)) (λ i. length a - i) falls (length a + 1) at end (between a at end)
         (omega arith) (ap (rule_step a at) e)
 
 -- all rules before the first that is refused are read when they are lent alone
 pub each-alone : (family : Family) (a : List ℕ) (at : ℕ) → Each (ReadAlone family) (rules_from family a at).items
 each-alone family a =
-    rules-ind family a (λ at w. Each (ReadAlone family) w.items) (λ at e. tt) (λ at number place e. tt)
+    rules-ind family a (λ at w. Each (ReadAlone family) w.items) (λ at e. tt) (λ at refusal e. tt)
     (λ at start end w e h. ((rule-there family a at start end e).alone, h))
 
 pub each-octets : (family : Family) (a : List ℕ) (at : ℕ) → Octets a → Each Octets (rules_from family a at).items
 each-octets family a at o =
-    rules-ind family a (λ at w. Each Octets w.items) (λ at e. tt) (λ at number place e. tt)
+    rules-ind family a (λ at w. Each Octets w.items) (λ at e. tt) (λ at refusal e. tt)
     (λ at start end w e h. (octets-between a at end o, h)) at

@@ -9,7 +9,7 @@ ghost use Rattle.attribute.specs.Rules.{rule_at, rules_from};
 ghost use Rattle.attribute.specs.Count.{count_of};
 
 use octets::{number_at, octet_at};
-use rule::{Family, Reading};
+use rule::{Family, Refusal};
 
 // The SAFI of flow rules.
 const FLOW_SAFI: u8 = 133;
@@ -20,19 +20,11 @@ pub const REACH_HEAD: usize = 5;
 // The octets before the rules of an unreach: AFI, SAFI.
 pub const UNREACH_HEAD: usize = 3;
 
-// What stands at a place of an attribute: nothing more, another rule by where its value starts and ends, or a refusal.
+// Where the value of a rule stands in an attribute: its first place, and the place behind it.
 #[derive(Clone, Copy)]
-pub enum NextRule {
-    Nothing,
-    Another { start: usize, end: usize },
-    Refused { number: u8, place: usize },
-}
-
-// How many rules an attribute has, or a refusal.
-#[derive(Clone, Copy)]
-pub enum Counted {
-    Rules(usize),
-    Refused { number: u8, place: usize },
+pub struct RulePlace {
+    pub start: usize,
+    pub end: usize,
 }
 
 // ---- The head (RFC 4760 sections 3 and 4) ----
@@ -74,42 +66,27 @@ pub fn is_unreach(family: Family, attribute: &[u8]) -> bool
 // ---- The rules (RFC 8955 section 4) ----
 
 // What stands at a place of an attribute.
-pub fn rule_at(family: Family, attribute: &[u8], at: usize) -> NextRule
+pub fn rule_at(family: Family, attribute: &[u8], at: usize) -> Result<Option<RulePlace>, Refusal>
     ensures { result ≡ rule_at family attribute.now at }
 {
     if attribute.len() <= at {
-        return NextRule::Nothing;
+        return Ok(None);
     }
-    match rule::first_rule(family, &attribute[at..]) {
-        Reading::Rule { start, size } => {
-            let begin = at + start;
-            NextRule::Another {
-                start: begin,
-                end: begin + size,
-            }
-        }
-        Reading::Refused { number, place } => NextRule::Refused { number, place },
-    }
+    let rule = rule::first_rule(family, &attribute[at..])?;
+    let start = at + rule.start;
+    let end = start + rule.size;
+    Ok(Some(RulePlace { start, end }))
 }
 
 // Counts the rules of an attribute from a place on; the first that is not accepted refuses them.
-pub fn count_rules(family: Family, attribute: &[u8], from: usize) -> Counted
+pub fn count_rules(family: Family, attribute: &[u8], from: usize) -> Result<usize, Refusal>
     ensures { result ≡ count_of (rules_from family attribute.now from) }
 {
     let mut at = from;
     let mut count: usize = 0;
-    loop {
-        match rule_at(family, attribute, at) {
-            NextRule::Nothing => {
-                return Counted::Rules(count);
-            }
-            NextRule::Another { start: _, end } => {
-                at = end;
-                count += 1;
-            }
-            NextRule::Refused { number, place } => {
-                return Counted::Refused { number, place };
-            }
-        }
+    while let Some(rule) = rule_at(family, attribute, at)? {
+        at = rule.end;
+        count += 1;
     }
+    Ok(count)
 }

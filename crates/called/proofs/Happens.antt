@@ -6,12 +6,11 @@ use mathlib.Core.List.{List, [], ◌∷◌, map}
 use Prim.Native.Nat.{ℕ, ◌≤◌}
 use Rattle.octets.specs.Test.{Each}
 use Rattle.rule.specs.declared.Family.{Family}
+use Rattle.rule.specs.declared.Refusal.{Refusal}
 use Rattle.route.specs.declared.Origin.{Origin}
 use Rattle.route.specs.declared.Settings.{Settings}
 use Rattle.table.specs.Sound.{most_octets}
 use Rattle.request.specs.Input.{announcement_of, policy_of}
-use Rattle.flowspec.specs.declared.Withdrawn.{Withdrawn}
-use Rattle.flowspec.specs.declared.Withdrawn.TheVariants.{Done, Refused as NotWithdrawn}
 use Rattle.flowspec.specs.Told.{Told, announced_told, withdrawn_told}
 use Rattle.update.specs.Singles.{reach_of}
 use Rattle.update.specs.Apply.{reached_told, unreached_told}
@@ -24,6 +23,7 @@ use Rattle.calls.specs.Promise.{AnnounceCall, WithdrawCall, ReachCall, UnreachCa
 use Rattle.calls.proofs.CallLaws.{Tells, with_out, reaches, unreaches, announces, withdraws}
 use Rattle.called.specs.History.{answered, Returned, WholeReturned, AllReturned, out_lent, as_called, called_of}
 use Rattle.called.proofs.HistoryLaws.{returned-happened, returned-holds}
+use Rattle.std.proofs.Common.{Result, Ok, Err}
 
 -- ---- what a call ensures is what a history asks of it ----
 
@@ -83,9 +83,9 @@ told-tells : {A : Type 0} (tells : A → Told) (a b : A) → a ≡ b → (out : 
 told-tells {A} tells a b e out = record { is = ap (λ (x : A). word_of (tells x)) e; out = ap (λ (x : A). out_after (tells x) out) e }
 
 -- a withdrawal has no value
-no-values : (answer : Withdrawn) → out_after (withdrawn_told answer) [] ≡ []
-no-values Done = refl
-no-values (NotWithdrawn number place) = refl
+no-values : (answer : Result Unit Refusal) → out_after (withdrawn_told answer) [] ≡ []
+no-values (Ok _) = refl
+no-values (Err refusal) = refl
 
 module _ (family : Family) where
   -- what is promised at the door is what a call in words returns, with the answer's word
@@ -97,7 +97,7 @@ module _ (family : Family) where
       rw p.leaves (with_out (announces _ _ _ _) (told-tells announced_told answer _ p.is out))
   promised-returned out (withdrawal rule) table answer left p = (
     record {
-      is = ap (λ (c : Withdrawn). word_of (withdrawn_told c)) p.is;
+      is = ap (λ (c : Result Unit Refusal). word_of (withdrawn_told c)) p.is;
       leaves = ap (λ (t : List ℕ). withdraws t rule) p.leaves;
     },
     no-values answer,

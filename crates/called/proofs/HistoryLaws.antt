@@ -11,20 +11,15 @@ use borrow.Author.Tests.{ne_eqb}
 use Rattle.octets.specs.Test.{Each}
 use Rattle.rule.specs.declared.Family.{Family}
 use Rattle.rule.specs.Family.{Fits}
-use Rattle.rule.proofs.Refusal.{Refusal}
+use Rattle.rule.specs.declared.Refusal.{Refusal}
+use Rattle.rule.specs.Refusal.{number_of, place_of, refused_with}
+use Rattle.rule.proofs.Near.{Near, number-given, number-listed, refusal-with}
 use Rattle.table.specs.Sound.{most_octets}
-use Rattle.flowspec.specs.declared.Announced.{Announced}
-use Rattle.flowspec.specs.declared.Announced.TheVariants.{Held, Refused as NotAnnounced}
-use Rattle.flowspec.specs.declared.Withdrawn.{Withdrawn}
-use Rattle.flowspec.specs.declared.Withdrawn.TheVariants.{Done, Refused as NotWithdrawn}
 use Rattle.request.specs.Input.{Announcement, Policy}
 use Rattle.flowspec.specs.Announce.{announcing, withdrawing}
 use Rattle.flowspec.specs.Told.{announced_told, withdrawn_told}
 use Rattle.flowspec.proofs.TableLaws.{announce-kept, withdraw-kept}
 use Rattle.update.specs.declared.Reached.{Reached}
-use Rattle.update.specs.declared.Reached.TheVariants.{Done as AllAnnounced, Refused as NotReached}
-use Rattle.update.specs.declared.Unreached.{Unreached}
-use Rattle.update.specs.declared.Unreached.TheVariants.{Done as AllWithdrawn, Refused as NotUnreached}
 use Rattle.update.specs.Singles.{Reach}
 use Rattle.update.specs.Apply.{reaching, unreaching, reached_told, unreached_told}
 use Rattle.update.proofs.ApplyLaws.{reach-tells, unreach-tells}
@@ -38,35 +33,39 @@ use Rattle.calls.proofs.Halves.{low_half, high_half}
 use Rattle.calls.proofs.CallLaws.{Tells}
 use Rattle.calls.proofs.Places.{not-announced, not-withdrawn}
 use Rattle.calls.proofs.AttributePlaces.{not-reached, not-unreached}
+use Rattle.std.proofs.Common.{Result, Ok, Err}
 
 -- what a word says that is a refusal's
-refusal-said : {A : Type 0} (granted : A) (refuse : ℕ → ℕ → A) (number place : ℕ) → Refusal number place
-    → cond (eqb (word number place % 2 ^ 32) 0) granted (refuse (word number place % 2 ^ 32) (word number place / 2 ^ 32)) ≡ refuse number place
-refusal-said granted refuse number place listed =
-    let some : number ≡ 0 → ⊥ = λ z. omega (arith, listed) in
-    rw (low_half number place listed, high_half number place listed, ne_eqb number 0 some)
+refusal-said : {A : Type 0} (granted : Result A Refusal) (refusal : Refusal) → Near refusal → (result : ℕ) → result ≡ word (number_of refusal) (place_of refusal)
+    → cond (eqb (result % 2 ^ 32) 0) granted (refused_with (result % 2 ^ 32) (result / 2 ^ 32)) ≡ Err refusal
+refusal-said granted refusal h result e =
+    let number = number_of refusal in
+    let place = place_of refusal in
+    let listed = number-listed refusal in
+    let some : number ≡ 0 → ⊥ = λ z. omega (arith, number-given refusal) in
+    rw (e, low_half number place listed h.near, high_half number place listed h.near, ne_eqb number 0 some) (ap (λ r. Err r) (refusal-with refusal))
 
 -- a word and `out` say the answer that they are of
 module _ (entry : List ℕ) (result : ℕ) (exit : List ℕ) where
-  announced-says : (policy : Policy) (a : Announcement) (c : Announced) → ((number place : ℕ) → c ≡ NotAnnounced number place → Refusal number place)
+  announced-says : (policy : Policy) (a : Announcement) (c : Result ℕ Refusal) → ((refusal : Refusal) → c ≡ Err refusal → Near refusal)
       → Tells (announced_told c) entry result exit → answer_in (announcement policy a) result exit ≡ c
-  announced-says policy a (Held notes) h p = rw (p.is, p.out)
-  announced-says policy a (NotAnnounced number place) h p = rw p.is (refusal-said _ NotAnnounced number place (h number place refl))
+  announced-says policy a (Ok notes) h p = rw (p.is, p.out)
+  announced-says policy a (Err refusal) h p = refusal-said _ refusal (h refusal refl) result p.is
 
-  withdrawn-says : (rule : List ℕ) (c : Withdrawn) → ((number place : ℕ) → c ≡ NotWithdrawn number place → Refusal number place)
+  withdrawn-says : (rule : List ℕ) (c : Result Unit Refusal) → ((refusal : Refusal) → c ≡ Err refusal → Near refusal)
       → result ≡ word_of (withdrawn_told c) → answer_in (withdrawal rule) result exit ≡ c
-  withdrawn-says rule Done h p = rw p
-  withdrawn-says rule (NotWithdrawn number place) h p = rw p (refusal-said Done NotWithdrawn number place (h number place refl))
+  withdrawn-says rule (Ok _) h p = rw p
+  withdrawn-says rule (Err refusal) h p = refusal-said _ refusal (h refusal refl) result p
 
-  reached-says : (policy : Policy) (r : Reach) (c : Reached) → ((number place : ℕ) → c ≡ NotReached number place → Refusal number place)
+  reached-says : (policy : Policy) (r : Reach) (c : Result Reached Refusal) → ((refusal : Refusal) → c ≡ Err refusal → Near refusal)
       → Tells (reached_told c) entry result exit → applied_in (reach policy r) result exit ≡ c
-  reached-says policy r (AllAnnounced count notes) h p = rw (p.is, p.out)
-  reached-says policy r (NotReached number place) h p = rw p.is (refusal-said _ NotReached number place (h number place refl))
+  reached-says policy r (Ok done) h p = rw (p.is, p.out)
+  reached-says policy r (Err refusal) h p = refusal-said _ refusal (h refusal refl) result p.is
 
-  unreached-says : (attribute : List ℕ) (c : Unreached) → ((number place : ℕ) → c ≡ NotUnreached number place → Refusal number place)
+  unreached-says : (attribute : List ℕ) (c : Result ℕ Refusal) → ((refusal : Refusal) → c ≡ Err refusal → Near refusal)
       → Tells (unreached_told c) entry result exit → applied_in (unreach attribute) result exit ≡ c
-  unreached-says attribute (AllWithdrawn count) h p = rw (p.is, p.out)
-  unreached-says attribute (NotUnreached number place) h p = rw p.is (refusal-said _ NotUnreached number place (h number place refl))
+  unreached-says attribute (Ok count) h p = rw (p.is, p.out)
+  unreached-says attribute (Err refusal) h p = refusal-said _ refusal (h refusal refl) result p.is
 
 module _ (family : Family) where
   -- what a call in words promises is the door's promise, with the answer that its word says

@@ -1,12 +1,10 @@
 -- Histories of calls in words that change one table, as a caller in C sees them: each call with the word it returned, `out` and the octets
 -- it left, and a call with a whole attribute also with the answer words. They are histories at the door (crate history), with the answers
 -- that the words and `out` say; and what is done at the door is such a history.
-use Rattle.std.specs.Prelude.{ℕ, ◌/◌, ◌%◌, ◌^◌, ◌≡◌, cond, List, [], ◌∷◌, map, eqb, get_or}
+use Rattle.std.specs.Prelude.{ℕ, ◌/◌, ◌%◌, ◌^◌, ◌≡◌, cond, List, [], ◌∷◌, map, eqb, get_or, Ok}
 use Rattle.rule.specs.declared.Family.{Family}
-use Rattle.flowspec.specs.declared.Announced.TheVariants.{Held, Refused as NotAnnounced}
-use Rattle.flowspec.specs.declared.Withdrawn.TheVariants.{Done, Refused as NotWithdrawn}
-use Rattle.update.specs.declared.Reached.TheVariants.{Done as AllAnnounced, Refused as NotReached}
-use Rattle.update.specs.declared.Unreached.TheVariants.{Done as AllWithdrawn, Refused as NotUnreached}
+use Rattle.rule.specs.Refusal.{refused_with}
+use Rattle.update.specs.Apply.{reached}
 use Rattle.history.specs.History.{Call, announcement, withdrawal, AnswerTo, answer_told, Made}
 use Rattle.history.specs.Attributes.{Attribute, reach, unreach, AnswerToAll, whole_told, Event, single, whole, Asked, events_of}
 use Rattle.calls.specs.Word.{word_of, out_after}
@@ -25,8 +23,8 @@ pub record Called : Type 0 where
 -- the low 32 bits and whose place in the high 32.
 abbrev pub answer_in : (call : Call) → ℕ → List ℕ → AnswerTo call
 answer_in (announcement policy a) result out =
-    cond (eqb (result % 2 ^ 32) 0) (Held (get_or out 0 0)) (NotAnnounced (result % 2 ^ 32) (result / 2 ^ 32))
-answer_in (withdrawal rule) result out = cond (eqb (result % 2 ^ 32) 0) Done (NotWithdrawn (result % 2 ^ 32) (result / 2 ^ 32))
+    cond (eqb (result % 2 ^ 32) 0) (Ok (get_or out 0 0)) (refused_with (result % 2 ^ 32) (result / 2 ^ 32))
+answer_in (withdrawal rule) result out = cond (eqb (result % 2 ^ 32) 0) (Ok tt) (refused_with (result % 2 ^ 32) (result / 2 ^ 32))
 
 -- A call with a whole attribute as it was made: what it was given, the answer words and `out` that it was lent, the word that it returned,
 -- and `out`, the answer words and the table's octets after it.
@@ -42,9 +40,9 @@ pub record WholeCalled : Type 0 where
 -- The answer that its word says, and `out` where that is 0: so many rules, of a reach with the notes.
 abbrev pub applied_in : (attribute : Attribute) → ℕ → List ℕ → AnswerToAll attribute
 applied_in (reach policy r) result out =
-    cond (eqb (result % 2 ^ 32) 0) (AllAnnounced (get_or out 0 0) (get_or out 1 0)) (NotReached (result % 2 ^ 32) (result / 2 ^ 32))
+    cond (eqb (result % 2 ^ 32) 0) (Ok (reached (get_or out 0 0) (get_or out 1 0))) (refused_with (result % 2 ^ 32) (result / 2 ^ 32))
 applied_in (unreach attribute) result out =
-    cond (eqb (result % 2 ^ 32) 0) (AllWithdrawn (get_or out 0 0)) (NotUnreached (result % 2 ^ 32) (result / 2 ^ 32))
+    cond (eqb (result % 2 ^ 32) 0) (Ok (get_or out 0 0)) (refused_with (result % 2 ^ 32) (result / 2 ^ 32))
 
 -- A call in words that changes a table.
 pub data CalledEvent : Type 0 where

@@ -2,29 +2,18 @@
 use mathlib.Core.Path.{◌≡◌, refl, sym, ap, subst, ◌∙◌}
 use mathlib.Core.Bool.{false}
 use mathlib.Core.List.{List, [], ◌∷◌}
-use Prim.Native.Nat.{ℕ, ◌-◌, ◌≤◌}
+use Prim.Native.Nat.{ℕ}
 use lib.ListN.{get_or}
-use borrow.Author.Tests.{eq-eqb, ne_eqb}
-use Rattle.std.proofs.Common.{Some, None}
-use Rattle.rule.specs.declared.Family.{Family}
-use Rattle.rule.specs.declared.Reading.{Reading}
-use Rattle.rule.specs.declared.Reading.TheVariants.{Rule, Refused as NotRead}
-use Rattle.rule.specs.Reading.{one_rule}
-use Rattle.rule.proofs.ReadingLaws.{one-refused}
-use Rattle.rule.proofs.Refusal.{Refusal}
+use Rattle.rule.specs.declared.Refusal.{Refusal}
+use Rattle.rule.specs.Refusal.{number_of, place_of}
 use Rattle.action.specs.declared.Actions.{Actions}
 use Rattle.action.specs.Actions.{values_of}
-use Rattle.lookup.specs.declared.Verdict.{Verdict}
-use Rattle.lookup.specs.declared.Verdict.TheVariants.{Unmatched, Matched}
-use Rattle.rule.specs.Value.{most_value}
-use Rattle.flowspec.specs.declared.Looked.TheVariants.{Answered}
-use Rattle.flowspec.specs.declared.MatchPlace.{MatchPlace}
-use Rattle.flowspec.specs.Told.{Told, done as done_told, reading_told, actions_told, verdict_told, lookup_told, match_place_told}
-use Rattle.flowspec.specs.Look.{match_place}
-use Rattle.flowspec.specs.Promise.{ReadsOne, LocatesFirst}
+use Rattle.lookup.specs.declared.Matched.{Matched}
+use Rattle.flowspec.specs.Told.{Told, done as done_told, actions_told, verdict_told, lookup_told}
 use Rattle.calls.specs.Word.{word, word_of, out_after}
 use Rattle.calls.specs.Buffers.{ReadBuffers, WriteBuffers, CompareBuffers, ActionsBuffers, AnnounceBuffers, WithdrawBuffers, ReachBuffers, UnreachBuffers, LookupBuffers}
 use Rattle.calls.specs.Promise.{Returns}
+use Rattle.std.proofs.Common.{Ok, Option, Some, None}
 
 -- ---- word and buffers ----
 
@@ -71,9 +60,9 @@ looks table packet out = record { table = table; packet = packet; out = out }
 -- ---- what is told ----
 
 -- refused: `out` stays as it was
-pub refused : (number place : ℕ) (values entry : List ℕ) (result : ℕ) → result ≡ word number place
-    → Tells (record { grants = false; number = number; place = place; values = values }) entry result entry
-refused number place values entry result e = record { is = e; out = refl }
+pub refused : (refusal : Refusal) (values entry : List ℕ) (result : ℕ) → result ≡ word (number_of refusal) (place_of refusal)
+    → Tells (record { grants = false; number = number_of refusal; place = place_of refusal; values = values }) entry result entry
+refused refusal values entry result e = record { is = e; out = refl }
 
 -- done: `out` has the values
 pub done : (values entry : List ℕ) → Tells (done_told values) entry 0 values
@@ -87,48 +76,22 @@ module _ {X : Type 0} (answer_of : X → Told) (d x : X) (is : x ≡ d) (y : X) 
   pub word-is : (result : ℕ) → result ≡ word_of (answer_of y) → result ≡ word_of (answer_of d)
   word-is result h = subst (λ z. result ≡ word_of (answer_of z)) (sym e ∙ is) h
 
--- reading one rule
-module _ (family : Family) (rule : List ℕ) (r : Reading) (lent : List (List ℕ)) (kept : ReadsOne family rule r lent) where
-  pub read-refusal : (number place : ℕ) → r ≡ NotRead number place → Refusal number place
-  read-refusal number place e = one-refused family rule number place (sym kept.is ∙ e)
-
-  pub read-near : (number place : ℕ) → r ≡ NotRead number place → place ≤ most_value
-  read-near number place e = (read-refusal number place e).near
-
-  pub read-refused : (entry : List ℕ) (number place result : ℕ) → r ≡ NotRead number place → result ≡ word number place
-      → Tells (reading_told (one_rule family rule)) entry result entry
-  read-refused entry number place result e h =
-      answered reading_told (one_rule family rule) r kept.is (NotRead number place) e entry result entry
-      (refused number place (0 ∷ 0 ∷ []) entry result h)
-
-  pub read_done : (entry : List ℕ) (start size : ℕ) → r ≡ Rule start size → Tells (reading_told (one_rule family rule)) entry 0 (start ∷ size ∷ [])
-  read_done entry start size e =
-      answered reading_told (one_rule family rule) r kept.is (Rule start size) e entry 0 (start ∷ size ∷ []) (done (start ∷ size ∷ []) entry)
-
 -- reading actions: unsound ones, and those that are read
 pub actions-refused : (entry : List ℕ) (result : ℕ) → result ≡ word 13 0 → Tells (actions_told None) entry result entry
-actions-refused entry result h = refused 13 0 _ entry result h
+actions-refused entry result h = record { is = h; out = refl }
 
 pub actions-done : (actions : Actions) (values entry : List ℕ) → values ≡ values_of actions → Tells (actions_told (Some actions)) entry 0 values
 actions-done actions values entry h = rw h (done (values_of actions) entry)
 
 -- looking up: a packet that is judged
-pub lookup-done : (verdict : Verdict) (values entry : List ℕ) → values ≡ (verdict_told verdict).values → Tells (lookup_told (Answered verdict)) entry 0 values
-lookup-done Unmatched values entry h = rw h (done (verdict_told Unmatched).values entry)
-lookup-done (Matched actions count) values entry h = rw h (done (verdict_told (Matched actions count)).values entry)
+pub lookup-done : (verdict : Option Matched) (values entry : List ℕ) → values ≡ (verdict_told verdict).values → Tells (lookup_told (Ok verdict)) entry 0 values
+lookup-done None values entry h = rw h (done (verdict_told None).values entry)
+lookup-done (Some rules) values entry h = rw h (done (verdict_told (Some rules)).values entry)
 
 -- the words of a verdict
-pub unmatched-words : (v : Verdict) → v ≡ Unmatched → 0 ∷ 0 ∷ 0 ∷ 0 ∷ 0 ∷ 0 ∷ 0 ∷ [] ≡ (verdict_told v).values
+pub unmatched-words : (v : Option Matched) → v ≡ None → 0 ∷ 0 ∷ 0 ∷ 0 ∷ 0 ∷ 0 ∷ 0 ∷ [] ≡ (verdict_told v).values
 unmatched-words v e = rw e
 
-pub matched-words : (v : Verdict) (actions : Actions) (count : ℕ) (values : List ℕ) → v ≡ Matched actions count → values ≡ values_of actions
-    → count ∷ get_or values 0 0 ∷ get_or values 1 0 ∷ get_or values 2 0 ∷ get_or values 3 0 ∷ get_or values 4 0 ∷ get_or values 5 0 ∷ [] ≡ (verdict_told v).values
-matched-words v actions count values e h = rw (e, h)
-
--- the first match, by its place with the lookup's number
-module _ (family : Family) (t octets entry : List ℕ) (place : MatchPlace) (lent : List (List ℕ)) (kept : LocatesFirst family t octets place lent) where
-  pub first-refused : (place.number ≡ 0 → ⊥) → (result : ℕ) → result ≡ word place.number 0 → Tells (match_place_told (match_place family t octets)) entry result entry
-  first-refused n result h = rw (← kept.is, ne_eqb place.number 0 n) (record { is = h; out = refl })
-
-  pub first_done : place.number ≡ 0 → Tells (match_place_told (match_place family t octets)) entry 0 (place.start ∷ (place.end - place.start) ∷ [])
-  first_done z = rw (← kept.is, eq-eqb place.number 0 z) (record { is = refl; out = refl })
+pub matched-words : (v : Option Matched) (rules : Matched) (values : List ℕ) → v ≡ Some rules → values ≡ values_of rules.actions
+    → rules.count ∷ get_or values 0 0 ∷ get_or values 1 0 ∷ get_or values 2 0 ∷ get_or values 3 0 ∷ get_or values 4 0 ∷ get_or values 5 0 ∷ [] ≡ (verdict_told v).values
+matched-words v rules values e h = rw (e, h)

@@ -15,24 +15,24 @@ use Rattle.action.proofs.MergingLaws.{merged-no-T}
 use Rattle.packet.specs.declared.Packet.{Packet}
 use Rattle.packet.specs.Packet.{packet_of}
 use Rattle.entry.specs.Entry.{Entry}
-use Rattle.lookup.specs.declared.Verdict.TheVariants.{Unmatched, Matched}
 use Rattle.table.specs.Walk.{entries}
 use Rattle.table.specs.Sound.{sound_table}
 use Rattle.lookup.specs.Lookup.{hit, collected, merged_onto, verdict_of, verdict_for}
-use Rattle.flowspec.specs.declared.Looked.{Looked}
-use Rattle.flowspec.specs.declared.Looked.TheVariants.{Answered, Refused}
 use Rattle.lookup.specs.Opening.{opening_of, opening}
 use Rattle.flowspec.specs.Look.{no_head, looked_up, looking_up}
+use Rattle.std.proofs.Common.{Result, Ok, Err, Option, Some, None}
+use Rattle.rule.specs.declared.Refusal.{Refusal}
+use Rattle.lookup.specs.declared.Matched.{Matched}
 
 onto-no-T : (a : Actions) (es : List Entry) → a.onward ≡ false → (merged_onto a es).onward ≡ false
 unfolding merged_onto
 onto-no-T a [] h = h
 onto-no-T a (e ∷ es) h = onto-no-T (merged a e.actions) es (merged-no-T a e.actions)
 
-abbrev pub NoT : Looked → Type 0
-NoT (Answered Unmatched) = Unit {0}
-NoT (Answered (Matched actions count)) = actions.onward ≡ false
-NoT (Refused number place) = Unit {0}
+abbrev pub NoT : Result (Option Matched) Refusal → Type 0
+NoT (Ok None) = Unit {0}
+NoT (Ok (Some rules)) = rules.actions.onward ≡ false
+NoT (Err refusal) = Unit {0}
 
 pub lookup-no-T : (family : Family) (t octets : List ℕ) → NoT (looking_up family t octets)
 unfolding looking_up opening verdict_for verdict_of

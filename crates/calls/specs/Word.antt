@@ -5,8 +5,8 @@ use Rattle.route.specs.declared.Settings.{Settings}
 use Rattle.request.specs.Input.{settings_of}
 use Rattle.flowspec.specs.Told.{Told}
 
--- The number stands in the low 32 bits and the place in the high 32: a number is at most 19 and a place at most 4,095
--- (proofs/Places.antt), so the halves are told apart (proofs/Halves.antt).
+-- The number stands in the low 32 bits and the place in the high 32: a number is at most 19 (rule/proofs/Near.antt) and a place at most
+-- 4,095 (proofs/Places.antt), so the halves are told apart (proofs/Halves.antt).
 abbrev pub word : ℕ → ℕ → ℕ
 word number place = number + place * 2 ^ 32
 

@@ -5,36 +5,23 @@
 ghost use Rattle.std.specs.Prelude.{◌≡◌, ◌≤◌};
 ghost use Rattle.rule.specs.Family.{family_of};
 ghost use Rattle.rule.specs.Value.{most_value};
-ghost use Rattle.flowspec.specs.Told.{withdrawn_told, verdict_told};
+ghost use Rattle.rule.specs.Refusal.{number_of, place_of};
+ghost use Rattle.flowspec.specs.Told.{verdict_told};
 ghost use Rattle.request.specs.Input.{origin_of};
-ghost use Rattle.calls.specs.Word.{word, word_of, settings_in};
+ghost use Rattle.calls.specs.Word.{word, settings_in};
 ghost use Rattle.calls.specs.Promise.{ReadCall, WriteCall, CompareCall, FeasibleCall, ActionsCall, AnnounceCall, WithdrawCall, ReachCall, UnreachCall, LookupCall, FirstMatchCall};
 
-use flowspec::{Announced, Feasibility, Looked, Withdrawn};
-use lookup::Verdict;
-use order::Comparison;
+use lookup::Matched;
 use route::{Origin, Settings};
-use rule::{AddressFamily, Reading};
-use spelling::Writing;
-use update::{Reached, Unreached};
+use rule::{AddressFamily, Refusal};
+use std::cmp::Ordering;
 
 // The word of a refusal: its number in the low 32 bits, its place in the high 32.
-fn word_of(number: u8, place: usize) -> u64
-    requires { place ≤ most_value }
-    ensures { result ≡ word number place }
+fn word_of(refusal: Refusal) -> u64
+    requires { place_of refusal ≤ most_value }
+    ensures { result ≡ word (number_of refusal) (place_of refusal) }
 {
-    number as u64 + place as u64 * 0x1_0000_0000
-}
-
-// The word of a withdrawal's answer: its refusal's, and 0 where it is done.
-fn withdrawn_word(answer: Withdrawn) -> u64
-    requires { (withdrawn_told answer).place ≤ most_value }
-    ensures { result ≡ word_of (withdrawn_told answer) }
-{
-    match answer {
-        Withdrawn::Refused { number, place } => word_of(number, place),
-        Withdrawn::Done => 0,
-    }
+    refusal.number() as u64 + refusal.place() as u64 * 0x1_0000_0000
 }
 
 // The settings that the header's `allow_no_destination` says: 0 is off and any other number on.
@@ -47,24 +34,22 @@ fn settings_in(allow: u32) -> Settings
 }
 
 // The words of a verdict: the count and the merged actions' values, all 0 where no rule matches.
-fn words_of(verdict: Verdict) -> [u64; 7]
+fn words_of(verdict: Option<Matched>) -> [u64; 7]
     ensures { result ≡ (verdict_told verdict).values }
 {
-    match verdict {
-        Verdict::Unmatched => [0; 7],
-        Verdict::Matched { actions, count } => {
-            let values = entry::values_of(actions);
-            [
-                count as u64,
-                values[0],
-                values[1],
-                values[2],
-                values[3],
-                values[4],
-                values[5],
-            ]
-        }
-    }
+    let Some(matched) = verdict else {
+        return [0; 7];
+    };
+    let values = entry::values_of(matched.actions);
+    [
+        matched.count as u64,
+        values[0],
+        values[1],
+        values[2],
+        values[3],
+        values[4],
+        values[5],
+    ]
 }
 
 // Reads one rule. out: where its value starts, and its length.
@@ -75,9 +60,9 @@ pub fn read(family: AddressFamily, rule: &[u8], out: &mut [u64; 2]) -> u64
         (record { rule = rule.now; out = out.new }) }
 {
     match flowspec::read_rule(family, rule) {
-        Reading::Refused { number, place } => word_of(number, place),
-        Reading::Rule { start, size } => {
-            *out = [start as u64, size as u64];
+        Err(refusal) => word_of(refusal),
+        Ok(value) => {
+            *out = [value.start as u64, value.size as u64];
             0
         }
     }
@@ -91,8 +76,8 @@ pub fn write(family: AddressFamily, value: &[u8], buf: &mut [u8], out: &mut [u64
         (record { value = value.now; buf = buf.new; out = out.new }) }
 {
     match flowspec::write_rule(family, value, buf) {
-        Writing::Refused { number, place } => word_of(number, place),
-        Writing::Written(octets) => {
+        Err(refusal) => word_of(refusal),
+        Ok(octets) => {
             *out = [octets as u64];
             0
         }
@@ -107,16 +92,16 @@ pub fn compare(family: AddressFamily, a: &[u8], b: &[u8], out: &mut [u64; 1]) ->
         (record { a = a.now; b = b.now; out = out.new }) }
 {
     match flowspec::compare_rules(family, a, b) {
-        Comparison::Refused { number, place } => word_of(number, place),
-        Comparison::First => {
+        Err(refusal) => word_of(refusal),
+        Ok(Ordering::Less) => {
             *out = [1];
             0
         }
-        Comparison::Second => {
+        Ok(Ordering::Greater) => {
             *out = [2];
             0
         }
-        Comparison::Same => {
+        Ok(Ordering::Equal) => {
             *out = [3];
             0
         }
@@ -139,8 +124,8 @@ pub fn feasible(
     let settings = settings_in(allow_no_destination);
     let origin = Origin { originator };
     match flowspec::judge_rule(family, settings, routes, rule, origin) {
-        Feasibility::Refused { number, place } => word_of(number, place),
-        Feasibility::Feasible => 0,
+        Err(refusal) => word_of(refusal),
+        Ok(()) => 0,
     }
 }
 
@@ -152,7 +137,7 @@ pub fn actions(communities: &[u8], out: &mut [u64; 6]) -> u64
         (record { communities = communities.now; out = out.new }) }
 {
     match flowspec::read_actions(communities) {
-        None => word_of(13, 0),
+        None => word_of(Refusal::UnsoundActions),
         Some(actions) => {
             *out = entry::values_of(actions);
             0
@@ -191,8 +176,8 @@ pub fn announce(
     let settings = settings_in(allow_no_destination);
     let origin = Origin { originator };
     match flowspec::announce(family, table, settings, routes, rule, origin, communities) {
-        Announced::Refused { number, place } => word_of(number, place),
-        Announced::Held { notes } => {
+        Err(refusal) => word_of(refusal),
+        Ok(notes) => {
             *out = [notes];
             0
         }
@@ -206,8 +191,10 @@ pub fn withdraw(family: AddressFamily, table: &mut [u8], rule: &[u8]) -> u64
         result
         (record { table = table.new; rule = rule.now }) }
 {
-    let answer = flowspec::withdraw(family, table, rule);
-    withdrawn_word(answer)
+    match flowspec::withdraw(family, table, rule) {
+        Err(refusal) => word_of(refusal),
+        Ok(_) => 0,
+    }
 }
 
 // Announces the rules of an MP_REACH_NLRI attribute to a table; `allow_no_destination` is on where it is not 0. answers: a number for each
@@ -254,9 +241,9 @@ pub fn reach(
         communities,
         answers,
     ) {
-        Reached::Refused { number, place } => word_of(number, place),
-        Reached::Done { count, notes } => {
-            *out = [count as u64, notes];
+        Err(refusal) => word_of(refusal),
+        Ok(reached) => {
+            *out = [reached.count as u64, reached.notes];
             0
         }
     }
@@ -286,8 +273,8 @@ pub fn unreach(
         }) }
 {
     match update::unreach(family, table, attribute, answers) {
-        Unreached::Refused { number, place } => word_of(number, place),
-        Unreached::Done(count) => {
+        Err(refusal) => word_of(refusal),
+        Ok(count) => {
             *out = [count as u64];
             0
         }
@@ -302,8 +289,8 @@ pub fn lookup(family: AddressFamily, table: &[u8], packet: &[u8], out: &mut [u64
         (record { table = table.now; packet = packet.now; out = out.new }) }
 {
     match flowspec::lookup(family, table, packet) {
-        Looked::Refused { number, place } => word_of(number, place),
-        Looked::Answered(verdict) => {
+        Err(refusal) => word_of(refusal),
+        Ok(verdict) => {
             *out = words_of(verdict);
             0
         }
@@ -317,11 +304,12 @@ pub fn first_match(family: AddressFamily, table: &[u8], packet: &[u8], out: &mut
         result
         (record { table = table.now; packet = packet.now; out = out.new }) }
 {
-    let found = flowspec::first_match_place(family, table, packet);
-    if found.number != 0 {
-        return word_of(found.number, 0);
+    match flowspec::first_match_place(family, table, packet) {
+        Err(refusal) => word_of(refusal),
+        Ok(found) => {
+            let size = found.end - found.start;
+            *out = [found.start as u64, size as u64];
+            0
+        }
     }
-    let size = found.end - found.start;
-    *out = [found.start as u64, size as u64];
-    0
 }

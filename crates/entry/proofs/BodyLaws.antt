@@ -7,11 +7,11 @@ use native.Mathlib.Omega.{arith}
 use lib.Dec.{eqb}
 use lib.ListN.{length, get_or, drop}
 use borrow.Author.Tests.{not-true, not-false}
+use Rattle.std.proofs.Common.{Ok}
 use Rattle.octets.specs.Test.{same_list}
 use Rattle.rule.specs.declared.Family.{Family}
 use Rattle.rule.specs.declared.Shape.{Shape}
 use Rattle.spelling.specs.Plain.{Length, Operator, body_of, after, plain_operator, plain_operand, plain_pattern, cleared_octet, plain_from}
-use Rattle.rule.specs.declared.BodyEnd.TheVariants.{At}
 use Rattle.rule.specs.Shape.{shape_of}
 use Rattle.rule.specs.Operator.{size_of}
 use Rattle.rule.specs.Component.{pairs_from, offset_at, prefix_end}
@@ -19,7 +19,7 @@ use Rattle.rule.proofs.OperatorLaws.{size-positive}
 use Rattle.spelling.proofs.PlainWalkLaws.{plain_from_here, pair-there, pair-plain, none-plain, prefix-there, prefix-whole-octets, prefix-last-octet}
 
 -- how `is_plain_prefix` comes to each of its answers
-module _ (family : Family) (body : List ℕ) (alone : prefix_end family body 0 ≡ At (length body)) (offset : ℕ) (is : offset ≡ offset_at family body 1) where
+module _ (family : Family) (body : List ℕ) (alone : prefix_end family body 0 ≡ Ok (length body)) (offset : ℕ) (is : offset ≡ offset_at family body 1) where
   pub prefix-all : (get_or body 0 0 - offset) % 8 ≡ 0 → true ≡ plain_from_here family Length body
   prefix-all h = sym (prefix-whole-octets family body (prefix-there family body alone) (rw is at h))
 
@@ -40,11 +40,11 @@ pair-answer family kind operator octet plainly value first shape is says tells =
 -- what is left of a list decides, and is a list where there is something left
 pub record ListLeft (family : Family) (kind : ℕ) (body : List ℕ) (first : Bool) (at : ℕ) : Type 0 where
   pub decides : plain_from_here family (Operator kind true) body ≡ plain_from_here family (Operator kind first) (drop at body)
-  pub ends : at < length body → (pairs_from (shape_of family kind).largest body at).ending ≡ At (length body)
+  pub ends : at < length body → (pairs_from (shape_of family kind).largest body at).ending ≡ Ok (length body)
 
 -- how `is_plain_list` goes on and comes to each of its answers
 module _ (family : Family) (kind : ℕ) (body : List ℕ) where
-  pub list-starts : (pairs_from (shape_of family kind).largest body 0).ending ≡ At (length body) → ListLeft family kind body true 0
+  pub list-starts : (pairs_from (shape_of family kind).largest body 0).ending ≡ Ok (length body) → ListLeft family kind body true 0
   list-starts e = record { decides = refl; ends = λ h. e }
 
   module _ (first : Bool) (at : ℕ) (left : ListLeft family kind body first at) where

@@ -1,7 +1,7 @@
 -- Fields of fixed widths, one behind the other: how long they are, that reading and writing them undo one another, and how they are
 -- written into a buffer one after the other, for any list of widths; and that a record is its head and the value behind it. Assumes nothing.
 use mathlib.Core.Path.{◌≡◌, refl, sym, ap, ap₂, ◌∙◌}
-use mathlib.Core.List.{List, [], ◌∷◌, ◌++◌, append_assoc}
+use mathlib.Core.List.{List, [], ◌∷◌, ◌++◌, append_assoc, map}
 use Prim.Native.Nat.{ℕ, ◌+◌, ◌^◌, ◌<◌, ◌≤◌}
 use native.Mathlib.Omega.{arith}
 use native.Mathlib.Numerals.{add-one}
@@ -14,7 +14,8 @@ use Rattle.octets.proofs.NumberLaws.{length-octets_of, number-octets, octets-num
 use Rattle.octets.proofs.StoreLaws.{stored-none, stored-then, length-stored}
 use Rattle.action.specs.Actions.{values_of}
 use Rattle.entry.specs.Entry.{Entry}
-use Rattle.entry.specs.Record.{head_widths, width_of, head_cost, written_fields, read_fields, spare, head_numbers, record_of}
+use Rattle.std.proofs.lemmas.List.{get_or-map, length-map}
+use Rattle.entry.specs.Record.{head_widths, width_of, head_cost, written_fields, written, read_fields, spare, head_numbers, record_of}
 
 -- as many numbers as widths, each within its width
 abbrev pub Fit : List ℕ → List ℕ → Type 0
@@ -94,6 +95,35 @@ module _ (ws ns start b : List ℕ) (at i place : ℕ) (f : WritingFields ws ns 
 pub written_all : (ws ns start b : List ℕ) (at i place : ℕ) → WritingFields ws ns start b at i place → length ws ≤ i → b ≡ stored start at (written_fields ws ns)
 unfolding written_fields
 written_all ws ns start b at i place f h = sym (f.gives ∙ rw (drop_of_length-le ws h) (stored-none b place))
+
+-- the same where width and number of each field stand in pairs
+module _ (fs : List (ℕ × ℕ)) (start b : List ℕ) (at i place : ℕ)
+    (f : WritingFields (map (λ (f : ℕ × ℕ). f.0) fs) (map (λ (f : ℕ × ℕ). f.1) fs) start b at i place) where
+  module _ (here : i < length fs) where
+    abbrev pair : ℕ × ℕ
+    pair = get_or fs i (0, 0)
+
+    width-there : get_or (map (λ (f : ℕ × ℕ). f.0) fs) i 0 ≡ pair.0
+    width-there = get_or-map (λ (f : ℕ × ℕ). f.0) fs i (0, 0) 0 here
+
+    number-there : get_or (map (λ (f : ℕ × ℕ). f.1) fs) i 0 ≡ pair.1
+    number-there = get_or-map (λ (f : ℕ × ℕ). f.1) fs i (0, 0) 0 here
+
+    inside : i < length (map (λ (f : ℕ × ℕ). f.0) fs)
+    inside = omega (arith, length-map fs (λ (f : ℕ × ℕ). f.0))
+
+    same : length (map (λ (f : ℕ × ℕ). f.0) fs) ≡ length (map (λ (f : ℕ × ℕ). f.1) fs)
+    same = length-map fs (λ (f : ℕ × ℕ). f.0) ∙ sym (length-map fs (λ (f : ℕ × ℕ). f.1))
+
+    pub pair-room : place + pair.0 ≤ length b
+    pair-room = rw width-there at (field_room _ _ start b at i place f inside same)
+
+    pub pair-on : (c : List ℕ) → c ≡ stored b place (octets_of pair.0 pair.1)
+        → WritingFields (map (λ (f : ℕ × ℕ). f.0) fs) (map (λ (f : ℕ × ℕ). f.1) fs) start c at (i + 1) (place + pair.0)
+    pair-on c is = rw width-there at (writing-on _ _ start b at i place f inside same c (rw (width-there, number-there) is))
+
+  pub pairs-all : length fs ≤ i → b ≡ stored start at (written fs)
+  pairs-all h = written_all _ _ start b at i place f (omega (arith, length-map fs (λ (f : ℕ × ℕ). f.0)))
 
 -- how `write_record` comes to its record: there is room for the head, and the value is stored right behind it
 pub head-room : (at size room : ℕ) (numbers : List ℕ) → length numbers ≡ length head_widths → at + (head_cost + size) ≤ room

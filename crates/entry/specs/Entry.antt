@@ -1,9 +1,8 @@
 -- A rule as the table holds it, and which rules with actions it could hold.
-use Rattle.std.specs.Prelude.{ℕ, ◌^◌, Bool, true, false, ◌&&◌, List, ltb}
+use Rattle.std.specs.Prelude.{ℕ, ◌^◌, Bool, true, false, ◌&&◌, List, ltb, Result, Ok, Err}
 use Rattle.octets.specs.Test.{same_list}
 use Rattle.rule.specs.declared.Family.{Family}
-use Rattle.rule.specs.declared.Checked.{Checked}
-use Rattle.rule.specs.declared.Checked.TheVariants.{Accepted, Refused}
+use Rattle.rule.specs.declared.Refusal.{Refusal}
 use Rattle.rule.specs.Value.{check_value}
 use Rattle.spelling.specs.Plain.{plain}
 use Rattle.order.specs.Key.{RuleKey, keys_of}
@@ -27,9 +26,9 @@ abbrev pub entry_key : Family → Entry → RuleKey
 entry_key family e = keys_of family e.value
 
 -- Whether the check of a value ended in no refusal.
-abbrev pub is_accepted : Checked → Bool
-is_accepted Accepted = true
-is_accepted (Refused number place) = false
+abbrev pub is_accepted : Result Unit Refusal → Bool
+is_accepted (Ok _) = true
+is_accepted (Err refusal) = false
 
 -- A value that the table may hold: accepted, and in its plain spelling.
 unfoldable pub plain_value : Family → List ℕ → Bool

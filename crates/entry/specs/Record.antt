@@ -1,7 +1,7 @@
 -- A record: its head, a list of fields of fixed widths, and then the value. 01: "Record: value length (2), originator (4), flags (1:
 -- ...), DSCP (1), byte rate (8), packet rate (8), redirect community (8), then the value; big-endian, absent fields zero." 2026-05: "A new
 -- octet behind the redirect has three bits for each rate, byte rate lowest", and "three zero octets after it".
-use Rattle.std.specs.Prelude.{ℕ, ◌+◌, ◌/◌, ◌%◌, ◌^◌, ◌≡◌, Bool, ◌&&◌, List, [], ◌∷◌, ◌++◌, ltb, eqb, length, get_or, drop}
+use Rattle.std.specs.Prelude.{ℕ, ◌+◌, ◌/◌, ◌%◌, ◌^◌, ◌≡◌, Bool, ◌&&◌, List, [], ◌∷◌, ◌++◌, ltb, eqb, length, get_or, drop, map}
 use Rattle.octets.specs.Bit.{has}
 use Rattle.octets.specs.Number.{number_at, octets_of}
 use Rattle.octets.specs.Test.{same_list}
@@ -34,6 +34,10 @@ unfoldable pub written_fields : List ℕ → List ℕ → List ℕ
 written_fields [] numbers = []
 written_fields (width ∷ widths) [] = []
 written_fields (width ∷ widths) (number ∷ numbers) = octets_of width number ++ written_fields widths numbers
+
+-- The same of fields that are pairs of a width and a number, as the code has them.
+abbrev pub written : List (ℕ × ℕ) → List ℕ
+written fields = written_fields (map (λ (f : ℕ × ℕ). f.0) fields) (map (λ (f : ℕ × ℕ). f.1) fields)
 
 -- Numbers read one behind the other, each in its width.
 unfoldable pub read_fields : List ℕ → List ℕ → ℕ → List ℕ

@@ -9,14 +9,12 @@ ghost use Rattle.rule.specs.Component.{pairs_from, prefix_end, body_end};
 ghost use Rattle.spelling.specs.Plain.{Length, Operator, body_of, plain_from};
 ghost use Rattle.action.specs.Actions.{flags_of, notes_of, values_of};
 ghost use Rattle.entry.specs.Entry.{entry_for, plain_value};
-ghost use Rattle.entry.specs.Record.{head_cost, written_fields, record_of, field_if, limit_if, actions_in, entry_of, Measured, good_record, tidy_head};
+ghost use Rattle.entry.specs.Record.{head_cost, written, record_of, field_if, limit_if, actions_in, entry_of, Measured, good_record, tidy_head};
 
 use action::{Actions, Given, Limit, could_be};
 use octets::{bit_if, number_at, octet_at, store, write_number};
 use route::Origin;
-use rule::{
-    BodyEnd, Family, MOST_VALUE, Next, component_body, next_component, offset_at, shape_of, size_of,
-};
+use rule::{Family, MOST_VALUE, component_body, next_component, offset_at, shape_of, size_of};
 use spelling::{plain_operand, plain_operator, plain_pattern};
 
 // How many octets each field of a record's head has: value length, originator, flags, DSCP, each rate, redirect community, notes, and each of
@@ -66,19 +64,16 @@ pub struct Head {
     pub actions: Actions,
 }
 
-// Writes numbers one behind the other from a place on, each in its width.
-fn write_fields(widths: &[usize], numbers: &[u64], buffer: &mut [u8], at: usize)
-    requires { (length widths.now ≡ length numbers.now) × (at + length (written_fields widths.now numbers.now) ≤ length buffer.old) }
-    ensures { buffer.new ≡ stored buffer.old at (written_fields widths.now numbers.now) }
+// Writes fields one behind the other from a place on, each by how many octets it has and its number.
+fn write_fields(fields: &[(usize, u64)], buffer: &mut [u8], at: usize)
+    requires { at + length (written fields.now) ≤ length buffer.old }
+    ensures { buffer.new ≡ stored buffer.old at (written fields.now) }
 {
     let mut place = at;
-    let mut i = 0;
-    while i < widths.len() {
-        let width = widths[i];
-        let next = place + width;
-        write_number(width, numbers[i], buffer, place);
+    for (width, number) in fields {
+        let next = place + *width;
+        write_number(*width, *number, buffer, place);
         place = next;
-        i += 1;
     }
 }
 
@@ -126,33 +121,20 @@ pub fn write_record(table: &mut [u8], at: usize, head: Head, value: &[u8])
     ensures { table.new ≡ stored table.old at (record_of (entry_for head value.now)) }
 {
     let values = values_of(head.actions);
-    let widths = [
-        LENGTH_WIDTH,
-        ORIGINATOR_WIDTH,
-        FLAGS_WIDTH,
-        DSCP_WIDTH,
-        RATE_WIDTH,
-        RATE_WIDTH,
-        REDIRECT_WIDTH,
-        NOTES_WIDTH,
-        SPARE_WIDTH,
-        SPARE_WIDTH,
-        SPARE_WIDTH,
+    let fields = [
+        (LENGTH_WIDTH, value.len() as u64),
+        (ORIGINATOR_WIDTH, head.origin.originator as u64),
+        (FLAGS_WIDTH, values[0]),
+        (DSCP_WIDTH, values[1]),
+        (RATE_WIDTH, values[2]),
+        (RATE_WIDTH, values[3]),
+        (REDIRECT_WIDTH, values[4]),
+        (NOTES_WIDTH, values[5]),
+        (SPARE_WIDTH, 0),
+        (SPARE_WIDTH, 0),
+        (SPARE_WIDTH, 0),
     ];
-    let numbers = [
-        value.len() as u64,
-        head.origin.originator as u64,
-        values[0],
-        values[1],
-        values[2],
-        values[3],
-        values[4],
-        values[5],
-        0,
-        0,
-        0,
-    ];
-    write_fields(&widths, &numbers, table, at);
+    write_fields(&fields, table, at);
     let start = at + HEAD_COST;
     store(table, start, value);
 }
@@ -213,7 +195,7 @@ pub fn record_actions(octets: &[u8]) -> Actions
 
 // Whether a prefix's body is its own plain spelling: only its last octet can have bits past the length.
 fn is_plain_prefix(family: Family, body: &[u8]) -> bool
-    requires { prefix_end family body.now 0 ≡ BodyEnd.At (length body.now) }
+    requires { prefix_end family body.now 0 ≡ Ok (length body.now) }
     ensures { result ≡ same_list (plain_from family Length body.now) body.now }
 {
     let bits = body[0] - offset_at(family, body, 1);
@@ -237,7 +219,7 @@ fn is_plain_pair(family: Family, kind: u8, first: bool, operator: u8, octet: u8)
 
 // Whether a list's body is its own plain spelling: of a value only the first octet is looked at, since one that loses bits has no other.
 fn is_plain_list(family: Family, kind: u8, body: &[u8]) -> bool
-    requires { (pairs_from (shape_of family kind).largest body.now 0).ending ≡ BodyEnd.At (length body.now) }
+    requires { (pairs_from (shape_of family kind).largest body.now 0).ending ≡ Ok (length body.now) }
     ensures { result ≡ same_list (plain_from family (Operator kind true) body.now) body.now }
 {
     let mut first = true;
@@ -257,7 +239,7 @@ fn is_plain_list(family: Family, kind: u8, body: &[u8]) -> bool
 
 // Whether a body of a type is its own plain spelling.
 fn is_plain_body(family: Family, kind: u8, body: &[u8]) -> bool
-    requires { body_end family kind body.now 0 ≡ BodyEnd.At (length body.now) }
+    requires { body_end family kind body.now 0 ≡ Ok (length body.now) }
     ensures { result ≡ same_list (plain_from family (body_of family kind) body.now) body.now }
 {
     let shape = shape_of(family, kind);
@@ -277,23 +259,19 @@ pub fn is_plain_value(family: Family, value: &[u8]) -> bool
     let mut at = family.head;
     let mut previous = 0;
     loop {
-        let next = next_component(family, value, at, previous);
-        match next {
-            Next::Another { kind, next } => {
-                let body = component_body(family, value, at, previous, next);
-                if !is_plain_body(family, kind, body) {
+        match next_component(family, value, at, previous) {
+            Ok(Some(component)) => {
+                let body = component_body(family, value, at, previous, component.next);
+                if !is_plain_body(family, component.kind, body) {
                     return false;
                 }
-                at = next;
-                previous = kind;
+                at = component.next;
+                previous = component.kind;
             }
-            Next::Nothing => {
+            Ok(None) => {
                 return true;
             }
-            Next::Refused {
-                number: _,
-                place: _,
-            } => {
+            Err(_) => {
                 return false;
             }
         }

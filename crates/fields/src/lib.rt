@@ -48,11 +48,6 @@ pub fn line_after(input: &[u8], at: usize) -> usize
     end + 1
 }
 
-// A call's name by its first two letters, as one number; a letter that it lacks counts as 0.
-pub fn name_of(call: &[u8]) -> u64 {
-    number_at(2, call, 0)
-}
-
 // ---- Fields ----
 
 // The field of a line behind so many tabs, empty where the line has fewer.

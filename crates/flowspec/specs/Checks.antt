@@ -1,14 +1,14 @@
 -- 01's table of refusals as lists: what each call checks, in the order in which 01 names the numbers, and what a call says that goes
 -- through such a list. The first check that does not hold refuses the call.
-use Rattle.std.specs.Prelude.{ℕ, ◌≡◌, Bool, true, false, cond, not, List, [], ◌∷◌, leb, length, Option, Some, None}
+use Rattle.std.specs.Prelude.{ℕ, ◌≡◌, Bool, true, false, cond, not, List, [], ◌∷◌, leb, length, Result, Ok, Err, Option, Some, None}
 use Rattle.octets.specs.Test.{Each}
 use Rattle.sorted.specs.Table.{by_order}
 use Rattle.rule.specs.declared.Family.{Family}
-use Rattle.rule.specs.declared.Checked.{Checked}
-use Rattle.rule.specs.declared.Checked.TheVariants.{Accepted, Refused}
 use Rattle.spelling.specs.Plain.{plain}
 use Rattle.rule.specs.Value.{check_value}
 use Rattle.rule.specs.Reading.{field_size, field_length, rule_end, value_in, check_rule}
+use Rattle.rule.specs.Refusal.{number_of, place_of}
+use Rattle.rule.specs.declared.Refusal.{Refusal}
 use Rattle.spelling.specs.Writing.{rule_for}
 use Rattle.order.specs.Key.{keys_of}
 use Rattle.order.specs.Precedence.{precedence}
@@ -39,9 +39,9 @@ abbrev pub check : Bool → ℕ → Check
 check holds number = record { holds = holds; number = number; place = 0 }
 
 -- 01: ""1 to 7" means 1, 2, then 3 to 7 as met": the refusals of a value, which is read left to right, as one check.
-abbrev pub one_to_seven : Checked → Check
-one_to_seven Accepted = record { holds = true; number = 0; place = 0 }
-one_to_seven (Refused number place) = record { holds = false; number = number; place = place }
+abbrev pub one_to_seven : Result Unit Refusal → Check
+one_to_seven (Ok _) = record { holds = true; number = 0; place = 0 }
+one_to_seven (Err refusal) = record { holds = false; number = number_of refusal; place = place_of refusal }
 
 -- All checks of a list hold.
 abbrev pub AllHold : List Check → Type 0

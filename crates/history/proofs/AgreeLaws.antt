@@ -2,30 +2,30 @@
 -- agree on each rule's last counted call, by its kind, originator and actions as read, they end in equal octets, and every packet has one
 -- verdict and one first match in both. Of what the calls were given only what their types say is assumed (`FromEmpty`).
 use mathlib.Core.Path.{◌≡◌, refl, sym, ap, ◌∙◌}
-use mathlib.Core.Bool.{true, false, cond}
+use mathlib.Core.Bool.{Bool, true, false, cond}
 use mathlib.Core.List.{List, [], ◌∷◌}
 use mathlib.Core.Option.{Option, none, some}
 use Prim.Native.Nat.{ℕ, Ordering}
 use lib.Dec.{compare_is_eq}
-use Rattle.std.proofs.Common.{Some}
+use Rattle.std.proofs.Common.{Result, Ok, Err, Some}
 use Rattle.octets.proofs.Cases.{by-test, apart, both}
 use Rattle.octets.proofs.Facts.{Octets}
 use Rattle.sorted.specs.History.{counts, in_force, leaves_in_force, is_about, is_counted, last_from}
 use Rattle.rule.specs.declared.Family.{Family}
-use Rattle.rule.specs.declared.Reading.{Reading}
-use Rattle.rule.specs.declared.Reading.TheVariants.{Rule, Refused as NotRead}
+use Rattle.rule.specs.declared.Refusal.{Refusal}
+use Rattle.rule.specs.declared.Span.{Span}
 use Rattle.rule.specs.Family.{Fits}
 use Rattle.spelling.specs.Plain.{plain}
 use Rattle.rule.specs.Reading.{value_of, one_rule}
 use Rattle.rule.proofs.ReadingLaws.{one-read}
 use Rattle.order.specs.Key.{RuleKey, keys_of, key_order}
 use Rattle.order.proofs.KeyLaws.{key-order, keys-only, keys-plain}
+use Rattle.action.specs.declared.Actions.{Actions}
 use Rattle.action.specs.Actions.{actions_of}
 use Rattle.entry.specs.Entry.{Entry, entry_key}
 use Rattle.request.specs.declared.Request.{Request}
-use Rattle.request.specs.declared.Request.TheVariants.{Announce, Refused as NoRequest}
 use Rattle.request.specs.Input.{Announcement, Policy}
-use Rattle.request.specs.Request.{announced_entry, request_of}
+use Rattle.request.specs.Request.{announced_entry, request_of, request}
 use Rattle.flowspec.specs.Announce.{announce_operation, withdraw_operation}
 use Rattle.history.specs.History.{Call, announcement, withdrawal, Made, CanBe, EachCanBe, deed, deed_of, operation_of, operation_made, number_of, last_counted, Agree, LentPolicy, SamePolicy, end_of, empty_table, FromEmpty, EndAlike}
 use Rattle.request.proofs.RequestLaws.{octets-value, asked-from}
@@ -71,11 +71,13 @@ module _ (family : Family) (policy : Policy) where
   -- announcements of one rule by one originator with the same actions as read leave the same in force
   module _ (k : RuleKey) (a b : Announcement) (o : Octets a.rule) (p : Octets b.rule) (founders : a.origin ≡ b.origin)
       (read : actions_of a.communities ≡ actions_of b.communities) where
-    same-announced : Fits family → (q r : Request) → request_of family policy a ≡ q → request_of family policy b ≡ r → is_about key_order (entry_key family) k (announce_operation family a q) ≡ true
-        → is_about key_order (entry_key family) k (announce_operation family b r) ≡ true → in_force (announce_operation family a q) ≡ in_force (announce_operation family b r)
-    same-announced fits (NoRequest number place) r is also x y = apart (cc)
-    same-announced fits (Announce start size actions good) (NoRequest number place) is also x y = apart (cc)
-    same-announced fits (Announce start size actions good) (Announce from extent acts fine) is also x y =
+    same-asked : Fits family → (start size : ℕ) (actions : Actions) (good : Bool) (from extent : ℕ) (acts : Actions) (fine : Bool)
+        → request_of family policy a ≡ Ok (request start size actions good) → request_of family policy b ≡ Ok (request from extent acts fine)
+        → is_about key_order (entry_key family) k (announce_operation family a (Ok (request start size actions good))) ≡ true
+        → is_about key_order (entry_key family) k (announce_operation family b (Ok (request from extent acts fine))) ≡ true
+        → in_force (announce_operation family a (Ok (request start size actions good)))
+        ≡ in_force (announce_operation family b (Ok (request from extent acts fine)))
+    same-asked fits start size actions good from extent acts fine is also x y =
         let one = asked-from family policy a start size actions good is in
         let two = asked-from family policy b from extent acts fine also in
         let value = value_of a.rule start size in
@@ -92,9 +94,19 @@ module _ (family : Family) (policy : Policy) where
         let held : announced_entry family a start size actions ≡ announced_entry family b from extent acts = rw (same, values, founders) in
         rw judged (ap (λ e. elim fine as (λ x. Option Entry) [ false ↦ none | true ↦ some e ]) held)
 
-  none-withdrawn : (rule : List ℕ) (r : Reading) → in_force (withdraw_operation family rule r) ≡ none
-  none-withdrawn rule (Rule start size) = refl
-  none-withdrawn rule (NotRead number place) = refl
+    -- the same of what they ask, which is not refused where it is about a rule
+    same-announced : Fits family → (q r : Result Request Refusal) → request_of family policy a ≡ q → request_of family policy b ≡ r
+        → is_about key_order (entry_key family) k (announce_operation family a q) ≡ true
+        → is_about key_order (entry_key family) k (announce_operation family b r) ≡ true
+        → in_force (announce_operation family a q) ≡ in_force (announce_operation family b r)
+    same-announced fits (Err refusal) r is also x y = apart (cc)
+    same-announced fits (Ok asked) (Err refusal) is also x y = apart (cc)
+    same-announced fits (Ok asked) (Ok again) is also x y =
+        same-asked fits asked.start asked.size asked.actions asked.feasible again.start again.size again.actions again.feasible is also x y
+
+  none-withdrawn : (rule : List ℕ) (r : Result Span Refusal) → in_force (withdraw_operation family rule r) ≡ none
+  none-withdrawn rule (Ok read) = refl
+  none-withdrawn rule (Err refusal) = refl
 
   same-in-force : Fits family → (k : RuleKey) (call other : Call) → Settled k call → Settled k other → deed call ≡ deed other
       → in_force (operation_of family call) ≡ in_force (operation_of family other)

@@ -6,6 +6,7 @@ use mathlib.Core.Bool.{true, false}
 use mathlib.Core.List.{List, [], ◌∷◌, ◌++◌, map}
 use Prim.Native.Nat.{ℕ, ◌^◌, ◌<◌}
 use lib.ListN.{length, drop, length-map}
+use Rattle.std.proofs.Common.{Ok}
 use Rattle.octets.specs.Test.{Each}
 use Rattle.octets.proofs.Cases.{by-test, apart}
 use Rattle.octets.proofs.Facts.{Octets}
@@ -18,11 +19,9 @@ use Rattle.flowspec.proofs.ToldLaws.{announce-tells, withdraw-tells}
 use Rattle.attribute.specs.Head.{reach_head}
 use Rattle.attribute.specs.Rules.{reach_rules, unreach_rules}
 use Rattle.attribute.proofs.RulesLaws.{each-octets}
-use Rattle.update.specs.declared.Reached.TheVariants.{Done as AllAnnounced, Refused as NotReached}
-use Rattle.update.specs.declared.Unreached.TheVariants.{Done as AllWithdrawn, Refused as NotUnreached}
 use Rattle.update.specs.Singles.{Reach, Singles, numbered, each_rule, announcement_in, announcing_each, withdrawing_each}
 use Rattle.update.specs.Checks.{reach_notes, reach_checks, unreach_checks}
-use Rattle.update.specs.Apply.{Left, listed, applied_all, refused_whole, reaching, unreaching}
+use Rattle.update.specs.Apply.{Left, listed, applied_all, refused_whole, reaching, unreaching, reached}
 use Rattle.update.proofs.ApplyLaws.{decided-either}
 use Rattle.history.specs.History.{Call, announcement, withdrawal, answer_told, Made, CanBe, EachCanBe, told_of, number_of, LentPolicy, SamePolicy, end_of, Happened, outcome_of, made_on, history_of, empty_table, FromEmpty, Agree, HoldsExactly, EndAlike}
 use Rattle.history.specs.Attributes.{Attribute, reach, unreach, AnswerToAll, whole_told, Whole, Event, single, whole, left_by, end_of_events, calls_in, stands_for, AttributeCanBe, EventCanBe, AttributeLent, EventLent, SameThroughout, ActsAs, WholePromised, EventPromised, EventsHappened, left_on, singles_in, singles_of, EventsFromEmpty}
@@ -139,13 +138,13 @@ module _ (family : Family) where
   unfolding reaching unreaching
   left-acts (reach policy r) table lent =
       decided-either (LeftActs (reach policy r) table lent) (reach_checks family policy r table lent)
-      (applied_all (λ count. AllAnnounced count (reach_notes r)) (announcing_each family policy r table) lent) (refused_whole NotReached table lent)
+      (applied_all (λ count. Ok (reached count (reach_notes r))) (announcing_each family policy r table) lent) (refused_whole table lent)
       (λ hold. each-acts (λ rule. announcement policy (announcement_in r rule)) (reach_notes r ∷ [])
       (λ rule t. announced-values policy (announcement_in r rule) t) (reach_rules family r.attribute).items table lent)
       (λ number place. record { leaves = refl; lists = refl; counts = refl; notes = tt })
   left-acts (unreach attribute) table lent =
       decided-either (LeftActs (unreach attribute) table lent) (unreach_checks family attribute table lent)
-      (applied_all AllWithdrawn (withdrawing_each family attribute table) lent) (refused_whole NotUnreached table lent)
+      (applied_all (λ count. Ok count) (withdrawing_each family attribute table) lent) (refused_whole table lent)
       (λ hold. each-acts withdrawal [] withdrawn-values (unreach_rules family attribute).items table lent)
       (λ number place. record { leaves = refl; lists = refl; counts = refl; notes = tt })
 
@@ -164,10 +163,10 @@ module _ (family : Family) where
 
   -- so the notes that a reach tells are those that each of its announcements tells which is done
   pub reach-notes : (policy : Policy) (r : Reach) (table lent left words : List ℕ) (count notes : ℕ)
-      → WholePromised family (reach policy r) table lent (AllAnnounced count notes) left words
+      → WholePromised family (reach policy r) table lent (Ok (reached count notes)) left words
       → Each (λ m. (told_of m).grants ≡ true → (told_of m).values ≡ notes ∷ []) (history_of family table (calls_in family (reach policy r)))
   reach-notes policy r table lent left words count notes p =
-      (whole-acts (record { attribute = reach policy r; lent = lent; answer = AllAnnounced count notes; words = words; left = left }) table p).notes
+      (whole-acts (record { attribute = reach policy r; lent = lent; answer = Ok (reached count notes); words = words; left = left }) table p).notes
 
   -- one event
   event-happened : (e : Event) (table : List ℕ) → EventPromised family table e → Happened family table (singles_in family table e)

@@ -4,13 +4,14 @@
 use mathlib.Core.Path.{◌≡◌, refl, sym, ap, ap₂, subst, ◌∙◌}
 use mathlib.Core.List.{List, [], ◌∷◌, map}
 use Prim.Native.Nat.{ℕ, ◌^◌, ◌<◌, ◌≤◌}
+use Rattle.std.proofs.Common.{Result}
 use Rattle.octets.specs.Test.{Each}
 use Rattle.octets.proofs.Facts.{Octets}
 use Rattle.rule.specs.declared.Family.{Family}
+use Rattle.rule.specs.declared.Refusal.{Refusal}
 use Rattle.table.specs.Sound.{most_octets}
 use Rattle.request.specs.Input.{Policy}
 use Rattle.update.specs.declared.Reached.{Reached}
-use Rattle.update.specs.declared.Unreached.{Unreached}
 use Rattle.update.specs.Singles.{Reach}
 use Rattle.update.specs.Apply.{Left}
 use Rattle.update.specs.Promise.{Reaches, Unreaches}
@@ -28,11 +29,11 @@ unreach-given attribute o = tt
 
 module _ (family : Family) where
   -- what a call promises is what a history asks of it
-  pub reaches-promised : (policy : Policy) (r : Reach) (table lent : List ℕ) (answer : Reached) (left words : List ℕ) (kept : List (List ℕ))
+  pub reaches-promised : (policy : Policy) (r : Reach) (table lent : List ℕ) (answer : Result Reached Refusal) (left words : List ℕ) (kept : List (List ℕ))
       → Reaches family policy r table lent answer left words kept → WholePromised family (reach policy r) table lent answer left words
   reaches-promised policy r table lent answer left words kept p = subst (λ k. Reaches family policy r table lent answer left words k) p.keeps p
 
-  pub unreaches-promised : (attribute table lent : List ℕ) (answer : Unreached) (left words : List ℕ) (kept : List (List ℕ))
+  pub unreaches-promised : (attribute table lent : List ℕ) (answer : Result ℕ Refusal) (left words : List ℕ) (kept : List (List ℕ))
       → Unreaches family attribute table lent answer left words kept → WholePromised family (unreach attribute) table lent answer left words
   unreaches-promised attribute table lent answer left words kept p = subst (λ k. Unreaches family attribute table lent answer left words k) p.keeps p
 

@@ -3,12 +3,12 @@
 use mathlib.Core.Path.{◌≡◌, refl, ap, ap₂, subst, ◌∙◌}
 use mathlib.Core.List.{List, [], ◌∷◌, ◌++◌, map}
 use Prim.Native.Nat.{ℕ, ◌^◌, ◌<◌, ◌≤◌}
+use Rattle.std.proofs.Common.{Result}
 use Rattle.octets.specs.Test.{Each}
 use Rattle.octets.proofs.Facts.{Octets}
 use Rattle.rule.specs.declared.Family.{Family}
+use Rattle.rule.specs.declared.Refusal.{Refusal}
 use Rattle.table.specs.Sound.{most_octets}
-use Rattle.flowspec.specs.declared.Announced.{Announced}
-use Rattle.flowspec.specs.declared.Withdrawn.{Withdrawn}
 use Rattle.request.specs.Input.{Announcement, Policy}
 use Rattle.flowspec.specs.Announce.{announcing, withdrawing}
 use Rattle.flowspec.specs.Promise.{Announces, Withdraws}
@@ -38,11 +38,11 @@ module _ (family : Family) where
   happened-append (m ∷ h) g table made also = (made.0, happened-append h g m.left made.1 also)
 
   -- what a call promises is what a history asks of it
-  pub announces-promised : (policy : Policy) (a : Announcement) (table : List ℕ) (answer : Announced) (left : List ℕ) (kept : List (List ℕ))
+  pub announces-promised : (policy : Policy) (a : Announcement) (table : List ℕ) (answer : Result ℕ Refusal) (left : List ℕ) (kept : List (List ℕ))
       → Announces family policy a table answer left kept → Promised family (announcement policy a) table answer left
   announces-promised policy a table answer left kept p = subst (λ k. Announces family policy a table answer left k) p.keeps p
 
-  pub withdraws-promised : (rule table : List ℕ) (answer : Withdrawn) (left : List ℕ) (kept : List (List ℕ))
+  pub withdraws-promised : (rule table : List ℕ) (answer : Result Unit Refusal) (left : List ℕ) (kept : List (List ℕ))
       → Withdraws family rule table answer left kept → Promised family (withdrawal rule) table answer left
   withdraws-promised rule table answer left kept p = subst (λ k. Withdraws family rule table answer left k) p.keeps p
 

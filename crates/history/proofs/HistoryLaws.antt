@@ -3,21 +3,24 @@
 -- order; so that two histories which leave the same in force end in equal octets. A call that is answered 11 changes nothing and does not
 -- count, so that nothing is asked of those.
 use mathlib.Core.Path.{◌≡◌, refl, sym, ap₂, subst, ◌∙◌}
-use mathlib.Core.Bool.{true}
+use mathlib.Core.Bool.{Bool, true, false}
 use mathlib.Core.List.{List, [], ◌∷◌}
 use Prim.Native.Nat.{ℕ, ◌^◌, ◌<◌, ◌≤◌}
 use native.Mathlib.Nat.{sub-zero}
 use native.Mathlib.Omega.{arith}
 use lib.ListN.{length, length-replicate}
+use Rattle.std.proofs.Common.{Result, Ok, Err}
 use Rattle.octets.specs.Test.{every}
+use Rattle.octets.proofs.Cases.{by-test}
 use Rattle.octets.proofs.Facts.{Octets}
 use Rattle.sorted.specs.History.{Op, announce, withdraw, apply, run, Ran}
 use Rattle.sorted.specs.History as S
 use Rattle.sorted.proofs.HistoryLaws.{Brings, run_holds, run_agree}
 use Rattle.rule.specs.declared.Family.{Family}
-use Rattle.rule.specs.declared.Reading.{Reading}
-use Rattle.rule.specs.declared.Reading.TheVariants.{Rule, Refused as NotRead}
+use Rattle.rule.specs.declared.Refusal.{Refusal}
+use Rattle.rule.specs.declared.Span.{Span}
 use Rattle.spelling.specs.Plain.{plain}
+use Rattle.rule.specs.Refusal.{told_number}
 use Rattle.rule.specs.Reading.{value_of, one_rule}
 use Rattle.rule.proofs.ReadingLaws.{one-read}
 use Rattle.action.proofs.PossibleLaws.{read-possible}
@@ -27,12 +30,12 @@ use Rattle.entry.specs.Entry.{Entry, entry_key, possible}
 use Rattle.entry.proofs.ValueLaws.{make-possible}
 use Rattle.table.specs.Walk.{entries}
 use Rattle.table.specs.Sound.{cost, table_of, records_of, Encodes, most_octets}
-use Rattle.table.specs.Change.{changed}
+use Rattle.table.specs.Change.{holds, has_room, outcome_of, changed}
+use Rattle.table.proofs.CaseLaws.{changed-room, changed-no-room, changed-infeasible, changed-held, changed-not-held}
 use Rattle.table.proofs.LeaveLaws.{changed-number, changed-encodes, changed-long}
 use Rattle.table.proofs.SoundLaws.{encodes-sound, encodes-entries}
 use Rattle.table.proofs.CallLaws.{plain-held}
 use Rattle.request.specs.declared.Request.{Request}
-use Rattle.request.specs.declared.Request.TheVariants.{Announce, Refused as NoRequest}
 use Rattle.request.specs.Input.{Announcement, Policy}
 use Rattle.request.specs.Request.{announced_entry, request_of}
 use Rattle.flowspec.specs.Announce.{announce_operation, withdraw_operation, announced_by, announcing, withdrawn_by, withdrawing}
@@ -58,23 +61,34 @@ same-changed family t es c op could number is =
       long = changed-long family t es c op;
     }
 
+-- an announcement's outcome tells the number of its change
+announce-number : (family : Family) (t : List ℕ) (e : Entry) (feasible : Bool)
+    → told_number (outcome_of (changed family t (announce e feasible)).number) ≡ (changed family t (announce e feasible)).number
+announce-number family t e true = by-test (has_room family t e) (λ h. rw (changed-room family t e h)) (λ h. rw (changed-no-room family t e h))
+announce-number family t e false = rw (changed-infeasible family t e)
+
+-- and so does a withdrawal's
+withdraw-number : (family : Family) (t : List ℕ) (k : RuleKey)
+    → told_number (outcome_of (changed family t (withdraw k)).number) ≡ (changed family t (withdraw k)).number
+withdraw-number family t k = by-test (holds family t k) (λ h. rw (changed-held family t k h)) (λ h. rw (changed-not-held family t k h))
+
 -- what is asked to be announced could be
-abbrev pub Could : Family → Announcement → Request → Type 0
-Could family a (NoRequest number place) = Unit {0}
-Could family a (Announce start size actions feasible) = possible family (announced_entry family a start size actions) ≡ true
+abbrev pub Could : Family → Announcement → Result Request Refusal → Type 0
+Could family a (Err refusal) = Unit {0}
+Could family a (Ok asked) = possible family (announced_entry family a asked.start asked.size asked.actions) ≡ true
 
 pub asked-could : (family : Family) (policy : Policy) (a : Announcement) → Octets a.rule → a.origin.originator < 2 ^ 32 → Could family a (request_of family policy a)
 asked-could family policy a o small =
     go (request_of family policy a) refl
   where
-    go : (r : Request) → request_of family policy a ≡ r → Could family a r
-    go (NoRequest number place) e = tt
-    go (Announce start size actions feasible) e =
-        let from = asked-from family policy a start size actions feasible e in
-        let octets = octets-value a.rule start size o in
-        make-possible family (announced_entry family a start size actions) small
-        (read-possible a.communities actions from.acts)
-        (plain-held family (value_of a.rule start size) octets (one-read family a.rule start size from.read).accepted)
+    go : (r : Result Request Refusal) → request_of family policy a ≡ r → Could family a r
+    go (Err refusal) e = tt
+    go (Ok asked) e =
+        let from = asked-from family policy a asked.start asked.size asked.actions asked.feasible e in
+        let octets = octets-value a.rule asked.start asked.size o in
+        make-possible family (announced_entry family a asked.start asked.size asked.actions) small
+        (read-possible a.communities asked.actions from.acts)
+        (plain-held family (value_of a.rule asked.start asked.size) octets (one-read family a.rule asked.start asked.size from.read).accepted)
 
 -- one call
 module _ (family : Family) (t : List ℕ) (es : List Entry) (c : Encodes family t es) where
@@ -85,12 +99,13 @@ module _ (family : Family) (t : List ℕ) (es : List Entry) (c : Encodes family 
   same-announcing policy a o small =
       rw (encodes-sound family t es c) (go (request_of family policy a) (asked-could family policy a o small))
     where
-      go : (r : Request) → Could family a r
+      go : (r : Result Request Refusal) → Could family a r
           → Same family (length t) (announced_told (announced_by family a t r).answer).number (announced_by family a t r).table
           (apply key_order (entry_key family) cost (length t) (announce_operation family a r) es)
-      go (NoRequest number place) ok = record { answers = refl; encodes = c; long = refl }
-      go (Announce start size actions feasible) ok =
-          same-changed family t es c (announce (announced_entry family a start size actions) feasible) ok _ (announced-told actions _)
+      go (Err refusal) ok = record { answers = refl; encodes = c; long = refl }
+      go (Ok asked) ok =
+          let e = announced_entry family a asked.start asked.size asked.actions in
+          same-changed family t es c (announce e asked.feasible) ok _ (announced-told asked.actions _ ∙ announce-number family t e asked.feasible)
 
   same-withdrawing : (rule : List ℕ)
       → Same family (length t) (withdrawn_told (withdrawing family rule t).answer).number (withdrawing family rule t).table
@@ -98,11 +113,13 @@ module _ (family : Family) (t : List ℕ) (es : List Entry) (c : Encodes family 
   unfolding withdrawing
   same-withdrawing rule = rw (encodes-sound family t es c) (go (one_rule family rule))
     where
-      go : (r : Reading)
+      go : (r : Result Span Refusal)
           → Same family (length t) (withdrawn_told (withdrawn_by family t rule r).answer).number (withdrawn_by family t rule r).table
           (apply key_order (entry_key family) cost (length t) (withdraw_operation family rule r) es)
-      go (NotRead number place) = record { answers = refl; encodes = c; long = refl }
-      go (Rule start size) = same-changed family t es c (withdraw (keys_of family (plain family (value_of rule start size)))) tt _ (withdrawn-told _)
+      go (Err refusal) = record { answers = refl; encodes = c; long = refl }
+      go (Ok read) =
+          let k = keys_of family (plain family (value_of rule read.start read.size)) in
+          same-changed family t es c (withdraw k) tt _ (withdrawn-told _ ∙ withdraw-number family t k)
 
   same-made : (call : Call) (answer : AnswerTo call) (left : List ℕ) → CanBe call → Promised family call t answer left
       → Same family (length t) (answer_told call answer).number left (apply key_order (entry_key family) cost (length t) (operation_of family call) es)

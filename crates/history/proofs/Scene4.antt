@@ -32,7 +32,7 @@ use Rattle.lookup.specs.Lookup.{collected, merged_onto, verdict_of, verdict_for,
 use Rattle.table.specs.Sound.{records_of, table_of, sound_table, soundness}
 use Rattle.table.specs.Walk.{record_at, records_from, records, entries}
 use Rattle.request.specs.Request.{request_of}
-use Rattle.flowspec.specs.Announce.{announced_of, announcing, withdrawn_of, withdrawing}
+use Rattle.flowspec.specs.Announce.{announcing, withdrawing}
 use Rattle.request.specs.Judging.{read_with_routes, is_feasible}
 use Rattle.flowspec.specs.Feasibility.{judgement}
 use Rattle.lookup.specs.Opening.{opening}
@@ -57,7 +57,7 @@ unfolding
     field_matches fields_for body_covers component_matches matches numeric_holds bitmask_holds fields_of packet_of groups_from groups list_holds
     transport_octets transport_fields plain_value possible written_fields read_fields head_numbers record_of actions_in entry_of good_record holds
     has_room changed collected merged_onto verdict_of verdict_for first_place records_of table_of sound_table soundness record_at
-    records_from records entries announced_of withdrawn_of request_of announcing withdrawing read_with_routes is_feasible judgement opening looking_up first_match
+    records_from records entries request_of announcing withdrawing read_with_routes is_feasible judgement opening looking_up first_match
     match_place shape_of scaled value_rate rate_of_parts rate_of fits_significand is_single rate_given body_order component_order components_order
     plain_order precedence afi_of is_of_family is_reach is_unreach rule_at rules_from reaching unreaching
 computed =

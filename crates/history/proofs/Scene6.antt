@@ -3,10 +3,12 @@
 use mathlib.Core.Path.{◌≡◌, refl}
 use mathlib.Core.Bool.{true}
 use mathlib.Core.List.{[], ◌∷◌}
+use Rattle.std.proofs.Common.{Err}
 use Rattle.octets.specs.Number.{number_at, octets_of}
 use Rattle.octets.specs.Test.{every, one_holds, all_zero, same_list}
 use Rattle.octets.specs.Walk.{walk}
 use Rattle.prefix.specs.Prefix.{bits, contains, pattern_in, covers_address, prefix_order}
+use Rattle.rule.specs.declared.Refusal.TheVariants.{Infeasible, UntakenAttribute}
 use Rattle.rule.specs.Component.{pair_at, pairs_from, prefix_end, body_end, component_at, lead_of, offset_at}
 use Rattle.rule.specs.Operator.{ends_list, size_of}
 use Rattle.spelling.specs.Plain.{body_of, operand_after, after, plain_operator, plain_operand, plain_pattern, cleared_octet, plain_from, plain, expected_at_start, pattern_after, without_reserved}
@@ -37,7 +39,7 @@ use Rattle.lookup.specs.Lookup.{collected, merged_onto, verdict_of, verdict_for,
 use Rattle.table.specs.Sound.{records_of, table_of, sound_table, soundness}
 use Rattle.table.specs.Walk.{record_at, records_from, records, entries}
 use Rattle.request.specs.Request.{request_of}
-use Rattle.flowspec.specs.Announce.{announced_of, announcing, withdrawn_of, withdrawing}
+use Rattle.flowspec.specs.Announce.{announcing, withdrawing}
 use Rattle.request.specs.Judging.{read_with_routes, is_feasible}
 use Rattle.flowspec.specs.Feasibility.{judgement}
 use Rattle.lookup.specs.Opening.{opening}
@@ -49,8 +51,6 @@ use Rattle.attribute.specs.Head.{afi_of, is_of_family, is_reach, is_unreach}
 use Rattle.attribute.specs.Rules.{rule_at, rules_from}
 use Rattle.update.specs.Apply.{reaching, unreaching}
 use Rattle.update.specs.Singles.{reach_of}
-use Rattle.flowspec.specs.declared.Announced.TheVariants.{Refused as NotAnnounced}
-use Rattle.update.specs.declared.Reached.TheVariants.{Refused as NotReached}
 use Rattle.history.specs.History.{empty_table}
 use Rattle.history.specs.Worked.{seven, dropping}
 use Rattle.history.specs.Scene6.{scene_six, allowing, shifted, shifted_table}
@@ -67,7 +67,7 @@ unfolding
     field_matches fields_for body_covers component_matches matches numeric_holds bitmask_holds fields_of packet_of groups_from groups list_holds
     transport_fields plain_value possible written_fields read_fields head_numbers record_of actions_in entry_of good_record holds
     has_room changed collected merged_onto verdict_of verdict_for first_place records_of table_of sound_table soundness record_at
-    records_from records entries announced_of withdrawn_of request_of announcing withdrawing read_with_routes is_feasible judgement opening looking_up first_match
+    records_from records entries request_of announcing withdrawing read_with_routes is_feasible judgement opening looking_up first_match
     match_place shape_of scaled value_rate rate_of_parts rate_of fits_significand is_single rate_given body_order component_order components_order
     plain_order precedence afi_of is_of_family is_reach is_unreach rule_at rules_from reaching unreaching
 computed =
@@ -114,11 +114,11 @@ shown-six = shown scene_six computed ipv6-fits
 
 -- beside it: a destination with an offset, where rules with no destination are allowed, and a reach of the other family
 pub record Beside : Type 0 where
-  pub refuses : announcing ipv6 allowing shifted (empty_table 64) ≡ record { answer = NotAnnounced 8 0; table = empty_table 64 }
+  pub refuses : announcing ipv6 allowing shifted (empty_table 64) ≡ record { answer = Err Infeasible; table = empty_table 64 }
   pub sound : sound_table ipv6 shifted_table ≡ true
-  pub removes : announcing ipv6 allowing shifted shifted_table ≡ record { answer = NotAnnounced 8 0; table = empty_table 64 }
+  pub removes : announcing ipv6 allowing shifted shifted_table ≡ record { answer = Err Infeasible; table = empty_table 64 }
   pub reaches_none : reaching ipv6 allowing (reach_of (0 ∷ 1 ∷ 133 ∷ 0 ∷ 0 ∷ scene_six.rule) seven dropping) (empty_table 64) (99 ∷ [])
-      ≡ record { answer = NotReached 19 0; table = empty_table 64; words = 99 ∷ [] }
+      ≡ record { answer = Err UntakenAttribute; table = empty_table 64; words = 99 ∷ [] }
 
 pub beside : Beside
 unfolding
@@ -131,7 +131,7 @@ unfolding
     field_matches fields_for body_covers component_matches matches numeric_holds bitmask_holds fields_of packet_of groups_from groups list_holds
     transport_fields plain_value possible written_fields read_fields head_numbers record_of actions_in entry_of good_record holds
     has_room changed collected merged_onto verdict_of verdict_for first_place records_of table_of sound_table soundness record_at
-    records_from records entries announced_of withdrawn_of request_of announcing withdrawing read_with_routes is_feasible judgement opening looking_up first_match
+    records_from records entries request_of announcing withdrawing read_with_routes is_feasible judgement opening looking_up first_match
     match_place shape_of scaled value_rate rate_of_parts rate_of fits_significand is_single rate_given body_order component_order components_order
     plain_order precedence afi_of is_of_family is_reach is_unreach rule_at rules_from reaching unreaching
 beside = record { refuses = refl; sound = refl; removes = refl; reaches_none = refl }

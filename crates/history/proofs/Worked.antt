@@ -12,13 +12,14 @@ use native.Mathlib.Omega.{arith}
 use lib.Dec.{leb, ltb, compare_is_eq}
 use lib.ListN.{length, replicate}
 use borrow.Author.Tests.{leb-true, ltb-true}
-use Rattle.std.proofs.Common.{Some}
+use Rattle.std.proofs.Common.{Result, Ok, Err, Option, Some}
 use Rattle.octets.specs.Test.{every}
 use Rattle.octets.proofs.Cases.{by-test, apart, both}
 use Rattle.octets.proofs.Facts.{Octets}
-use Rattle.rule.specs.declared.Reading.TheVariants.{Rule}
+use Rattle.rule.specs.declared.Refusal.{Refusal}
+use Rattle.rule.specs.declared.Refusal.TheVariants.{Infeasible, NotHeld}
 use Rattle.rule.specs.Family.{Fits}
-use Rattle.rule.specs.Reading.{one_rule, value_of}
+use Rattle.rule.specs.Reading.{one_rule, value_of, span}
 use Rattle.spelling.specs.Plain.{plain}
 use Rattle.order.specs.Key.{keys_of, RuleKey, key_order}
 use Rattle.order.proofs.KeyLaws.{key-order}
@@ -26,19 +27,14 @@ use Rattle.action.specs.Actions.{actions_of}
 use Rattle.entry.specs.Entry.{Entry, entry_key}
 use Rattle.table.specs.Sound.{most_octets}
 use Rattle.table.specs.Walk.{entries}
-use Rattle.flowspec.specs.declared.Announced.TheVariants.{Held, Refused as NotAnnounced}
-use Rattle.flowspec.specs.declared.Withdrawn.TheVariants.{Done, Refused as NotWithdrawn}
-use Rattle.flowspec.specs.declared.Looked.{Looked}
-use Rattle.request.specs.declared.Request.TheVariants.{Announce}
-use Rattle.request.specs.Request.{request_of}
+use Rattle.lookup.specs.declared.Matched.{Matched}
+use Rattle.request.specs.Request.{request_of, request}
 use Rattle.flowspec.specs.Announce.{announcing, withdrawing}
 use Rattle.flowspec.specs.Look.{looking_up}
 use Rattle.flowspec.specs.Told.{lookup_told, done}
 use Rattle.flowspec.specs.Promise.{LooksUp}
 use Rattle.flowspec.proofs.TableLaws.{announce-kept, withdraw-kept}
-use Rattle.update.specs.declared.Reached.TheVariants.{Done as AllAnnounced}
-use Rattle.update.specs.declared.Unreached.TheVariants.{Done as AllWithdrawn}
-use Rattle.update.specs.Apply.{reaching, unreaching}
+use Rattle.update.specs.Apply.{reaching, unreaching, reached}
 use Rattle.history.specs.History.{Made, announced, withdrew, deed_of, empty_table, end_of, last_counted, in_force_after, SamePolicy, Agree, FromEmpty, HoldsExactly, EndAlike}
 use Rattle.history.specs.Attributes.{reach, unreach, single, end_of_events, singles_of, EventsFromEmpty}
 use Rattle.history.specs.Worked.{Scene, seven, dropping, dropping_spelled, taken_as_zero, drops, marks, entry, other_entry, owned, foreign, respelled, marked, other_dropped, unrouted, worked, other, both_reached, attributes, standing, rerouted}
@@ -65,24 +61,24 @@ octets-each (x ∷ s) e =
 -- lookups
 pub record Computed (s : Scene) : Type 0 where
   pub fits : leb s.size most_octets ≡ true
-  pub announces : announcing s.family s.policy (owned s) (empty_table s.size) ≡ record { answer = Held taken_as_zero; table = s.one }
-  pub adds : announcing s.family s.policy (marked s) s.one ≡ record { answer = Held 0; table = s.both }
-  pub removes : announcing s.family s.policy (foreign s) s.both ≡ record { answer = NotAnnounced 8 0; table = s.another }
-  pub again : announcing s.family s.policy (owned s) s.another ≡ record { answer = Held taken_as_zero; table = s.both }
-  pub withdraws : withdrawing s.family s.other_rule s.both ≡ record { answer = Done; table = s.one }
-  pub withdraws_none : withdrawing s.family s.other_rule (empty_table s.size) ≡ record { answer = NotWithdrawn 14 0; table = empty_table s.size }
-  pub announces_spelled : announcing s.family s.policy (respelled s) (empty_table s.size) ≡ record { answer = Held taken_as_zero; table = s.one }
-  pub removes_unrouted : announcing s.family unrouted (owned s) s.both ≡ record { answer = NotAnnounced 8 0; table = s.another }
+  pub announces : announcing s.family s.policy (owned s) (empty_table s.size) ≡ record { answer = Ok taken_as_zero; table = s.one }
+  pub adds : announcing s.family s.policy (marked s) s.one ≡ record { answer = Ok 0; table = s.both }
+  pub removes : announcing s.family s.policy (foreign s) s.both ≡ record { answer = Err Infeasible; table = s.another }
+  pub again : announcing s.family s.policy (owned s) s.another ≡ record { answer = Ok taken_as_zero; table = s.both }
+  pub withdraws : withdrawing s.family s.other_rule s.both ≡ record { answer = Ok tt; table = s.one }
+  pub withdraws_none : withdrawing s.family s.other_rule (empty_table s.size) ≡ record { answer = Err NotHeld; table = empty_table s.size }
+  pub announces_spelled : announcing s.family s.policy (respelled s) (empty_table s.size) ≡ record { answer = Ok taken_as_zero; table = s.one }
+  pub removes_unrouted : announcing s.family unrouted (owned s) s.both ≡ record { answer = Err Infeasible; table = s.another }
   pub reaches : reaching s.family s.policy (both_reached s) (empty_table s.size) (99 ∷ 99 ∷ 99 ∷ [])
-      ≡ record { answer = AllAnnounced 2 taken_as_zero; table = s.dropped; words = 0 ∷ 0 ∷ 99 ∷ [] }
-  pub unreaches : unreaching s.family s.unreached_other s.dropped (99 ∷ []) ≡ record { answer = AllWithdrawn 1; table = s.one; words = 0 ∷ [] }
+      ≡ record { answer = Ok (reached 2 taken_as_zero); table = s.dropped; words = 0 ∷ 0 ∷ 99 ∷ [] }
+  pub unreaches : unreaching s.family s.unreached_other s.dropped (99 ∷ []) ≡ record { answer = Ok 1; table = s.one; words = 0 ∷ [] }
   pub stands : singles_of s.family (empty_table s.size) (attributes s) ≡ standing s
-  pub asked_owned : request_of s.family s.policy (owned s) ≡ Announce 1 (length s.value) drops true
-  pub asked_foreign : request_of s.family s.policy (foreign s) ≡ Announce 1 (length s.value) drops false
-  pub asked_spelled : request_of s.family s.policy (respelled s) ≡ Announce 2 (length s.value) drops true
-  pub asked_marked : request_of s.family s.policy (marked s) ≡ Announce 1 (length s.other_value) marks true
-  pub asked_dropped : request_of s.family s.policy (other_dropped s) ≡ Announce 1 (length s.other_value) drops true
-  pub read_other : one_rule s.family s.other_rule ≡ Rule 1 (length s.other_value)
+  pub asked_owned : request_of s.family s.policy (owned s) ≡ Ok (request 1 (length s.value) drops true)
+  pub asked_foreign : request_of s.family s.policy (foreign s) ≡ Ok (request 1 (length s.value) drops false)
+  pub asked_spelled : request_of s.family s.policy (respelled s) ≡ Ok (request 2 (length s.value) drops true)
+  pub asked_marked : request_of s.family s.policy (marked s) ≡ Ok (request 1 (length s.other_value) marks true)
+  pub asked_dropped : request_of s.family s.policy (other_dropped s) ≡ Ok (request 1 (length s.other_value) drops true)
+  pub read_other : one_rule s.family s.other_rule ≡ Ok (span 1 (length s.other_value))
   pub plain_one : plain s.family (value_of s.rule 1 (length s.value)) ≡ s.value
   pub plain_spelled : plain s.family (value_of s.spelled 2 (length s.value)) ≡ s.value
   pub plain_other : plain s.family (value_of s.other_rule 1 (length s.other_value)) ≡ s.other_value
@@ -115,7 +111,7 @@ module _ (s : Scene) (h : List Made) where
   Gone value = (e : Entry) → entry_key s.family e ≡ keys_of s.family value → Stands e → ⊥
 
   abbrev Judges : List ℕ → List ℕ → Type 0
-  Judges packet values = (answer : Looked) (kept : List (List ℕ)) → LooksUp s.family left packet answer kept → lookup_told answer ≡ done values
+  Judges packet values = (answer : Result (Option Matched) Refusal) (kept : List (List ℕ)) → LooksUp s.family left packet answer kept → lookup_told answer ≡ done values
 
 -- **what is shown of a scene.** The first history ends in a table that holds exactly what is in force (`holds`): the one rule, with its
 -- originator and actions (`one_held`), and not the other (`other_gone`); a packet that the one rule meets is matched there by one rule, which
@@ -146,14 +142,14 @@ module _ (s : Scene) (c : Computed s) where
         fits = within;
         given = ((rule, omega arith), ((octets-each s.other_rule c.octets_other, omega arith), ((rule, omega arith), ((rule, omega arith), (tt, tt)))));
         happened = (
-          announce-kept s.family s.policy (owned s) (empty_table s.size) _ (Held taken_as_zero) s.one c.announces refl refl,
+          announce-kept s.family s.policy (owned s) (empty_table s.size) _ (Ok taken_as_zero) s.one c.announces refl refl,
           (
-            announce-kept s.family s.policy (marked s) s.one _ (Held 0) s.both c.adds refl refl,
+            announce-kept s.family s.policy (marked s) s.one _ (Ok 0) s.both c.adds refl refl,
             (
-              announce-kept s.family s.policy (foreign s) s.both _ (NotAnnounced 8 0) s.another c.removes refl refl,
+              announce-kept s.family s.policy (foreign s) s.both _ (Err Infeasible) s.another c.removes refl refl,
               (
-                announce-kept s.family s.policy (owned s) s.another _ (Held taken_as_zero) s.both c.again refl refl,
-                (withdraw-kept s.family s.other_rule s.both _ Done s.one c.withdraws refl refl, tt),
+                announce-kept s.family s.policy (owned s) s.another _ (Ok taken_as_zero) s.both c.again refl refl,
+                (withdraw-kept s.family s.other_rule s.both _ (Ok tt) s.one c.withdraws refl refl, tt),
               ),
             ),
           ),
@@ -166,8 +162,8 @@ module _ (s : Scene) (c : Computed s) where
         fits = within;
         given = (tt, ((octets-each s.spelled c.octets_spelled, omega arith), tt));
         happened = (
-          withdraw-kept s.family s.other_rule (empty_table s.size) _ (NotWithdrawn 14 0) (empty_table s.size) c.withdraws_none refl refl,
-          (announce-kept s.family s.policy (respelled s) (empty_table s.size) _ (Held taken_as_zero) s.one c.announces_spelled refl refl, tt),
+          withdraw-kept s.family s.other_rule (empty_table s.size) _ (Err NotHeld) (empty_table s.size) c.withdraws_none refl refl,
+          (announce-kept s.family s.policy (respelled s) (empty_table s.size) _ (Ok taken_as_zero) s.one c.announces_spelled refl refl, tt),
         );
       }
 
@@ -189,10 +185,10 @@ module _ (s : Scene) (c : Computed s) where
         fits = within;
         given = ((rule, omega arith), ((octets-each s.other_rule c.octets_other, omega arith), ((rule, omega arith), tt)));
         happened = (
-          announce-kept s.family s.policy (owned s) (empty_table s.size) _ (Held taken_as_zero) s.one c.announces refl refl,
+          announce-kept s.family s.policy (owned s) (empty_table s.size) _ (Ok taken_as_zero) s.one c.announces refl refl,
           (
-            announce-kept s.family s.policy (marked s) s.one _ (Held 0) s.both c.adds refl refl,
-            (announce-kept s.family unrouted (owned s) s.both _ (NotAnnounced 8 0) s.another c.removes_unrouted refl refl, tt),
+            announce-kept s.family s.policy (marked s) s.one _ (Ok 0) s.both c.adds refl refl,
+            (announce-kept s.family unrouted (owned s) s.both _ (Err Infeasible) s.another c.removes_unrouted refl refl, tt),
           ),
         );
       }

@@ -1,15 +1,15 @@
 -- Histories that hold whole attributes beside single calls. 2026-01: "Demand 3's history then means the single calls an attribute stands
 -- for." An attribute that is refused stands for none. Demand 3 itself (History.antt) is read on those single calls.
-use Rattle.std.specs.Prelude.{ℕ, ◌^◌, ◌<◌, ◌≤◌, ◌≡◌, true, cond, List, [], ◌∷◌, ◌++◌, map, length, drop, get_or}
+use Rattle.std.specs.Prelude.{ℕ, ◌^◌, ◌<◌, ◌≤◌, ◌≡◌, true, cond, List, [], ◌∷◌, ◌++◌, map, length, drop, get_or, Result}
 use Rattle.octets.specs.Number.{Octets}
 use Rattle.octets.specs.Test.{Each}
 use Rattle.rule.specs.declared.Family.{Family}
+use Rattle.rule.specs.declared.Refusal.{Refusal}
 use Rattle.table.specs.Sound.{most_octets}
 use Rattle.request.specs.Input.{Policy}
 use Rattle.attribute.specs.Rules.{reach_rules, unreach_rules}
 use Rattle.flowspec.specs.Told.{Told}
 use Rattle.update.specs.declared.Reached.{Reached}
-use Rattle.update.specs.declared.Unreached.{Unreached}
 use Rattle.update.specs.Singles.{Reach, announcement_in}
 use Rattle.update.specs.Apply.{Left, reaching, unreaching, reached_told, unreached_told}
 use Rattle.update.specs.Promise.{Reaches, Unreaches}
@@ -22,8 +22,8 @@ pub data Attribute : Type 0 where
 
 -- What a call with a whole attribute is answered with, by its kind.
 abbrev pub AnswerToAll : Attribute → Type 0
-AnswerToAll (reach policy r) = Reached
-AnswerToAll (unreach attribute) = Unreached
+AnswerToAll (reach policy r) = Result Reached Refusal
+AnswerToAll (unreach attribute) = Result ℕ Refusal
 
 -- What that answer says.
 abbrev pub whole_told : (attribute : Attribute) → AnswerToAll attribute → Told

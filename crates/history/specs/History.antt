@@ -1,7 +1,7 @@
 -- Histories: calls that change one table, each with what it was lent, its answer and the octets it left. Routes and setting may change from
 -- one call to the next. A rule is known by its key: two accepted rules have one key exactly when their plain spellings are equal (crate
 -- order, KeyLaws: `keys-only` and `keys-same`).
-use Rattle.std.specs.Prelude.{ℕ, ◌^◌, ◌<◌, ◌≤◌, ◌≡◌, ◌↔◌, length, replicate, Option as OptionInCode}
+use Rattle.std.specs.Prelude.{ℕ, ◌^◌, ◌<◌, ◌≤◌, ◌≡◌, ◌↔◌, length, replicate, Result, Option as OptionInCode}
 use mathlib.Core.List.{List, [], ◌∷◌, Memᴰ}
 use Rattle.std.proofs.Math.Option.{Option, none, some}
 use Rattle.octets.specs.Number.{Octets}
@@ -9,6 +9,7 @@ use Rattle.octets.specs.Test.{Each}
 use Rattle.sorted.specs.History.{Op}
 use Rattle.sorted.specs.History as S
 use Rattle.rule.specs.declared.Family.{Family}
+use Rattle.rule.specs.declared.Refusal.{Refusal}
 use Rattle.rule.specs.Reading.{one_rule}
 use Rattle.route.specs.declared.Origin.{Origin}
 use Rattle.order.specs.Key.{RuleKey, key_order}
@@ -17,9 +18,7 @@ use Rattle.action.specs.Actions.{actions_of}
 use Rattle.entry.specs.Entry.{Entry, entry_key}
 use Rattle.table.specs.Walk.{entries}
 use Rattle.table.specs.Sound.{Encodes, most_octets}
-use Rattle.flowspec.specs.declared.Announced.{Announced}
-use Rattle.flowspec.specs.declared.Withdrawn.{Withdrawn}
-use Rattle.flowspec.specs.declared.Looked.{Looked}
+use Rattle.lookup.specs.declared.Matched.{Matched}
 use Rattle.request.specs.Input.{Announcement, Policy}
 use Rattle.request.specs.Request.{request_of}
 use Rattle.flowspec.specs.Announce.{Outcome, announce_operation, announcing, withdraw_operation, withdrawing}
@@ -38,8 +37,8 @@ pub data Call : Type 0 where
 
 -- What a call is answered with, by its kind.
 abbrev pub AnswerTo : Call → Type 0
-AnswerTo (announcement policy a) = Announced
-AnswerTo (withdrawal rule) = Withdrawn
+AnswerTo (announcement policy a) = Result ℕ Refusal
+AnswerTo (withdrawal rule) = Result Unit Refusal
 
 -- What that answer says.
 abbrev pub answer_told : (call : Call) → AnswerTo call → Told
@@ -167,7 +166,7 @@ module _ (family : Family) where
 -- actions, and one first match, which stands at one place of tables that stand at one place.
 pub record EndAlike (family : Family) (table other : List ℕ) : Type 0 where
   pub octets : table ≡ other
-  pub verdicts : (packet : List ℕ) (a b : Looked) (k l : List (List ℕ))
+  pub verdicts : (packet : List ℕ) (a b : Result (OptionInCode Matched) Refusal) (k l : List (List ℕ))
       → LooksUp family table packet a k → LooksUp family other packet b l → a ≡ b
   pub matches : (packet part rest : List ℕ) (lent stands stood : ℕ × ℕ) (k l : List (List ℕ))
       → FirstMatches family table packet lent part stands k

@@ -2,8 +2,9 @@
 -- is, the first is announced again by somebody else and so gone, announced once more, and the other is withdrawn. The second comes to the
 -- same in another order, in another spelling and with other answers; the third by two whole attributes. In the fourth the route is gone
 -- when the one rule is announced again. Scene4.antt has a scene of IPv4, and Scene6.antt one of IPv6.
-use Rattle.std.specs.Prelude.{ℕ, false, List, [], ◌∷◌, ◌++◌, replicate}
+use Rattle.std.specs.Prelude.{ℕ, false, List, [], ◌∷◌, ◌++◌, replicate, Ok, Err}
 use Rattle.rule.specs.declared.Family.{Family}
+use Rattle.rule.specs.declared.Refusal.TheVariants.{Infeasible, NotHeld}
 use Rattle.route.specs.declared.Origin.{Origin}
 use Rattle.rate.specs.declared.Note.TheVariants.{TakenAsZero}
 use Rattle.rate.specs.Rate.{note_number}
@@ -13,12 +14,9 @@ use Rattle.action.specs.Limit.{limit}
 use Rattle.action.specs.Actions.{no_actions}
 use Rattle.action.specs.Reading.{with_byte_rate, with_marking}
 use Rattle.entry.specs.Entry.{Entry}
-use Rattle.flowspec.specs.declared.Announced.TheVariants.{Held, Refused as NotAnnounced}
-use Rattle.flowspec.specs.declared.Withdrawn.TheVariants.{Done, Refused as NotWithdrawn}
 use Rattle.request.specs.Input.{Announcement, Policy, settings_of, origin_of, announcement_of, policy_of}
-use Rattle.update.specs.declared.Reached.TheVariants.{Done as AllAnnounced}
-use Rattle.update.specs.declared.Unreached.TheVariants.{Done as AllWithdrawn}
 use Rattle.update.specs.Singles.{Reach, reach_of}
+use Rattle.update.specs.Apply.{reached}
 use Rattle.history.specs.History.{Call, announcement, withdrawal, AnswerTo, Made, empty_table}
 use Rattle.history.specs.Attributes.{reach, unreach, Event, whole}
 
@@ -123,18 +121,18 @@ module _ (s : Scene) where
   -- The first history.
   abbrev pub worked : List Made
   worked =
-      made (announcement s.policy owned) (Held taken_as_zero) s.one
-      ∷ made (announcement s.policy marked) (Held 0) s.both
-      ∷ made (announcement s.policy foreign) (NotAnnounced 8 0) s.another
-      ∷ made (announcement s.policy owned) (Held taken_as_zero) s.both
-      ∷ made (withdrawal s.other_rule) Done s.one
+      made (announcement s.policy owned) (Ok taken_as_zero) s.one
+      ∷ made (announcement s.policy marked) (Ok 0) s.both
+      ∷ made (announcement s.policy foreign) (Err Infeasible) s.another
+      ∷ made (announcement s.policy owned) (Ok taken_as_zero) s.both
+      ∷ made (withdrawal s.other_rule) (Ok tt) s.one
       ∷ []
 
   -- The second: the other rule is withdrawn first, where it is not held, and the one is announced in the other spelling.
   abbrev pub other : List Made
   other =
-      made (withdrawal s.other_rule) (NotWithdrawn 14 0) (empty_table s.size)
-      ∷ made (announcement s.policy respelled) (Held taken_as_zero) s.one
+      made (withdrawal s.other_rule) (Err NotHeld) (empty_table s.size)
+      ∷ made (announcement s.policy respelled) (Ok taken_as_zero) s.one
       ∷ []
 
   -- Both rules in one reach, both to be dropped.
@@ -144,23 +142,23 @@ module _ (s : Scene) where
   -- The third: both are announced by the reach, lent three answer words, and the other is withdrawn by the unreach.
   abbrev pub attributes : List Event
   attributes =
-      whole (record { attribute = reach s.policy both_reached; lent = 99 ∷ 99 ∷ 99 ∷ []; answer = AllAnnounced 2 taken_as_zero; words = 0 ∷ 0 ∷ 99 ∷ []; left = s.dropped })
-      ∷ whole (record { attribute = unreach s.unreached_other; lent = 99 ∷ []; answer = AllWithdrawn 1; words = 0 ∷ []; left = s.one })
+      whole (record { attribute = reach s.policy both_reached; lent = 99 ∷ 99 ∷ 99 ∷ []; answer = Ok (reached 2 taken_as_zero); words = 0 ∷ 0 ∷ 99 ∷ []; left = s.dropped })
+      ∷ whole (record { attribute = unreach s.unreached_other; lent = 99 ∷ []; answer = Ok 1; words = 0 ∷ []; left = s.one })
       ∷ []
 
   -- The single calls that the attributes stand for.
   abbrev pub standing : List Made
   standing =
-      made (announcement s.policy owned) (Held taken_as_zero) s.one
-      ∷ made (announcement s.policy other_dropped) (Held taken_as_zero) s.dropped
-      ∷ made (withdrawal s.other_rule) Done s.one
+      made (announcement s.policy owned) (Ok taken_as_zero) s.one
+      ∷ made (announcement s.policy other_dropped) (Ok taken_as_zero) s.dropped
+      ∷ made (withdrawal s.other_rule) (Ok tt) s.one
       ∷ []
 
   -- The fourth: the routes change between two calls, and the one rule, judged by those of its last call, is gone; the other, which was judged
   -- by the routes of its own, stays.
   abbrev pub rerouted : List Made
   rerouted =
-      made (announcement s.policy owned) (Held taken_as_zero) s.one
-      ∷ made (announcement s.policy marked) (Held 0) s.both
-      ∷ made (announcement unrouted owned) (NotAnnounced 8 0) s.another
+      made (announcement s.policy owned) (Ok taken_as_zero) s.one
+      ∷ made (announcement s.policy marked) (Ok 0) s.both
+      ∷ made (announcement unrouted owned) (Err Infeasible) s.another
       ∷ []

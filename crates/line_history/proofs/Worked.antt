@@ -33,7 +33,7 @@ use Rattle.table.specs.Sound.{records_of, table_of, sound_table, soundness}
 use Rattle.table.specs.Walk.{record_at, records_from, records, entries}
 use Rattle.request.specs.Judging.{read_with_routes, is_feasible}
 use Rattle.request.specs.Request.{request_of}
-use Rattle.flowspec.specs.Announce.{announcing, withdrawing, announced_of, withdrawn_of}
+use Rattle.flowspec.specs.Announce.{announcing, withdrawing}
 use Rattle.text.specs.Decimal.{number_from, number_in, starts_well, is_number, digits_of, decimal_of}
 use Rattle.text.specs.Field.{fields, place_of}
 use Rattle.text.specs.Hex.{is_hex_digit, hex_value, hex_digit, are_octets, octets_in, hex_of}
@@ -65,5 +65,5 @@ unfolding
     head_numbers record_of actions_in entry_of good_record records_of table_of sound_table soundness record_at records_from records entries
     read_with_routes is_feasible request_of announcing withdrawing number_from number_in starts_well is_number digits_of decimal_of fields place_of
     is_hex_digit hex_value hex_digit are_octets octets_in hex_of are_of said line_of place_text answer_text rule_text rules_text count_text list_text
-    lines_of first_state after_line lines_text after_lines served changed announced_of withdrawn_of originates
+    lines_of first_state after_line lines_text after_lines served changed originates
 worked-input = record { prints = refl; leaves = refl; answers = refl; example = refl }

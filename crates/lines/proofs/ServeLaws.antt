@@ -10,11 +10,10 @@ use lib.ListN.{length, set, take, drop}
 use lib.Seq.{sets-eq, take_at, take_all, length-take-le}
 use borrow.Author.Tests.{le-leb, lt-leb, leb-true, not-true, not-false}
 use Rattle.octets.proofs.Cases.{by-test, apart, both}
+use Rattle.rule.specs.declared.Refusal.{Refusal}
 use Rattle.rule.specs.Value.{between}
 use Rattle.octets.specs.Store.{stored}
 use Rattle.rule.specs.Family.{ipv4}
-use Rattle.flowspec.specs.declared.Announced.{Announced}
-use Rattle.flowspec.specs.declared.Withdrawn.{Withdrawn}
 use Rattle.route.specs.declared.Origin.{Origin}
 use Rattle.request.specs.Input.{origin_of, Policy, announcement_of, policy_of}
 use Rattle.flowspec.specs.Announce.{announcing, withdrawing}
@@ -35,6 +34,7 @@ use Rattle.line.specs.Form.{form_says, FormIn, Says}
 use Rattle.lines.specs.Serve.{Serving, most_words, route_fits, printing, changing, adding, setting_off, served_as, served, Changes, Adds, served_told}
 use Rattle.lines.specs.Promise.{Serves}
 use Rattle.line.proofs.CutLaws.{too_long}
+use Rattle.std.proofs.Common.{Result}
 
 -- how `route_fits` comes to its answers, and what room it finds
 module _ (routes : List ℕ) (used : ℕ) where
@@ -101,15 +101,15 @@ module _ (room exit text : List ℕ) (count : ℕ) (reads : (exit ≡ laid room 
   read_is = front-is room exit (octets_in text) count reads.0 reads.1 (omega (arith, fits))
 
 -- octets that a line spells were read and announced as a rule with its communities, and the answer was printed
-pub announce-printed : {policy : Policy} {octets rule actions communities table out t x : List ℕ} {origin : Origin} {printed : ℕ} {answer : Announced}
-    {kept : List (List ℕ)} (found : Announced) → octets ≡ rule → actions ≡ communities
+pub announce-printed : {policy : Policy} {octets rule actions communities table out t x : List ℕ} {origin : Origin} {printed : ℕ} {answer : Result ℕ Refusal}
+    {kept : List (List ℕ)} (found : Result ℕ Refusal) → octets ≡ rule → actions ≡ communities
     → Announces ipv4 policy (announcement_of octets origin actions) table answer t kept → answer ≡ found
     → Answered most_answer out (change_text (announced_told found)) x printed
     → Changes announced_told (announcing ipv4 policy (announcement_of rule origin communities) table) out printed t x
 announce-printed found a b p f w = let q = rw (a, b) at p in record { leaves = q.leaves; prints = rw (← q.is, f) w }
 
 -- the same of a rule that was withdrawn
-pub withdraw-printed : {octets rule table out t x : List ℕ} {printed : ℕ} {answer : Withdrawn} {kept : List (List ℕ)} (found : Withdrawn)
+pub withdraw-printed : {octets rule table out t x : List ℕ} {printed : ℕ} {answer : Result Unit Refusal} {kept : List (List ℕ)} (found : Result Unit Refusal)
     → octets ≡ rule → Withdraws ipv4 octets table answer t kept → answer ≡ found → Answered most_answer out (change_text (withdrawn_told found)) x printed
     → Changes withdrawn_told (withdrawing ipv4 rule table) out printed t x
 withdraw-printed found a p f w = let q = rw a at p in record { leaves = q.leaves; prints = rw (← q.is, f) w }

@@ -12,7 +12,6 @@ ghost use Rattle.line.specs.Line.{most_signs};
 ghost use Rattle.lines.specs.Serve.{route_fits, adding, setting_off, Changes, Adds};
 ghost use Rattle.lines.specs.Promise.{Gathers, Serves};
 
-use flowspec::{Announced, Withdrawn};
 use line::Form;
 use route::{Origin, Settings};
 use rule::AddressFamily;
@@ -129,8 +128,8 @@ fn serve_announce(
         origin,
         &actions[..count],
     ) {
-        Announced::Held { notes: _ } => answers::put_answer(out, 0, 0),
-        Announced::Refused { number, place } => answers::put_answer(out, number, place),
+        Ok(_) => answers::put_answer(out, 0, 0),
+        Err(refusal) => answers::put_answer(out, refusal.number(), refusal.place()),
     }
 }
 
@@ -142,8 +141,8 @@ fn serve_withdraw(rule: &[u8], table: &mut [u8], out: &mut [u8]) -> usize
     let mut octets = [0u8; FIELD_OCTETS];
     let size = text::read_octets(rule, &mut octets);
     match flowspec::withdraw(AddressFamily::Ipv4, table, &octets[..size]) {
-        Withdrawn::Done => answers::put_answer(out, 0, 0),
-        Withdrawn::Refused { number, place } => answers::put_answer(out, number, place),
+        Ok(()) => answers::put_answer(out, 0, 0),
+        Err(refusal) => answers::put_answer(out, refusal.number(), refusal.place()),
     }
 }
 

@@ -18,7 +18,6 @@ use Rattle.sorted.proofs.MemberLaws.{every_in, found_in}
 use Rattle.sorted.proofs.HistoryLaws.{withdraw-removes}
 use Rattle.rule.specs.declared.Family.{Family}
 use Rattle.rule.specs.Family.{Fits}
-use Rattle.rule.specs.declared.Checked.TheVariants.{Accepted}
 use Rattle.rule.specs.Value.{between, check_value}
 use Rattle.order.specs.Key.{RuleKey, key_order}
 use Rattle.order.proofs.KeyLaws.{key-order, keys-only}
@@ -36,6 +35,7 @@ use Rattle.table.proofs.LeaveLaws.{changed-encodes}
 use Rattle.lookup.specs.Leaving.{hits, up_to, first_hit, first_record, Alike}
 use Rattle.lookup.specs.Lookup.{hit, collected, merged_onto, verdict_of, verdict_for, first_place}
 use Rattle.lookup.proofs.LookupLaws.{hit-plain}
+use Rattle.std.proofs.Common.{Ok}
 
 module _ (test : Entry → Bool) where
   -- a lookup collects the hits down to the first without T
@@ -167,7 +167,7 @@ module _ (family : Family) (head : List ℕ) (packet : Packet) where
 
     module _ (fits : Fits family) (octets : Octets t) (e : Entry) (own : Octets e.value) where
       -- the entry that a table holds under a rule's key is hit as the rule is: they have one plain spelling
-      pub held-hit : check_value family e.value ≡ Accepted → (x : Entry) → lookup key_order (entry_key family) (entry_key family e) es ≡ some x
+      pub held-hit : check_value family e.value ≡ Ok tt → (x : Entry) → lookup key_order (entry_key family) (entry_key family e) es ≡ some x
           → hit family head packet x ≡ hit family head packet e
       held-hit ok x found =
           let k = entry_key family e in

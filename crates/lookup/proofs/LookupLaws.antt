@@ -22,12 +22,8 @@ use Rattle.action.specs.Merging.{merged}
 use Rattle.packet.specs.declared.Packet.{Packet}
 use Rattle.matching.specs.Match.{matches}
 use Rattle.matching.proofs.PlainLaws.{plain-alone}
-use Rattle.table.specs.declared.NextRecord.{NextRecord}
-use Rattle.table.specs.declared.NextRecord.TheVariants.{Nothing, Record, Unsound}
 use Rattle.lookup.specs.declared.Hit.{Hit}
 use Rattle.lookup.specs.declared.Hit.TheVariants.{Missed, GoesOn, Stops}
-use Rattle.lookup.specs.declared.Verdict.{Verdict}
-use Rattle.lookup.specs.declared.Verdict.TheVariants.{Unmatched, Matched}
 use Rattle.entry.specs.Entry.{Entry}
 use Rattle.entry.specs.Record.{head_cost, entry_of}
 use Rattle.table.specs.Walk.{record_at, records, entries}
@@ -35,14 +31,18 @@ use Rattle.lookup.specs.Lookup.{under_head, components_match, hit, collected, me
 use Rattle.table.proofs.WalkLaws.{was-found}
 use Rattle.table.proofs.EntryLaws.{entries_from, cost-there}
 use Rattle.table.proofs.FindLaws.{left-more, left_end, left-unsound}
+use Rattle.std.proofs.Common.{Result, Ok, Err, Option, Some, None}
+use Rattle.rule.specs.declared.Refusal.{Refusal}
+use Rattle.lookup.specs.declared.Matched.{Matched}
+use Rattle.lookup.specs.Lookup.{matched}
 
 -- how `verdict_of` comes to its answers
 module _ (actions : Actions) (count : ℕ) where
-  pub verdict-none : count ≡ 0 → Unmatched ≡ verdict_of actions count
+  pub verdict-none : count ≡ 0 → None ≡ verdict_of actions count
   unfolding verdict_of
   verdict-none h = rw (eq-eqb count 0 h)
 
-  pub verdict-some : (count ≡ 0 → ⊥) → Matched actions count ≡ verdict_of actions count
+  pub verdict-some : (count ≡ 0 → ⊥) → Some (matched actions count) ≡ verdict_of actions count
   unfolding verdict_of
   verdict-some h = rw (ne_eqb count 0 h)
 
@@ -98,7 +98,7 @@ module _ (family : Family) (head r : List ℕ) (packet : Packet) (says : Bool) (
     judge-stops h = rw (← is, not-false says ok, ← acts, h)
 
 -- the verdict where some entries are left and some were collected
-abbrev pub verdict_with : (Entry → Bool) → Actions → ℕ → List Entry → Verdict
+abbrev pub verdict_with : (Entry → Bool) → Actions → ℕ → List Entry → Option Matched
 verdict_with test actions count es = verdict_of (merged_onto actions (collected test es)) (count + length (collected test es))
 
 -- what an entry's hit means for the entries collected from it on
@@ -168,13 +168,15 @@ module _ (family : Family) (head : List ℕ) where
     unfolding collected merged_onto
     nothing_left e = sym (l.so_far ∙ rw (e, add-zero count))
 
-    pub look-end : (next : NextRecord) (r : Verdict) → next ≡ record_at t at → next ≡ Nothing → r ≡ verdict_of actions count → r ≡ verdict_for family head packet (entries t)
+    pub look-end : (next : Result (Option ℕ) Refusal) (r : Option Matched) → next ≡ record_at t at → next ≡ Ok None
+        → r ≡ verdict_of actions count → r ≡ verdict_for family head packet (entries t)
     look-end next r is e v = v ∙ nothing_left (left_end t at (sym is ∙ e))
 
-    pub look-unsound : (next : NextRecord) (r : Verdict) → next ≡ record_at t at → next ≡ Unsound → r ≡ verdict_of actions count → r ≡ verdict_for family head packet (entries t)
-    look-unsound next r is e v = v ∙ nothing_left (left-unsound t at (sym is ∙ e))
+    pub look-unsound : (next : Result (Option ℕ) Refusal) (r : Option Matched) → next ≡ record_at t at → (refusal : Refusal)
+        → next ≡ Err refusal → r ≡ verdict_of actions count → r ≡ verdict_for family head packet (entries t)
+    look-unsound next r is refusal e v = v ∙ nothing_left (left-unsound t at refusal (sym is ∙ e))
 
-    module _ (next : ℕ) (found : record_at t at ≡ Record next) (h : Hit)
+    module _ (next : ℕ) (found : record_at t at ≡ Ok (Some next)) (h : Hit)
         (is : h ≡ hit_of (hit family head packet (entry_of (between t at next))) (entry_of (between t at next)).actions) where
       here : verdict_for family head packet (entries t) ≡ verdict_with (hit family head packet) actions count (entry_of (between t at next) ∷ entries_from t next)
       here = l.so_far ∙ rw (left-more t at next found)
@@ -205,7 +207,8 @@ module _ (family : Family) (head : List ℕ) where
             so_far = rw m (here ∙ one-goes-on (hit family head packet) (entry_of (between t at next)) (entries_from t next) actions count more (sym is ∙ e));
           }
 
-      pub look-stops : (more after : Actions) (r : Verdict) → h ≡ Stops more → after ≡ merged actions more → r ≡ verdict_of after (count + 1)
+      pub look-stops : (more after : Actions) (r : Option Matched) → h ≡ Stops more → after ≡ merged actions more
+          → r ≡ verdict_of after (count + 1)
           → r ≡ verdict_for family head packet (entries t)
       look-stops more after r e m v =
           v ∙ rw m (sym (here ∙ one-stops (hit family head packet) (entry_of (between t at next)) (entries_from t next) actions count more (sym is ∙ e)))
@@ -224,13 +227,15 @@ module _ (family : Family) (head : List ℕ) where
     unfolding first_place
     none-met e = sym (m.so_far ∙ rw e)
 
-    pub first-end : (next : NextRecord) → next ≡ record_at t at → next ≡ Nothing → record { start = 0; end = 0 } ≡ first_place (hit family head packet) 0 (entries t)
+    pub first-end : (next : Result (Option ℕ) Refusal) → next ≡ record_at t at → next ≡ Ok None
+        → record { start = 0; end = 0 } ≡ first_place (hit family head packet) 0 (entries t)
     first-end next is e = none-met (left_end t at (sym is ∙ e))
 
-    pub first-unsound : (next : NextRecord) → next ≡ record_at t at → next ≡ Unsound → record { start = 0; end = 0 } ≡ first_place (hit family head packet) 0 (entries t)
-    first-unsound next is e = none-met (left-unsound t at (sym is ∙ e))
+    pub first-unsound : (next : Result (Option ℕ) Refusal) → next ≡ record_at t at → (refusal : Refusal) → next ≡ Err refusal
+        → record { start = 0; end = 0 } ≡ first_place (hit family head packet) 0 (entries t)
+    first-unsound next is refusal e = none-met (left-unsound t at refusal (sym is ∙ e))
 
-    module _ (next : ℕ) (found : record_at t at ≡ Record next) (says : Bool) (is : says ≡ hit family head packet (entry_of (between t at next))) where
+    module _ (next : ℕ) (found : record_at t at ≡ Ok (Some next)) (says : Bool) (is : says ≡ hit family head packet (entry_of (between t at next))) where
       there : first_place (hit family head packet) 0 (entries t)
           ≡ cond says (record { start = at; end = next }) (first_place (hit family head packet) next (entries_from t next))
       unfolding first_place

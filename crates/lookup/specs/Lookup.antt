@@ -9,13 +9,13 @@ use Rattle.action.specs.Actions.{no_actions}
 use Rattle.action.specs.Merging.{merged}
 use Rattle.packet.specs.declared.Packet.{Packet}
 use Rattle.matching.specs.Match.{matches}
-use Rattle.lookup.specs.declared.Verdict.{Verdict}
-use Rattle.lookup.specs.declared.Verdict.TheVariants.{Unmatched, Matched}
 use Rattle.lookup.specs.declared.Hit.{Hit}
 use Rattle.lookup.specs.declared.Hit.TheVariants.{Missed, GoesOn, Stops}
 use Rattle.table.specs.declared.Place.{Place}
 use Rattle.entry.specs.Entry.{Entry}
 use Rattle.table.specs.Sound.{cost}
+use Rattle.std.specs.Prelude.{Option, Some, None}
+use Rattle.lookup.specs.declared.Matched.{Matched}
 
 -- Whether an entry's rule stands under a head: its value's head (the octets before its first component; none in IPv4 and IPv6) is that one.
 abbrev pub under_head : Family → List ℕ → Entry → Bool
@@ -39,12 +39,16 @@ unfoldable pub merged_onto : Actions → List Entry → Actions
 merged_onto actions [] = actions
 merged_onto actions (e ∷ es) = merged_onto (merged actions e.actions) es
 
--- The verdict on merged actions and a count of rules.
-unfoldable pub verdict_of : Actions → ℕ → Verdict
-verdict_of actions count = cond (eqb count 0) Unmatched (Matched actions count)
+-- The rules that a packet matches: their merged actions, and how many were collected.
+abbrev pub matched : Actions → ℕ → Matched
+matched actions count = record { actions = actions; count = count }
+
+-- The verdict on merged actions and a count of rules: none is unmatched.
+unfoldable pub verdict_of : Actions → ℕ → Option Matched
+verdict_of actions count = cond (eqb count 0) None (Some (matched actions count))
 
 -- The verdict on a packet, looked up under a head.
-unfoldable pub verdict_for : Family → List ℕ → Packet → List Entry → Verdict
+unfoldable pub verdict_for : Family → List ℕ → Packet → List Entry → Option Matched
 verdict_for family head packet es =
     let rules = collected (hit family head packet) es in
     verdict_of (merged_onto no_actions rules) (length rules)

@@ -1,17 +1,18 @@
 -- What a lookup begins with: the table is checked, then the packet's octets are read. 01: "lookup 10, 12".
 use Rattle.std.specs.Prelude.{ℕ, cond, List, Option, Some, None}
 use Rattle.rule.specs.declared.Family.{Family}
-use Rattle.packet.specs.declared.Packet.{Packet}
 use Rattle.packet.specs.Packet.{packet_of}
 use Rattle.table.specs.Sound.{sound_table}
-use Rattle.lookup.specs.declared.Opening.{Opening}
-use Rattle.lookup.specs.declared.Opening.TheVariants.{With, Refused as NotOpened}
+use Rattle.std.specs.Prelude.{Result, Ok, Err}
+use Rattle.rule.specs.declared.Refusal.{Refusal}
+use Rattle.rule.specs.declared.Refusal.TheVariants.{UnsoundTable, UnusablePacket}
+use Rattle.packet.specs.declared.Packet.{Packet}
 
 -- What a lookup begins with, by what the octets show: an unusable packet is 12.
-abbrev pub opening_of : Option Packet → Opening
-opening_of None = NotOpened 12
-opening_of (Some packet) = With packet
+abbrev pub opening_of : Option Packet → Result Packet Refusal
+opening_of None = Err UnusablePacket
+opening_of (Some packet) = Ok packet
 
 -- 01: "lookup 10, 12": what the packet shows, or the number of the refusal.
-unfoldable pub opening : Family → List ℕ → List ℕ → Opening
-opening family t octets = cond (sound_table family t) (opening_of (packet_of family octets)) (NotOpened 10)
+unfoldable pub opening : Family → List ℕ → List ℕ → Result Packet Refusal
+opening family t octets = cond (sound_table family t) (opening_of (packet_of family octets)) (Err UnsoundTable)

@@ -13,21 +13,14 @@ ghost use Rattle.lookup.specs.Lookup.{hit, hit_of, verdict_of, verdict_for, firs
 
 use action::Actions;
 use packet::Packet;
-use rule::Family;
-use table::{NextRecord, Place, Soundness, record_at};
+use rule::{Family, Refusal};
+use table::{Place, record_at};
 
-// What a lookup begins with: what the packet shows, or the number of a refusal.
+// The rules that a packet matches: their merged actions, and how many were collected.
 #[derive(Clone, Copy)]
-pub enum Opening {
-    With(Packet),
-    Refused(u8),
-}
-
-// What a lookup says of a packet: no rule matches, or the merged actions of the rules collected and their count.
-#[derive(Clone, Copy)]
-pub enum Verdict {
-    Unmatched,
-    Matched { actions: Actions, count: usize },
+pub struct Matched {
+    pub actions: Actions,
+    pub count: usize,
 }
 
 // What one record says of a packet: it misses; it matches and the walk goes on (T); it matches and the walk stops.
@@ -38,17 +31,15 @@ pub enum Hit {
     Stops(Actions),
 }
 
-// Checks a table, and reads a packet's octets.
-pub fn open_lookup(family: Family, table: &[u8], packet: &[u8]) -> Opening
+// What a packet shows that is to be looked up in a table, once the table is checked.
+pub fn open_lookup(family: Family, table: &[u8], packet: &[u8]) -> Result<Packet, Refusal>
     requires { Fits family }
     ensures { result ≡ opening family table.now packet.now }
 {
-    match table::sound_table(family, table) {
-        Soundness::Unsound => Opening::Refused(10),
-        Soundness::Sound(_) => match packet::packet_of(family, packet) {
-            None => Opening::Refused(12),
-            Some(shown) => Opening::With(shown),
-        },
+    table::sound_table(family, table)?;
+    match packet::packet_of(family, packet) {
+        Some(shown) => Ok(shown),
+        None => Err(Refusal::UnusablePacket),
     }
 }
 
@@ -90,18 +81,18 @@ fn hit_of_record(family: Family, head: &[u8], held: &[u8], packet: Packet) -> Hi
     Hit::Stops(actions)
 }
 
-// The verdict on merged actions and a count of rules.
-fn verdict_of(actions: Actions, count: usize) -> Verdict
+// The verdict on merged actions and a count of rules: none where no rule was collected.
+fn verdict_of(actions: Actions, count: usize) -> Option<Matched>
     ensures { result ≡ verdict_of actions count }
 {
     if count == 0 {
-        return Verdict::Unmatched;
+        return None;
     }
-    Verdict::Matched { actions, count }
+    Some(Matched { actions, count })
 }
 
 // Looks a packet up in a table, under a head: goes down the records, collects those that match, and stops after one without T.
-pub fn look_up(family: Family, head: &[u8], table: &[u8], packet: Packet) -> Verdict
+pub fn look_up(family: Family, head: &[u8], table: &[u8], packet: Packet) -> Option<Matched>
     requires { Fits family }
     ensures { result ≡ verdict_for family head.now packet (entries table.now) }
 {
@@ -109,31 +100,21 @@ pub fn look_up(family: Family, head: &[u8], table: &[u8], packet: Packet) -> Ver
     let mut count: usize = 0;
     let mut actions = action::no_actions();
     loop {
-        match record_at(table, at) {
-            NextRecord::Nothing => {
-                break verdict_of(actions, count);
+        let Ok(Some(next)) = record_at(table, at) else {
+            break verdict_of(actions, count);
+        };
+        match hit_of_record(family, head, &table[at..next], packet) {
+            Hit::Missed => {
+                at = next;
             }
-            NextRecord::Unsound => {
-                break verdict_of(actions, count);
+            Hit::GoesOn(more) => {
+                actions = action::merge(actions, more);
+                count += 1;
+                at = next;
             }
-            NextRecord::Record(next) => match hit_of_record(
-                family,
-                head,
-                &table[at..next],
-                packet,
-            ) {
-                Hit::Missed => {
-                    at = next;
-                }
-                Hit::GoesOn(more) => {
-                    actions = action::merge(actions, more);
-                    count += 1;
-                    at = next;
-                }
-                Hit::Stops(more) => {
-                    break verdict_of(action::merge(actions, more), count + 1);
-                }
-            },
+            Hit::Stops(more) => {
+                break verdict_of(action::merge(actions, more), count + 1);
+            }
         }
     }
 }
@@ -144,23 +125,14 @@ pub fn first_place(family: Family, head: &[u8], table: &[u8], packet: Packet) ->
     ensures { (result ≡ first_place (hit family head.now packet) 0 (entries table.now)) × ((result.start ≤ result.end) × (result.end ≤ length table.now)) }
 {
     let mut at: usize = 0;
-    loop {
-        match record_at(table, at) {
-            NextRecord::Nothing => {
-                return Place { start: 0, end: 0 };
-            }
-            NextRecord::Unsound => {
-                return Place { start: 0, end: 0 };
-            }
-            NextRecord::Record(next) => {
-                if hits_record(family, head, &table[at..next], packet) {
-                    return Place {
-                        start: at,
-                        end: next,
-                    };
-                }
-                at = next;
-            }
+    while let Ok(Some(next)) = record_at(table, at) {
+        if hits_record(family, head, &table[at..next], packet) {
+            return Place {
+                start: at,
+                end: next,
+            };
         }
+        at = next;
     }
+    Place { start: 0, end: 0 }
 }

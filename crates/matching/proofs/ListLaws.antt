@@ -12,9 +12,6 @@ use Rattle.octets.specs.Bit.{has}
 use Rattle.octets.specs.Number.{number_at}
 use Rattle.octets.specs.Walk.{Walk}
 use Rattle.octets.proofs.Facts.{below}
-use Rattle.rule.specs.declared.NextPair.{NextPair}
-use Rattle.rule.specs.declared.NextPair.TheVariants.{More, Last, Refused as RefusedPair}
-use Rattle.rule.specs.declared.BodyEnd.{BodyEnd}
 use Rattle.rule.specs.declared.Shape.{Shape}
 use Rattle.rule.specs.Operator.{size_of}
 use Rattle.rule.specs.Component.{pair_at, Pair, pair_of, pairs_from}
@@ -25,6 +22,10 @@ use Rattle.matching.specs.Operator.{numeric_holds, bitmask_holds}
 use Rattle.matching.specs.Evaluation.{with_pair, evaluate_pair}
 use Rattle.matching.specs.Match.{holds_for, pair_holds, body_holds}
 use Rattle.matching.proofs.PairListLaws.{judged_to, judged-on, judged-last, judged-none}
+use Rattle.std.proofs.Common.{Result, Ok, Err}
+use Rattle.rule.specs.declared.Refusal.{Refusal}
+use Rattle.rule.specs.declared.NextPair.{NextPair}
+use Rattle.rule.specs.declared.NextPair.TheVariants.{More, Last}
 
 -- how `pair_holds` comes to each of its answers
 module _ (shape : Shape) (operator value «data» wanted : ℕ) (r : Bool) (asks : wanted ≡ plain_operand shape.ignored value) where
@@ -53,52 +54,52 @@ unfolding body_holds
 body-start shape v «data» = refl
 
 -- how `list_holds` goes on and comes to each of its answers
-module _ (shape : Shape) (v : List ℕ) («data» at : ℕ) (evaluated : Evaluated) (pair : NextPair) (is : pair ≡ pair_at shape.largest v at)
+module _ (shape : Shape) (v : List ℕ) («data» at : ℕ) (evaluated : Evaluated) (pair : Result NextPair Refusal) (is : pair ≡ pair_at shape.largest v at)
     (so_far : body_holds shape v «data» ≡ body_to shape v «data» at evaluated) where
-  abbrev rest : Walk Pair BodyEnd → Bool
+  abbrev rest : Walk Pair (Result ℕ Refusal) → Bool
   rest w = judged_to (pair_holds shape «data») at evaluated w.items
 
-  pub list_on : (next : ℕ) (r : Evaluated) → pair ≡ More next → r ≡ evaluate_pair shape v at next «data» evaluated
+  pub list_on : (next : ℕ) (r : Evaluated) → pair ≡ Ok (More next) → r ≡ evaluate_pair shape v at next «data» evaluated
       → body_holds shape v «data» ≡ body_to shape v «data» next r
   list_on next r e f =
-      let q : pair_at shape.largest v at ≡ More next = sym is ∙ e in
+      let q : pair_at shape.largest v at ≡ Ok (More next) = sym is ∙ e in
       so_far ∙ ap rest (pairs-more shape.largest v at next q)
       ∙ judged-on (pair_holds shape «data») at evaluated next (pair_of v at next) (pairs_from shape.largest v next).items (more_within shape.largest v at next q).0
       ∙ ap (body_to shape v «data» next) (sym f)
 
-  pub list-last : (next : ℕ) (r : Evaluated) → pair ≡ Last next → r ≡ evaluate_pair shape v at next «data» evaluated
+  pub list-last : (next : ℕ) (r : Evaluated) → pair ≡ Ok (Last next) → r ≡ evaluate_pair shape v at next «data» evaluated
       → r.found || r.group ≡ body_holds shape v «data»
   list-last next r e f =
       sym
       (so_far ∙ ap rest (pairs-last shape.largest v at next (sym is ∙ e)) ∙ judged-last (pair_holds shape «data») at evaluated (pair_of v at next)
       ∙ ap (λ (j : Evaluated). j.found || j.group) (sym f))
 
-  pub list-cut : (number place : ℕ) → pair ≡ RefusedPair number place → evaluated.found || evaluated.group ≡ body_holds shape v «data»
-  list-cut number place e =
-      sym (so_far ∙ ap rest (pairs-refused shape.largest v at number place (sym is ∙ e)) ∙ judged-none (pair_holds shape «data») at evaluated)
+  pub list-cut : (refusal : Refusal) → pair ≡ Err refusal → evaluated.found || evaluated.group ≡ body_holds shape v «data»
+  list-cut refusal e =
+      sym (so_far ∙ ap rest (pairs-refused shape.largest v at refusal (sym is ∙ e)) ∙ judged-none (pair_holds shape «data») at evaluated)
 
 -- how far a pair reaches: its operator and a value of at most eight octets
-abbrev Reaches : List ℕ → ℕ → NextPair → Type 0
-Reaches v at (More next) = (at < next) × ((next ≤ length v) × (next ≤ at + 9))
-Reaches v at (Last next) = (at < next) × ((next ≤ length v) × (next ≤ at + 9))
-Reaches v at (RefusedPair number place) = Unit {0}
+abbrev Reaches : List ℕ → ℕ → Result NextPair Refusal → Type 0
+Reaches v at (Ok (More next)) = (at < next) × ((next ≤ length v) × (next ≤ at + 9))
+Reaches v at (Ok (Last next)) = (at < next) × ((next ≤ length v) × (next ≤ at + 9))
+Reaches v at (Err refusal) = Unit {0}
 
 size-most : (operator : ℕ) → size_of operator ≤ 8
 unfolding size_of
 size-most operator = leb-true _ _ (below 4 (λ k. leb (2 ^ k) 8) refl (bit_and operator 48 / 16) (omega (arith, and_le_r operator 48)))
 
 -- a pair that was found stands in the body, and the next place is nearer to its end
-module _ (largest : ℕ) (v : List ℕ) (at next : ℕ) (pair : NextPair) (is : pair ≡ pair_at largest v at) where
+module _ (largest : ℕ) (v : List ℕ) (at next : ℕ) (pair : Result NextPair Refusal) (is : pair ≡ pair_at largest v at) where
   reaches : Reaches v at (pair_at largest v at)
   reaches =
       let small = size-most (get_or v at 0) in
       pair-cases largest v at (Reaches v at) tt (λ h. tt) (λ h u e. (omega arith, (omega arith, omega arith))) (λ h u e. (omega arith, (omega arith, omega arith)))
 
-  pub more-inside : pair ≡ More next → (at < next) × ((next ≤ length v) × (next ≤ at + 9))
+  pub more-inside : pair ≡ Ok (More next) → (at < next) × ((next ≤ length v) × (next ≤ at + 9))
   more-inside e = subst (Reaches v at) (sym is ∙ e) reaches
 
-  pub last-inside : pair ≡ Last next → (at < next) × ((next ≤ length v) × (next ≤ at + 9))
+  pub last-inside : pair ≡ Ok (Last next) → (at < next) × ((next ≤ length v) × (next ≤ at + 9))
   last-inside e = subst (Reaches v at) (sym is ∙ e) reaches
 
-  pub more-nearer : pair ≡ More next → length v - next < length v - at
+  pub more-nearer : pair ≡ Ok (More next) → length v - next < length v - at
   more-nearer e = let w = more-inside e in omega arith

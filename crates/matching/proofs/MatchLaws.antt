@@ -14,15 +14,16 @@ use Rattle.octets.proofs.Cases.{by-test}
 use Rattle.prefix.specs.Prefix.{Pattern, address_of, covers_address, pattern_in}
 use Rattle.rule.specs.declared.Family.{Family}
 use Rattle.rule.specs.declared.Shape.{Shape}
-use Rattle.rule.specs.declared.Next.{Next}
-use Rattle.rule.specs.declared.Next.TheVariants.{Nothing, Another, Refused}
-use Rattle.rule.specs.declared.Checked.{Checked}
 use Rattle.rule.specs.Shape.{shape_of}
 use Rattle.rule.specs.Component.{component_at}
 use Rattle.rule.specs.Value.{Component, between, components_from, components, component}
 use Rattle.rule.proofs.ValueLaws.{was-found, components-more, components-none, components-refused}
 use Rattle.packet.specs.declared.Packet.{Packet}
 use Rattle.matching.specs.Match.{body_holds, field_matches, fields_for, body_covers, address_for, component_matches, matches}
+use Rattle.std.proofs.Common.{Result, Ok, Err, Option, Some, None}
+use Rattle.rule.specs.declared.Refusal.{Refusal}
+use Rattle.rule.specs.declared.Located.{Located}
+use Rattle.rule.specs.Component.{located}
 
 -- how `body_covers` comes to its answer
 pub covered : (family : Family) (body : List ℕ) (address : ℕ) (pattern : Pattern) (r : Bool) → pattern ≡ pattern_in family.width family.offsets body
@@ -51,7 +52,8 @@ module _ (family : Family) (kind : ℕ) (body : List ℕ) (packet : Packet) wher
 
   -- n is the type of a row of the fields, at which that definition computes
   module _ (n : ℕ) (is : kind ≡ n) (list : ltb 2 n ≡ true) (shape : Shape) (has : shape ≡ shape_of family kind) where
-    row_holds : (fields : List (Option ℕ)) → fields_for n packet ≡ fields → component_matches family packet (component kind body) ≡ one_holds (field_matches shape body) fields
+    row_holds : (fields : List (Option ℕ)) → fields_for n packet ≡ fields
+        → component_matches family packet (component kind body) ≡ one_holds (field_matches shape body) fields
     unfolding component_matches
     row_holds fields row =
         let above = ltb-true 2 n list in
@@ -106,12 +108,12 @@ pub from_start : (family : Family) (v : List ℕ) (packet : Packet) → matches 
 unfolding matches components
 from_start family v packet = refl
 
-module _ (family : Family) (v : List ℕ) (packet : Packet) (at previous : ℕ) (next : Next) (is : next ≡ component_at family v at previous)
+module _ (family : Family) (v : List ℕ) (packet : Packet) (at previous : ℕ) (next : Result (Option Located) Refusal) (is : next ≡ component_at family v at previous)
     (so_far : matches family v packet ≡ matches_from family v packet at previous) where
-  abbrev rest : Walk Component Checked → Bool
+  abbrev rest : Walk Component (Result Unit Refusal) → Bool
   rest w = every (component_matches family packet) w.items
 
-  module _ (kind behind : ℕ) (body : List ℕ) (r : Bool) (found : next ≡ Another kind behind) (handed : body ≡ between v (at + 1) behind)
+  module _ (kind behind : ℕ) (body : List ℕ) (r : Bool) (found : next ≡ Ok (Some (located kind behind))) (handed : body ≡ between v (at + 1) behind)
       (says : r ≡ component_matches family packet (component kind body)) where
     one_more : matches family v packet ≡ r && matches_from family v packet behind kind
     unfolding every
@@ -126,10 +128,10 @@ module _ (family : Family) (v : List ℕ) (packet : Packet) (at previous : ℕ) 
     pub rule-nearer : length v - behind < length v - at
     rule-nearer = let w = (was-found family v at previous kind behind (sym is ∙ found)).within in omega arith
 
-  pub rule_end : next ≡ Nothing → true ≡ matches family v packet
+  pub rule_end : next ≡ Ok None → true ≡ matches family v packet
   unfolding every
   rule_end e = sym (so_far ∙ ap rest (components-none family v at previous (sym is ∙ e)))
 
-  pub rule-cut : (number place : ℕ) → next ≡ Refused number place → true ≡ matches family v packet
+  pub rule-cut : (refusal : Refusal) → next ≡ Err refusal → true ≡ matches family v packet
   unfolding every
-  rule-cut number place e = sym (so_far ∙ ap rest (components-refused family v at previous number place (sym is ∙ e)))
+  rule-cut refusal e = sym (so_far ∙ ap rest (components-refused family v at previous refusal (sym is ∙ e)))

@@ -64,7 +64,7 @@ module _ (shape : Shape) («data» : ℕ) where
 
   pairs_small : (body : List ℕ) → Octets body → Small (pairs_from shape.largest body 0).items
   pairs_small body o =
-      pairs-ind shape.largest body (λ at w. Small w.items) (λ at number place e. tt) (λ at next e. (o at, tt)) (λ at next w e h. (o at, h)) 0
+      pairs-ind shape.largest body (λ at w. Small w.items) (λ at refusal e. tt) (λ at next e. (o at, tt)) (λ at next w e h. (o at, h)) 0
 
   goes-plain : (group : Bool) (ps : List Pair) → Small ps
       → goes_on (pair_holds shape «data») group (plain_pairs shape false ps) ≡ goes_on (pair_holds shape «data») group ps

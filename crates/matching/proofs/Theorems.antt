@@ -38,6 +38,7 @@ use Rattle.matching.specs.PairList.{joins, list_holds}
 use Rattle.matching.specs.Match.{holds_for, pair_holds, field_matches, no_field, fields_for, component_matches, matches}
 use Rattle.matching.proofs.OperatorLaws.{numeric-row}
 use Rattle.matching.proofs.PairListLaws.{from_first}
+use Rattle.std.proofs.Common.{Some}
 
 -- in a family of the types 1 to 13 no component of a value comes to `no_field`: each type above 2 has its fields
 pub has-field : (family : Family) (value : List ℕ) (packet : Packet) → family.highest ≤ 13

@@ -12,7 +12,7 @@ ghost use Rattle.matching.specs.Match.{holds_for, body_holds, field_matches, bod
 use octets::{number_at, octet_at};
 use packet::Packet;
 use prefix::Address;
-use rule::{Family, Next, NextPair, Shape};
+use rule::{Family, NextPair, Shape};
 
 // A list of pairs evaluated so far: whether a group before the present one holds, and whether the present one does.
 #[derive(Clone, Copy)]
@@ -108,20 +108,16 @@ fn list_holds(shape: Shape, body: &[u8], data: u64) -> bool
     };
     let mut at = 0;
     loop {
-        let pair = rule::pair_at(shape.largest, body, at);
-        match pair {
-            NextPair::More(next) => {
+        match rule::pair_at(shape.largest, body, at) {
+            Ok(NextPair::More(next)) => {
                 evaluated = evaluate_pair(shape, body, at, next, data, evaluated);
                 at = next;
             }
-            NextPair::Last(end) => {
+            Ok(NextPair::Last(end)) => {
                 let whole = evaluate_pair(shape, body, at, end, data, evaluated);
                 return whole.found | whole.group;
             }
-            NextPair::Refused {
-                number: _,
-                place: _,
-            } => {
+            Err(_) => {
                 return evaluated.found | evaluated.group;
             }
         }
@@ -180,26 +176,13 @@ pub fn matches_rule(family: Family, value: &[u8], packet: Packet) -> bool
 {
     let mut at = family.head;
     let mut previous = 0;
-    loop {
-        let next = rule::next_component(family, value, at, previous);
-        match next {
-            Next::Another { kind, next } => {
-                let body = rule::component_body(family, value, at, previous, next);
-                if !matches_component(family, kind, body, packet) {
-                    return false;
-                }
-                at = next;
-                previous = kind;
-            }
-            Next::Nothing => {
-                return true;
-            }
-            Next::Refused {
-                number: _,
-                place: _,
-            } => {
-                return true;
-            }
+    while let Ok(Some(component)) = rule::next_component(family, value, at, previous) {
+        let body = rule::component_body(family, value, at, previous, component.next);
+        if !matches_component(family, component.kind, body, packet) {
+            return false;
         }
+        at = component.next;
+        previous = component.kind;
     }
+    true
 }

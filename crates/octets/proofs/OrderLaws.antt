@@ -1,6 +1,8 @@
 -- The laws of an order given by comparing, and that numbers and lists of what is so ordered have them. Assumes nothing.
 use mathlib.Core.Path.{◌≡◌, refl, ap, ap₂, sym, ◌∙◌}
 use mathlib.Core.List.{List, [], ◌∷◌}
+use mathlib.Core.Logic.{◌⊎◌, inl, inr}
+use Rattle.std.specs.declared.cmp.Ordering.TheVariants.{Less, Equal, Greater}
 use Prim.Native.Nat.compare
 use Prim.Native.Nat.{ℕ, zero, suc, ◌+◌, ◌<◌, ◌≤◌, compare, Ordering}
 use native.Mathlib.Omega.{arith}
@@ -8,7 +10,9 @@ use native.Mathlib.Decide.{dec_lt}
 use native.Mathlib.Numerals.{add-one}
 use lib.ListN.{length, drop, get_or, drop_of_length-le}
 use lib.Seq.{drop-cons}
-use Rattle.octets.specs.Order.{then, lex}
+use Rattle.std.specs.Ordering.{nat_cmp}
+use Rattle.std.specs.Cmp.{nat_cmp_is}
+use Rattle.octets.specs.Order.{then, lex, ordered}
 
 abbrev pub swap : Ordering → Ordering
 swap Ordering.lt = Ordering.gt
@@ -116,6 +120,41 @@ module _ {A : Type 0} (cmp : A → A → Ordering) (O : IsOrder cmp) where
 
   pub lex-order : IsOrder (lex cmp)
   lex-order = record { same = lex-same; only = lex-only; flip = lex-flip; trans = lex-trans }
+
+-- what the library's comparison of two numbers answers
+pub numbers-ordered : (a b : ℕ) → nat_cmp a b ≡ ordered (compare a b)
+numbers-ordered a b =
+    elim (dec_lt a b) [
+      | yes h ↦ sym (nat_cmp_is a b Less h) ∙ ap ordered (sym (lt-cmp a b h))
+      | no h ↦
+          elim (dec_lt b a) [
+            | yes k ↦ sym (nat_cmp_is a b Greater k) ∙ ap ordered (sym (gt-cmp a b k))
+            | no k ↦
+                let e : a ≡ b = omega arith in
+                sym (nat_cmp_is a b Equal e) ∙ ap ordered (sym (eq-cmp a b e))
+          ]
+    ]
+
+-- two lists that begin alike are ordered as their rests, and two that begin apart as their first elements
+module _ (r t l m : List ℕ) (x y : ℕ) (first : r ≡ x ∷ l) (second : t ≡ y ∷ m) where
+  pub lex-along : x ≡ y → lex compare r t ≡ lex compare l m
+  lex-along e = rw (first, second, eq-cmp x y e)
+
+  pub lex-apart : (x ≡ y → ⊥) → lex compare r t ≡ compare x y
+  lex-apart h = rw (first, second) (go (compare x y) refl)
+    where
+      go : (o : Ordering) → compare x y ≡ o → then o (lex compare l m) ≡ o
+      go Ordering.lt e = refl
+      go Ordering.eq e = absurd (h (nat-only x y e))
+      go Ordering.gt e = refl
+
+-- two lists of which one has run out, and as many elements of both are passed: the lengths decide
+pub lex-out : (r t : List ℕ) (m n : ℕ) → (r ≡ []) ⊎ (t ≡ []) → m + length t ≡ n + length r → lex compare r t ≡ compare n m
+lex-out [] [] m n h e = sym (eq-cmp n m (omega arith))
+lex-out [] (b ∷ t) m n h e = sym (gt-cmp n m (omega arith))
+lex-out (a ∷ r) [] m n h e = sym (lt-cmp n m (omega arith))
+lex-out (a ∷ r) (b ∷ t) m n (inl e) k = cc
+lex-out (a ∷ r) (b ∷ t) m n (inr e) k = cc
 
 -- two lists compared from a place on: both go on, or one of them has run out
 module _ {A : Type 0} (cmp : A → A → Ordering) (d : A) (a b : List A) (i : ℕ) where

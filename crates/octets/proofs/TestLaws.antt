@@ -1,22 +1,20 @@
 -- Tests of lists: where every element passes, where every octet is 0, and that two lists have the same octets exactly where they are one
 -- list. Assumes nothing.
 use mathlib.Core.Path.{◌≡◌, refl, sym, ap, ◌∙◌}
-use mathlib.Core.Bool.{Bool, true, false, ◌&&◌, and-true, and_assoc}
+use mathlib.Core.Bool.{Bool, true, ◌&&◌, and-true, and_assoc}
 use mathlib.Core.List.{List, [], ◌∷◌}
-use Prim.Native.Nat.{ℕ, zero, suc, ◌-◌, min, compare, Ordering}
+use Prim.Native.Nat.{ℕ, zero, suc, ◌-◌, min}
 use native.Mathlib.Omega.{arith}
 use lib.Bits.{bit_or, and_le_l, and_le_r, or_add_and}
 use lib.Dec.{eqb}
+use lib.Pointwise.{pointwise}
 use lib.ListN.{length, take, drop, replicate, length-drop}
 use lib.Seq.{take_all}
 use Rattle.std.specs.List.{fold}
+use Rattle.std.specs.Prelude.{nat_eq}
 use borrow.Author.Tests.{eqb-true, eq-eqb}
-use Rattle.octets.specs.Order.{lex, ordered}
 use Rattle.octets.specs.Test.{every, all_zero, same_list}
-use Rattle.octets.specs.declared.Order.{Order}
-use Rattle.octets.specs.declared.Order.TheVariants.{First, Second, Same}
 use Rattle.octets.proofs.Cases.{by-test, apart, both, same_test}
-use Rattle.octets.proofs.OrderLaws.{nat-order, lex-order}
 use Rattle.octets.proofs.StoreLaws.{drop-within}
 
 -- the first passes and so do the others
@@ -78,20 +76,10 @@ unfolding same_list
 list_same [] = refl
 list_same (x ∷ a) = rw (eq-eqb x x refl) (list_same a)
 
--- what a comparison says of it
-abbrev pub is_same : Order → Bool
-is_same First = false
-is_same Second = false
-is_same Same = true
-
-pub compared : (r found : Order) (a b : List ℕ) → r ≡ found → r ≡ ordered (lex compare a b) → is_same found ≡ same_list a b
-compared r found a b is e =
-    let s : is_same found ≡ is_same (ordered (lex compare a b)) = ap is_same (sym is ∙ e) in
-    same_test (is_same found) (same_list a b)
-    (λ t. rw ((lex-order compare nat-order).only a b (tie (lex compare a b) (sym s ∙ t))) (list_same b))
-    (λ t. s ∙ rw (same-list a b t, (lex-order compare nat-order).same b))
-  where
-    tie : (o : Ordering) → is_same (ordered o) ≡ true → o ≡ Ordering.eq
-    tie Ordering.lt h = apart (cc)
-    tie Ordering.eq h = refl
-    tie Ordering.gt h = apart (cc)
+-- the library's test of two lists goes element by element likewise
+pub pointwise-same : (a b : List ℕ) → pointwise nat_eq a b ≡ same_list a b
+unfolding same_list
+pointwise-same [] [] = refl
+pointwise-same [] (y ∷ b) = refl
+pointwise-same (x ∷ a) [] = refl
+pointwise-same (x ∷ a) (y ∷ b) = ap (λ t. eqb x y && t) (pointwise-same a b)

@@ -3,8 +3,8 @@
 -- `lt` means that the first of the two comes first, `gt` that the second does, and `eq` that they tie.
 use Prim.Native.Nat.{Ordering}
 use Rattle.std.specs.Prelude.{List, [], ◌∷◌}
-use Rattle.octets.specs.declared.Order.{Order}
-use Rattle.octets.specs.declared.Order.TheVariants.{First, Second, Same}
+use Rattle.std.specs.declared.cmp.Ordering.{Ordering as Order}
+use Rattle.std.specs.declared.cmp.Ordering.TheVariants.{Less, Equal, Greater}
 
 -- The earlier comparison decides, and where it ties the later one does.
 abbrev pub then : Ordering → Ordering → Ordering
@@ -21,6 +21,6 @@ lex cmp (a ∷ l) (b ∷ m) = then (cmp a b) (lex cmp l m)
 
 -- What the code answers for each outcome.
 abbrev pub ordered : Ordering → Order
-ordered Ordering.lt = First
-ordered Ordering.eq = Same
-ordered Ordering.gt = Second
+ordered Ordering.lt = Less
+ordered Ordering.eq = Equal
+ordered Ordering.gt = Greater

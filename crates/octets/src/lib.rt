@@ -10,13 +10,7 @@ ghost use Rattle.octets.specs.Order.{lex, ordered};
 ghost use Rattle.octets.specs.Store.{stored, cleared, cut_out, gap_opened};
 ghost use Rattle.octets.specs.Test.{all_zero, same_list};
 
-// Which of two comes first.
-#[derive(Clone, Copy)]
-pub enum Order {
-    First,
-    Second,
-    Same,
-}
+use std::cmp::Ordering;
 
 // A bit where a test holds, and 0 where it does not.
 pub fn bit_if(holds: bool, bit: u8) -> u8
@@ -60,52 +54,23 @@ pub fn number_at(n: usize, s: &[u8], at: usize) -> u64
     number_of(&s[at..]) << (missing * 8)
 }
 
-// Which of two numbers comes first: the lower.
-pub fn compare_numbers(a: usize, b: usize) -> Order
-    ensures { result ≡ ordered (compare a b) }
-{
-    if a < b {
-        return Order::First;
-    }
-    if b < a {
-        return Order::Second;
-    }
-    Order::Same
-}
-
 // Which of two slices comes first: octet by octet, and what runs out first comes later.
-pub fn compare_octets(a: &[u8], b: &[u8]) -> Order
+pub fn compare_octets(a: &[u8], b: &[u8]) -> Ordering
     ensures { result ≡ ordered (lex compare a.now b.now) }
 {
-    let mut i = 0;
-    loop {
-        if a.len() <= i {
-            return compare_numbers(b.len(), a.len());
+    for (x, y) in a.iter().zip(b) {
+        if x != y {
+            return x.cmp(y);
         }
-        if b.len() <= i {
-            return Order::First;
-        }
-        let x = a[i];
-        let y = b[i];
-        if x < y {
-            return Order::First;
-        }
-        if y < x {
-            return Order::Second;
-        }
-        i += 1;
     }
+    b.len().cmp(&a.len())
 }
 
 // Whether two slices hold the same octets.
 pub fn same_octets(a: &[u8], b: &[u8]) -> bool
     ensures { result ≡ same_list a.now b.now }
 {
-    match compare_octets(a, b) {
-        Order::First => false,
-        Order::Second => false,
-        Order::Same => true,
-    }
+    a == b
 }
 
 // Stores octets in a buffer from a place on, and keeps the rest of the buffer: one by one, since `copy_from_slice` asks the C library for

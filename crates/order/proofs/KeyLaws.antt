@@ -6,6 +6,7 @@ use mathlib.Core.Logic.{◌⊎◌, inl, inr}
 use mathlib.Core.List.{List, [], ◌∷◌, ◌++◌, map, head-eq_of_cons-eq, tail-eq_of_cons-eq}
 use native.Mathlib.Omega.{arith}
 use Prim.Native.Nat.{ℕ, ◌-◌, ◌*◌, compare, Ordering}
+use Rattle.std.proofs.Common.{Ok}
 use Rattle.octets.specs.Test.{Each}
 use Rattle.octets.specs.Order.{then, lex}
 use Rattle.octets.proofs.Cases.{by-test}
@@ -15,7 +16,6 @@ use Rattle.prefix.specs.Prefix.{pattern_in}
 use Rattle.prefix.proofs.ContainLaws.{tie}
 use Rattle.prefix.proofs.PrefixLaws.{one-order as prefix-order}
 use Rattle.rule.specs.declared.Family.{Family}
-use Rattle.rule.specs.declared.Checked.TheVariants.{Accepted}
 use Rattle.rule.specs.Family.{Fits}
 use Rattle.rule.specs.Shape.{shape_of}
 use Rattle.rule.specs.Value.{Component, spelled, head_of, components, check_value}
@@ -118,7 +118,7 @@ module _ (family : Family) (fits : Fits family) where
     unfolding precedence
     equal-ties e = rw e (precedence-same w p)
 
-    module _ (ok : check_value family v ≡ Accepted) (also : check_value family w ≡ Accepted) where
+    module _ (ok : check_value family v ≡ Ok tt) (also : check_value family w ≡ Ok tt) where
       -- Accepted values of one key have one plain spelling.
       pub keys-only : keys_of family v ≡ keys_of family w → plain family v ≡ plain family w
       unfolding keys_of

@@ -7,21 +7,21 @@ use native.Mathlib.Omega.{arith}
 use native.Mathlib.Decide.{dec_lt}
 use lib.ListN.{length, take}
 use lib.Seq.{take_all}
+use Rattle.std.proofs.Common.{Result, Ok, Err, Option, Some, None}
+use Rattle.std.specs.declared.cmp.Ordering.{Ordering as Order}
+use Rattle.std.specs.declared.cmp.Ordering.TheVariants.{Less, Equal, Greater}
 use Rattle.octets.specs.Order.{then, lex, ordered}
 use Rattle.octets.specs.Walk.{Walk}
-use Rattle.octets.specs.declared.Order.{Order}
-use Rattle.octets.specs.declared.Order.TheVariants.{First, Second, Same}
 use Rattle.octets.proofs.Cases.{apart}
 use Rattle.octets.proofs.OrderLaws.{lt-cmp, gt-cmp, eq-cmp, nat-order, then-eq}
 use Rattle.prefix.specs.declared.Prefix.{Prefix}
 use Rattle.prefix.specs.Prefix.{pattern_of, prefix_order, pattern_in}
 use Rattle.rule.specs.declared.Family.{Family}
-use Rattle.rule.specs.declared.Next.{Next}
-use Rattle.rule.specs.declared.Next.TheVariants.{Nothing, Another, Refused}
-use Rattle.rule.specs.declared.Checked.{Checked}
 use Rattle.rule.specs.declared.Shape.{Shape}
+use Rattle.rule.specs.declared.Refusal.{Refusal}
+use Rattle.rule.specs.declared.Located.{Located}
 use Rattle.rule.specs.Shape.{shape_of}
-use Rattle.rule.specs.Component.{component_at}
+use Rattle.rule.specs.Component.{component_at, located}
 use Rattle.rule.specs.Value.{Component, component, between, components}
 use Rattle.spelling.specs.Plain.{plain}
 use Rattle.rule.proofs.ValueLaws.{was-found, components-more, components-none, components-refused}
@@ -44,11 +44,11 @@ module _ (family : Family) (kind : ℕ) (a b : List ℕ) (shape : Shape) (is : s
 
 -- two components
 module _ (family : Family) (kind other : ℕ) (a b : List ℕ) where
-  pub order-lower : kind < other → First ≡ ordered (component_order family (record { kind = kind; body = a }) (record { kind = other; body = b }))
+  pub order-lower : kind < other → Less ≡ ordered (component_order family (record { kind = kind; body = a }) (record { kind = other; body = b }))
   unfolding component_order
   order-lower h = rw (lt-cmp kind other h)
 
-  pub order-higher : other < kind → Second ≡ ordered (component_order family (record { kind = kind; body = a }) (record { kind = other; body = b }))
+  pub order-higher : other < kind → Greater ≡ ordered (component_order family (record { kind = kind; body = a }) (record { kind = other; body = b }))
   unfolding component_order
   order-higher h = rw (gt-cmp kind other h)
 
@@ -62,26 +62,26 @@ same_kind : (family : Family) (kind other : ℕ) (a b : List ℕ) → component_
 unfolding component_order
 same_kind family kind other a b e = nat-order.only kind other (then-eq (compare kind other) (body_order family kind a b) e).0
 
-parts : Walk Component Checked → List Component
+parts : Walk Component (Result Unit Refusal) → List Component
 parts w = w.items
 
 -- what is left of a value, by what the cursor found
 module _ (family : Family) (v : List ℕ) (at previous : ℕ) where
-  left-none : component_at family v at previous ≡ Nothing → components_left family v at previous ≡ []
+  left-none : component_at family v at previous ≡ Ok None → components_left family v at previous ≡ []
   unfolding parts
   left-none e = ap parts (components-none family v at previous e)
 
-  left-refused : (number place : ℕ) → component_at family v at previous ≡ Refused number place → components_left family v at previous ≡ []
+  left-refused : (refusal : Refusal) → component_at family v at previous ≡ Err refusal → components_left family v at previous ≡ []
   unfolding parts
-  left-refused number place e = ap parts (components-refused family v at previous number place e)
+  left-refused refusal e = ap parts (components-refused family v at previous refusal e)
 
-  left-more : (kind next : ℕ) → component_at family v at previous ≡ Another kind next
+  left-more : (kind next : ℕ) → component_at family v at previous ≡ Ok (Some (located kind next))
       → components_left family v at previous ≡ record { kind = kind; body = between v (at + 1) next } ∷ components_left family v next kind
   unfolding parts
   left-more kind next e = ap parts (components-more family v at previous kind next e)
 
 -- one turn, by what the cursor found in each value
-module _ (family : Family) (v : List ℕ) (here : ℕ) (w : List ℕ) (there previous : ℕ) (left right : Next)
+module _ (family : Family) (v : List ℕ) (here : ℕ) (w : List ℕ) (there previous : ℕ) (left right : Result (Option Located) Refusal)
     (is : left ≡ component_at family v here previous) (other-is : right ≡ component_at family w there previous) where
   at_left : component_at family v here previous ≡ left
   at_left = sym is
@@ -93,28 +93,28 @@ module _ (family : Family) (v : List ℕ) (here : ℕ) (w : List ℕ) (there pre
   unfolding components_order
   right-out r none e = record { says = e ∙ go right at_right; ahead = tt }
     where
-      go : (x : Next) → component_at family w there previous ≡ x → runs_out x ≡ ordered (components_order family (components_left family v here previous) (components_left family w there previous))
-      go Nothing q = rw (none, left-none family w there previous q)
-      go (Another kind next) q = rw (none, left-more family w there previous kind next q)
-      go (Refused number place) q = rw (none, left-refused family w there previous number place q)
+      go : (x : Result (Option Located) Refusal) → component_at family w there previous ≡ x → runs_out x ≡ ordered (components_order family (components_left family v here previous) (components_left family w there previous))
+      go (Ok None) q = rw (none, left-none family w there previous q)
+      go (Ok (Some found)) q = rw (none, left-more family w there previous found.kind found.next q)
+      go (Err refusal) q = rw (none, left-refused family w there previous refusal q)
 
-  pub turn-none : (r : Order) → left ≡ Nothing → r ≡ runs_out right → Turned family v here w there previous (Decided r)
+  pub turn-none : (r : Order) → left ≡ Ok None → r ≡ runs_out right → Turned family v here w there previous (Decided r)
   turn-none r e = right-out r (left-none family v here previous (at_left ∙ e))
 
-  pub turn-refused : (r : Order) (number place : ℕ) → left ≡ Refused number place → r ≡ runs_out right → Turned family v here w there previous (Decided r)
-  turn-refused r number place e = right-out r (left-refused family v here previous number place (at_left ∙ e))
+  pub turn-refused : (r : Order) (refusal : Refusal) → left ≡ Err refusal → r ≡ runs_out right → Turned family v here w there previous (Decided r)
+  turn-refused r refusal e = right-out r (left-refused family v here previous refusal (at_left ∙ e))
 
-  module _ (kind next : ℕ) (found : left ≡ Another kind next) where
-    pub turn-second-none : right ≡ Nothing → Turned family v here w there previous (Decided First)
+  module _ (kind next : ℕ) (found : left ≡ Ok (Some (located kind next))) where
+    pub turn-second-none : right ≡ Ok None → Turned family v here w there previous (Decided Less)
     unfolding components_order
     turn-second-none e = record { says = rw (left-more family v here previous kind next (at_left ∙ found), left-none family w there previous (at_right ∙ e)); ahead = tt }
 
-    pub turn-second-refused : (number place : ℕ) → right ≡ Refused number place → Turned family v here w there previous (Decided First)
+    pub turn-second-refused : (refusal : Refusal) → right ≡ Err refusal → Turned family v here w there previous (Decided Less)
     unfolding components_order
-    turn-second-refused number place e =
-        record { says = rw (left-more family v here previous kind next (at_left ∙ found), left-refused family w there previous number place (at_right ∙ e)); ahead = tt }
+    turn-second-refused refusal e =
+        record { says = rw (left-more family v here previous kind next (at_left ∙ found), left-refused family w there previous refusal (at_right ∙ e)); ahead = tt }
 
-    module _ (other behind : ℕ) (also : right ≡ Another other behind) where
+    module _ (other behind : ℕ) (also : right ≡ Ok (Some (located other behind))) where
       pub turn-both : (body against : List ℕ) → body ≡ between v (here + 1) next → against ≡ between w (there + 1) behind → (order : Order) (turn : Turn)
           → order ≡ ordered (component_order family (component kind body) (component other against)) → turn ≡ turn_for order kind next behind → Turned family v here w there previous turn
       unfolding components_order
@@ -151,17 +151,17 @@ module _ (family : Family) (v : List ℕ) (here : ℕ) (w : List ℕ) (there pre
   lists-ahead kind next behind e = rw e at turned.ahead
 
 -- an earlier comparison decides, and where it ties the later one does
-first_then : (o p : Ordering) (r : Order) → r ≡ ordered o → r ≡ First → First ≡ ordered (then o p)
+first_then : (o p : Ordering) (r : Order) → r ≡ ordered o → r ≡ Less → Less ≡ ordered (then o p)
 first_then Ordering.lt p r is e = refl
 first_then Ordering.eq p r is e = apart (cc)
 first_then Ordering.gt p r is e = apart (cc)
 
-second-then : (o p : Ordering) (r : Order) → r ≡ ordered o → r ≡ Second → Second ≡ ordered (then o p)
+second-then : (o p : Ordering) (r : Order) → r ≡ ordered o → r ≡ Greater → Greater ≡ ordered (then o p)
 second-then Ordering.lt p r is e = apart (cc)
 second-then Ordering.eq p r is e = apart (cc)
 second-then Ordering.gt p r is e = refl
 
-same_then : (o p : Ordering) (r : Order) → r ≡ ordered o → r ≡ Same → (s : Order) → s ≡ ordered p → s ≡ ordered (then o p)
+same_then : (o p : Ordering) (r : Order) → r ≡ ordered o → r ≡ Equal → (s : Order) → s ≡ ordered p → s ≡ ordered (then o p)
 same_then Ordering.lt p r is e s h = apart (cc)
 same_then Ordering.eq p r is e s h = h
 same_then Ordering.gt p r is e s h = apart (cc)
@@ -180,15 +180,15 @@ heads-taken family v w here there r h k e = e ∙ ap₂ (λ a b. ordered (lex co
 
 -- how `compare_plain` comes to its answers
 module _ (family : Family) (v w : List ℕ) (heads : Order) (is : heads ≡ ordered (heads_order family v w)) where
-  pub plain-first : heads ≡ First → First ≡ ordered (plain_order family v w)
+  pub plain-first : heads ≡ Less → Less ≡ ordered (plain_order family v w)
   unfolding plain_order
   plain-first = first_then (heads_order family v w) _ heads is
 
-  pub plain_second : heads ≡ Second → Second ≡ ordered (plain_order family v w)
+  pub plain_second : heads ≡ Greater → Greater ≡ ordered (plain_order family v w)
   unfolding plain_order
   plain_second = second-then (heads_order family v w) _ heads is
 
-  pub plain-same : heads ≡ Same → (r : Order) → r ≡ ordered (components_order family (components family v) (components family w))
+  pub plain-same : heads ≡ Equal → (r : Order) → r ≡ ordered (components_order family (components family v) (components family w))
       → r ≡ ordered (plain_order family v w)
   unfolding plain_order
   plain-same = same_then (heads_order family v w) _ heads is

@@ -1,12 +1,12 @@
 -- One turn of a comparison, as the code makes it: what it finds, and how that stands to what is left of both values.
 -- No promise to a caller names these words.
-use Rattle.std.specs.Prelude.{ℕ, ◌<◌, ◌≤◌, ◌≡◌, List, length}
+use Rattle.std.specs.Prelude.{ℕ, ◌<◌, ◌≤◌, ◌≡◌, List, length, Result, Ok, Err, Option, Some, None}
+use Rattle.std.specs.declared.cmp.Ordering.{Ordering as Order}
+use Rattle.std.specs.declared.cmp.Ordering.TheVariants.{Less, Equal, Greater}
 use Rattle.octets.specs.Order.{ordered}
-use Rattle.octets.specs.declared.Order.{Order}
-use Rattle.octets.specs.declared.Order.TheVariants.{First, Second, Same}
-use Rattle.rule.specs.declared.Next.{Next}
-use Rattle.rule.specs.declared.Next.TheVariants.{Nothing, Another, Refused}
 use Rattle.rule.specs.declared.Family.{Family}
+use Rattle.rule.specs.declared.Refusal.{Refusal}
+use Rattle.rule.specs.declared.Located.{Located}
 use Rattle.rule.specs.Value.{Component, components_from}
 use Rattle.order.specs.declared.Turn.{Turn}
 use Rattle.order.specs.declared.Turn.TheVariants.{Decided, Tied}
@@ -17,16 +17,16 @@ abbrev pub components_left : Family → List ℕ → ℕ → ℕ → List Compon
 components_left family v at previous = (components_from family v (record { at = at; previous = previous })).items
 
 -- The answer where the first value has no further component: it comes later, unless the second has none either; a refusal counts as none.
-abbrev pub runs_out : Next → Order
-runs_out Nothing = Same
-runs_out (Another kind next) = Second
-runs_out (Refused number place) = Same
+abbrev pub runs_out : Result (Option Located) Refusal → Order
+runs_out (Ok None) = Equal
+runs_out (Ok (Some found)) = Greater
+runs_out (Err refusal) = Equal
 
 -- What the order of two components means for the turn.
 abbrev pub turn_for : Order → ℕ → ℕ → ℕ → Turn
-turn_for First kind here there = Decided First
-turn_for Second kind here there = Decided Second
-turn_for Same kind here there = Tied kind here there
+turn_for Less kind here there = Decided Less
+turn_for Greater kind here there = Decided Greater
+turn_for Equal kind here there = Tied kind here there
 
 -- The answer for both values, where a turn decided it or what is left decides it.
 abbrev pub settled : Family → List ℕ → List ℕ → Turn → Order

@@ -6,14 +6,14 @@ ghost use Rattle.octets.specs.Order.{ordered};
 ghost use Rattle.rule.specs.Family.{Fits};
 ghost use Rattle.rule.specs.Value.{components, component, check_value};
 ghost use Rattle.order.specs.Precedence.{body_order, component_order, components_order, heads_order, plain_order, precedence};
-ghost use Rattle.order.specs.Compare.{comparison_of, compare_rules};
+ghost use Rattle.order.specs.Compare.{compare_rules};
 ghost use Rattle.order.specs.Turn.{runs_out, turn_for, Turned};
 
-use octets::Order;
-use rule::{Checked, Family, Next, Reading};
+use rule::{Family, Located, Refusal};
+use std::cmp::Ordering;
 
 // Two bodies of one type: prefixes as prefixes, others octet by octet.
-pub fn compare_bodies(family: Family, kind: u8, first: &[u8], second: &[u8]) -> Order
+pub fn compare_bodies(family: Family, kind: u8, first: &[u8], second: &[u8]) -> Ordering
     requires { Fits family }
     ensures { result ≡ ordered (body_order family kind first.now second.now) }
 {
@@ -27,15 +27,21 @@ pub fn compare_bodies(family: Family, kind: u8, first: &[u8], second: &[u8]) -> 
 }
 
 // Two components: the lower type first, then their bodies.
-pub fn compare_components(family: Family, kind: u8, first: &[u8], other: u8, second: &[u8]) -> Order
+pub fn compare_components(
+    family: Family,
+    kind: u8,
+    first: &[u8],
+    other: u8,
+    second: &[u8],
+) -> Ordering
     requires { Fits family }
     ensures { result ≡ ordered (component_order family (component kind first.now) (component other second.now)) }
 {
     if kind < other {
-        return Order::First;
+        return Ordering::Less;
     }
     if other < kind {
-        return Order::Second;
+        return Ordering::Greater;
     }
     compare_bodies(family, kind, first, second)
 }
@@ -43,32 +49,28 @@ pub fn compare_components(family: Family, kind: u8, first: &[u8], other: u8, sec
 // What one turn of a comparison finds: which value comes first, or that the components at hand tie, and where to go on in each.
 #[derive(Clone, Copy)]
 pub enum Turn {
-    Decided(Order),
+    Decided(Ordering),
     Tied { kind: u8, here: usize, there: usize },
 }
 
 // Where the first value has run out, it comes later unless the second has no further component either.
-pub fn runs_out(second: Next) -> Order
+pub fn runs_out(second: Result<Option<Located>, Refusal>) -> Ordering
     ensures { result ≡ runs_out second }
 {
     match second {
-        Next::Another { kind: _, next: _ } => Order::Second,
-        Next::Nothing => Order::Same,
-        Next::Refused {
-            number: _,
-            place: _,
-        } => Order::Same,
+        Ok(Some(_)) => Ordering::Greater,
+        _ => Ordering::Equal,
     }
 }
 
 // What a comparison of two components means for the turn.
-pub fn turn_for(order: Order, kind: u8, here: usize, there: usize) -> Turn
+pub fn turn_for(order: Ordering, kind: u8, here: usize, there: usize) -> Turn
     ensures { result ≡ turn_for order kind here there }
 {
     match order {
-        Order::First => Turn::Decided(Order::First),
-        Order::Second => Turn::Decided(Order::Second),
-        Order::Same => Turn::Tied { kind, here, there },
+        Ordering::Less => Turn::Decided(Ordering::Less),
+        Ordering::Greater => Turn::Decided(Ordering::Greater),
+        Ordering::Equal => Turn::Tied { kind, here, there },
     }
 }
 
@@ -86,33 +88,20 @@ pub fn compare_next(
 {
     let left = rule::next_component(family, first, here, previous);
     let right = rule::next_component(family, second, there, previous);
-    match left {
-        Next::Nothing => Turn::Decided(runs_out(right)),
-        Next::Refused {
-            number: _,
-            place: _,
-        } => Turn::Decided(runs_out(right)),
-        Next::Another { kind, next } => match right {
-            Next::Nothing => Turn::Decided(Order::First),
-            Next::Refused {
-                number: _,
-                place: _,
-            } => Turn::Decided(Order::First),
-            Next::Another {
-                kind: other,
-                next: behind,
-            } => {
-                let body = rule::component_body(family, first, here, previous, next);
-                let against = rule::component_body(family, second, there, previous, behind);
-                let order = compare_components(family, kind, body, other, against);
-                turn_for(order, kind, next, behind)
-            }
-        },
-    }
+    let Ok(Some(component)) = left else {
+        return Turn::Decided(runs_out(right));
+    };
+    let Ok(Some(other)) = right else {
+        return Turn::Decided(Ordering::Less);
+    };
+    let body = rule::component_body(family, first, here, previous, component.next);
+    let against = rule::component_body(family, second, there, previous, other.next);
+    let order = compare_components(family, component.kind, body, other.kind, against);
+    turn_for(order, component.kind, component.next, other.next)
 }
 
 // The components of two values that are plain already: one by one, and what runs out first comes later.
-fn compare_lists(family: Family, first: &[u8], second: &[u8]) -> Order
+fn compare_lists(family: Family, first: &[u8], second: &[u8]) -> Ordering
     requires { Fits family }
     ensures { result ≡ ordered (components_order family (components family first.now) (components family second.now)) }
 {
@@ -135,7 +124,7 @@ fn compare_lists(family: Family, first: &[u8], second: &[u8]) -> Order
 }
 
 // The octets that stand before the first component of two values.
-fn compare_heads(family: Family, first: &[u8], second: &[u8]) -> Order
+fn compare_heads(family: Family, first: &[u8], second: &[u8]) -> Ordering
     ensures { result ≡ ordered (heads_order family first.now second.now) }
 {
     let here = family.head.min(first.len());
@@ -144,20 +133,20 @@ fn compare_heads(family: Family, first: &[u8], second: &[u8]) -> Order
 }
 
 // Two values that are plain already: what stands before their components decides, and then these do.
-pub fn compare_plain(family: Family, first: &[u8], second: &[u8]) -> Order
+pub fn compare_plain(family: Family, first: &[u8], second: &[u8]) -> Ordering
     requires { Fits family }
     ensures { result ≡ ordered (plain_order family first.now second.now) }
 {
     match compare_heads(family, first, second) {
-        Order::First => Order::First,
-        Order::Second => Order::Second,
-        Order::Same => compare_lists(family, first, second),
+        Ordering::Less => Ordering::Less,
+        Ordering::Greater => Ordering::Greater,
+        Ordering::Equal => compare_lists(family, first, second),
     }
 }
 
 // Two accepted values: their plain spellings are built in working arrays and compared there.
-pub fn compare_values(family: Family, first: &[u8], second: &[u8]) -> Order
-    requires { Fits family × ((check_value family first.now ≡ Checked.Accepted) × (check_value family second.now ≡ Checked.Accepted)) }
+pub fn compare_values(family: Family, first: &[u8], second: &[u8]) -> Ordering
+    requires { Fits family × ((check_value family first.now ≡ Ok tt) × (check_value family second.now ≡ Ok tt)) }
     ensures { result ≡ ordered (precedence family first.now second.now) }
 {
     let size = first.len();
@@ -169,45 +158,14 @@ pub fn compare_values(family: Family, first: &[u8], second: &[u8]) -> Order
     compare_plain(family, &work[..size], &space[..other])
 }
 
-// Which of two rules comes first, that they are the same rule, or a refusal.
-#[derive(Clone, Copy)]
-pub enum Comparison {
-    First,
-    Second,
-    Same,
-    Refused { number: u8, place: usize },
-}
-
-// What an order of two values means for their rules.
-fn comparison_of(which: Order) -> Comparison
-    ensures { result ≡ comparison_of which }
-{
-    match which {
-        Order::First => Comparison::First,
-        Order::Second => Comparison::Second,
-        Order::Same => Comparison::Same,
-    }
-}
-
 // Reads two rules, the first before the second, and compares their values.
-pub fn compare_rules(family: Family, first: &[u8], second: &[u8]) -> Comparison
+pub fn compare_rules(family: Family, first: &[u8], second: &[u8]) -> Result<Ordering, Refusal>
     requires { Fits family }
     ensures { result ≡ compare_rules family first.now second.now }
 {
-    let left = rule::one_rule(family, first);
-    let right = rule::one_rule(family, second);
-    match left {
-        Reading::Refused { number, place } => Comparison::Refused { number, place },
-        Reading::Rule { start, size } => match right {
-            Reading::Refused { number, place } => Comparison::Refused { number, place },
-            Reading::Rule {
-                start: begin,
-                size: span,
-            } => {
-                let end = start + size;
-                let stop = begin + span;
-                comparison_of(compare_values(family, &first[start..end], &second[begin..stop]))
-            }
-        },
-    }
+    let left = rule::one_rule(family, first)?;
+    let right = rule::one_rule(family, second)?;
+    let end = left.start + left.size;
+    let stop = right.start + right.size;
+    Ok(compare_values(family, &first[left.start..end], &second[right.start..stop]))
 }

@@ -9,7 +9,7 @@ ghost use Rattle.packet.specs.Header6.{traffic_class, flow_label, address_at, ip
 ghost use Rattle.packet.specs.Transport.{transport_octets, has_ports, has_icmp, has_flags, transport_fields};
 ghost use Rattle.packet.specs.Packet.{fragment_data, ipv4_fields, ipv6_fields, reading_of, packet_of};
 
-use extension::Ended;
+use extension::Progress;
 use octets::{bit_if, number_at, octet_at};
 use prefix::Address;
 use rule::Family;
@@ -195,7 +195,7 @@ fn counted_octets(octets: &[u8]) -> &[u8]
 {
     let length = number_at(2, octets, 4) as usize + 40;
     let end = octets.len().min(length);
-    &octets[0..end]
+    &octets[..end]
 }
 
 // The octets from the upper layer's first one on; none where it is not found or behind a fragment offset that is not 0.

@@ -13,13 +13,14 @@ use lib.Pow.{pow_pos}
 use borrow.Author.Tests.{eq-eqb, ne_eqb, eqb-true, eqb-false, le-leb, leb-true}
 use Rattle.octets.specs.Test.{same_list}
 use Rattle.octets.specs.Order.{lex, then, ordered}
-use Rattle.octets.specs.declared.Order.{Order}
 use Rattle.octets.proofs.Cases.{by-test, same_test}
-use Rattle.octets.proofs.OrderLaws.{nat-order, lex-order, lt-cmp, gt-cmp, eq-cmp}
+use Rattle.std.specs.Ordering.{nat_cmp, ordering_then}
+use Rattle.octets.proofs.OrderLaws.{numbers-ordered, nat-order, lex-order, lt-cmp, gt-cmp, eq-cmp}
 use Rattle.prefix.proofs.BitLaws.{first_bits, top_bit, between_first}
 use Rattle.prefix.proofs.ContainLaws.{begins-within, tie}
 use Rattle.prefix.specs.declared.Address.{Address}
 use Rattle.prefix.specs.Prefix.{Pattern, address_of, bits, bits_between, pattern_bits, covers_address, contains, prefix_order, WellFormed}
+use Rattle.std.specs.declared.cmp.Ordering.{Ordering as Order}
 
 -- of two numbers one is lower, or they are equal
 by-order : {P : Type 0} (a b : ℕ) → (a < b → P) → (b < a → P) → (a ≡ b → P) → P
@@ -134,19 +135,21 @@ one-order w p q P Q =
 pub order-tie : (w : ℕ) (p q : Pattern) → WellFormed w p → WellFormed w q → prefix_order w p q ≡ Ordering.eq → p ≡ q
 order-tie w p q P Q e = tie w p q P Q ((lex-order compare nat-order).only _ _ (sym (one-order w p q P Q) ∙ e))
 
--- what the code answers for two addresses: the high words decide, and where they are equal the low ones
-module _ (a b : Address) (r : Order) (first : a.low < 2 ^ 64) (second : b.low < 2 ^ 64) where
-  pub by_high : (a.high ≡ b.high → ⊥) → r ≡ ordered (compare a.high b.high) → r ≡ ordered (compare (address_of a) (address_of b))
-  by_high h e =
-      e
-      ∙ ap ordered
-      (decided (compare a.high b.high) (compare a.low b.low) (λ g. h (nat-order.only a.high b.high g))
-      ∙ sym (compare-parts (2 ^ 64) a.high b.high a.low b.low first second))
-
-  pub by-low : a.high ≡ b.high → r ≡ ordered (compare a.low b.low) → r ≡ ordered (compare (address_of a) (address_of b))
-  by-low h e =
-      let f : compare (address_of a) (address_of b) ≡ compare a.low b.low = rw h (compare-low (b.high * 2 ^ 64) a.low b.low) in
-      e ∙ ap ordered (sym f)
+-- what the derived order of two addresses answers: the high words decide, and where they are equal the low ones
+pub addresses-ordered : (a b : Address) → a.low < 2 ^ 64 → b.low < 2 ^ 64
+    → ordering_then (nat_cmp a.high b.high) (nat_cmp a.low b.low) ≡ ordered (compare (address_of a) (address_of b))
+addresses-ordered a b first second =
+    rw (
+      numbers-ordered a.high b.high,
+      numbers-ordered a.low b.low,
+      compare-parts (2 ^ 64) a.high b.high a.low b.low first second,
+    )
+    (both-ways (compare a.high b.high) (compare a.low b.low))
+  where
+    both-ways : (o p : Ordering) → ordering_then (ordered o) (ordered p) ≡ ordered (then o p)
+    both-ways Ordering.lt p = refl
+    both-ways Ordering.eq p = refl
+    both-ways Ordering.gt p = refl
 
 -- what the code answers for two patterns: the offsets decide; where they are equal and one contains the other the lengths, and else the
 -- addresses

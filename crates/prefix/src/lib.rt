@@ -4,16 +4,16 @@
 
 ghost use Rattle.std.specs.Prelude.{◌≡◌, ◌||◌, eqb};
 ghost use Rattle.std.specs.Int.Bits.{bit_and};
-ghost use Prim.Native.Nat.{◌-◌, ◌/◌, ◌%◌, ◌^◌, ◌≤◌, compare, min};
+ghost use Prim.Native.Nat.{◌-◌, ◌/◌, ◌%◌, ◌^◌, ◌≤◌, min};
 ghost use Rattle.octets.specs.Number.{number_at};
 ghost use Rattle.octets.specs.Order.{ordered};
 ghost use Rattle.octets.specs.Test.{same_list};
 ghost use Rattle.prefix.specs.Prefix.{address_of, pattern_of, bits_between, covers_address, contains, prefix_order, offset_in, pattern_start, pattern_in};
 
-use octets::Order;
+use std::cmp::Ordering;
 
-// An address in two words; one of up to 64 bits stands in the low one.
-#[derive(Clone, Copy)]
+// An address in two words; one of up to 64 bits stands in the low one. Addresses stand in the order of their numbers.
+#[derive(Clone, Copy, PartialEq, Eq, PartialOrd, Ord)]
 pub struct Address {
     pub high: u64,
     pub low: u64,
@@ -106,16 +106,6 @@ pub fn contains_prefix(width: u8, outer: Prefix, inner: Prefix) -> bool
     covers_address(width, outer, inner.address)
 }
 
-// Which of two addresses is the lower.
-pub fn compare_addresses(a: Address, b: Address) -> Order
-    ensures { result ≡ ordered (compare (address_of a) (address_of b)) }
-{
-    if a.high != b.high {
-        return octets::compare_numbers(a.high as usize, b.high as usize);
-    }
-    octets::compare_numbers(a.low as usize, b.low as usize)
-}
-
 // Whether one of two prefixes contains the other: where they begin alike and have the same bits up to the end of the shorter one.
 pub fn are_nested(width: u8, first: Prefix, second: Prefix) -> bool
     ensures { result ≡ (contains width (pattern_of first) (pattern_of second) || contains width (pattern_of second) (pattern_of first)) }
@@ -128,16 +118,16 @@ pub fn are_nested(width: u8, first: Prefix, second: Prefix) -> bool
 }
 
 // Which of two prefixes comes first: that of the lower offset, then the more specific if one contains the other, else the lower address.
-pub fn compare_prefixes(width: u8, first: Prefix, second: Prefix) -> Order
+pub fn compare_prefixes(width: u8, first: Prefix, second: Prefix) -> Ordering
     ensures { result ≡ ordered (prefix_order width (pattern_of first) (pattern_of second)) }
 {
     if first.offset != second.offset {
-        return octets::compare_numbers(first.offset as usize, second.offset as usize);
+        return first.offset.cmp(&second.offset);
     }
     if are_nested(width, first, second) {
-        return octets::compare_numbers(second.length as usize, first.length as usize);
+        return second.length.cmp(&first.length);
     }
-    compare_addresses(first.address, second.address)
+    first.address.cmp(&second.address)
 }
 
 // The number in at most eight octets that begin at a place, the highest first, where each that lies past the end counts as 0; only those

@@ -11,34 +11,25 @@ ghost use Rattle.request.specs.Request.{request_of};
 
 use action::Actions;
 use route::{Origin, Settings};
-use rule::{AddressFamily, Reading};
+use rule::{AddressFamily, Refusal, Span};
 
 // What an announcement asks of a table once its input is read and judged: to hold a rule's value with its actions where it is
-// feasible, and to hold that rule no longer where it is not; or nothing, since it is refused.
+// feasible, and to hold that rule no longer where it is not.
 #[derive(Clone, Copy)]
-pub enum Request {
-    Announce {
-        start: usize,
-        size: usize,
-        actions: Actions,
-        feasible: bool,
-    },
-    Refused {
-        number: u8,
-        place: usize,
-    },
+pub struct Request {
+    pub start: usize,
+    pub size: usize,
+    pub actions: Actions,
+    pub feasible: bool,
 }
 
 // Reads one rule, once the routes that it is to be judged by are found sound.
-pub fn read_with_routes(family: AddressFamily, routes: &[u32], rule: &[u8]) -> Reading
+pub fn read_with_routes(family: AddressFamily, routes: &[u32], rule: &[u8]) -> Result<Span, Refusal>
     ensures { result ≡ read_with_routes (family_of family) routes.now rule.now }
 {
     let family = rule::family_of(family);
     if !route::sound_routes(family, routes) {
-        return Reading::Refused {
-            number: 9,
-            place: 0,
-        };
+        return Err(Refusal::UnsoundRoutes);
     }
     rule::one_rule(family, rule)
 }
@@ -66,26 +57,19 @@ pub fn request_of(
     rule: &[u8],
     origin: Origin,
     communities: &[u8],
-) -> Request
+) -> Result<Request, Refusal>
     ensures { result ≡ request_of (family_of family) (policy_of routes.now settings) (announcement_of rule.now origin communities.now) }
 {
-    match read_with_routes(family, routes, rule) {
-        Reading::Refused { number, place } => Request::Refused { number, place },
-        Reading::Rule { start, size } => match action::actions_of(communities) {
-            None => Request::Refused {
-                number: 13,
-                place: 0,
-            },
-            Some(actions) => {
-                let end = start + size;
-                let feasible = is_feasible(family, settings, routes, &rule[start..end], origin);
-                Request::Announce {
-                    start,
-                    size,
-                    actions,
-                    feasible,
-                }
-            }
-        },
-    }
+    let value = read_with_routes(family, routes, rule)?;
+    let Some(actions) = action::actions_of(communities) else {
+        return Err(Refusal::UnsoundActions);
+    };
+    let end = value.start + value.size;
+    let feasible = is_feasible(family, settings, routes, &rule[value.start..end], origin);
+    Ok(Request {
+        start: value.start,
+        size: value.size,
+        actions,
+        feasible,
+    })
 }

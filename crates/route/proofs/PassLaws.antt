@@ -2,8 +2,8 @@
 -- says, together with the routes to come. Assumes nothing.
 use mathlib.Core.Path.{◌≡◌, refl, sym, ◌∙◌}
 use mathlib.Core.Bool.{Bool, true, false, not, ◌&&◌, ◌||◌, and-true, and-false, and_self, and_assoc}
-use mathlib.Core.List.{List}
-use Prim.Native.Nat.{ℕ, ◌+◌, ◌-◌, ◌≤◌, ◌<◌}
+use mathlib.Core.List.{List, ◌++◌}
+use Prim.Native.Nat.{ℕ, ◌≤◌, ◌<◌}
 use native.Mathlib.Omega.{arith}
 use lib.Dec.{ltb, eqb}
 use lib.ListN.{length}
@@ -23,7 +23,7 @@ use Rattle.route.specs.declared.Neighbours.TheVariants.{Nobody, One, Several}
 use Rattle.route.specs.Route.{Route, route_of, route_at, routes_of}
 use Rattle.route.specs.Feasible.{covered_by, more_specific, longer, matched, best_match, originates, undisputed, judged, feasible}
 use Rattle.route.specs.Pass.{added, noted, agrees, validated}
-use Rattle.route.proofs.RouteLaws.{ahead, routes-all, routes-next, routes-end}
+use Rattle.route.proofs.RouteLaws.{routes-next, routes-none}
 
 -- the longer of three matches is the same however they are taken together
 pub longer-none : (a : Option Route) → longer a None ≡ a
@@ -72,45 +72,40 @@ noted-agrees w d seen r n =
     by-test (more_specific w d r) (λ e. rw e (added-agrees seen r.neighbour n)) (λ e. rw e (sym (and-true (agrees seen n))))
 
 -- what holds before each route of the pass
-pub record Passed (family : Family) (d : Pattern) (ws : List ℕ) (best : Option Route) (seen : Neighbours) (at : ℕ) : Type 0 where
-  pub within : at ≤ length ws
-  pub matching : longer best (best_match family.width d (ahead family ws at)) ≡ best_match family.width d (routes_of family ws)
-  pub agreeing : (n : ℕ) → agrees seen n && undisputed family.width d n (ahead family ws at) ≡ undisputed family.width d n (routes_of family ws)
+pub record Passed (family : Family) (d : Pattern) (ws : List ℕ) (best : Option Route) (seen : Neighbours) (more : List ℕ) : Type 0 where
+  pub matching : longer best (best_match family.width d (routes_of family more)) ≡ best_match family.width d (routes_of family ws)
+  pub agreeing : (n : ℕ) → agrees seen n && undisputed family.width d n (routes_of family more) ≡ undisputed family.width d n (routes_of family ws)
 
-pub pass-start : (family : Family) (d : Pattern) (ws : List ℕ) → Passed family d ws None Nobody 0
+pub pass-start : (family : Family) (d : Pattern) (ws more : List ℕ) → more ≡ ws → Passed family d ws None Nobody more
 unfolding longer agrees
-pass-start family d ws =
-    let e = routes-all family ws in
-    record { within = omega arith; matching = rw e; agreeing = λ n. rw e }
+pass-start family d ws more e = record { matching = rw e; agreeing = λ n. rw e }
 
 -- neither of two tests holds
 neither : (a b : Bool) → a || b ≡ false → (a ≡ false) × (b ≡ false)
 neither true b e = apart (cc)
 neither false b e = (refl, e)
 
-module _ (family : Family) (F : Fits family) (d : Pattern) (ws : List ℕ) (best : Option Route) (seen : Neighbours) (at : ℕ) (c : Passed family d ws best seen at) where
-  pub pass_on : (r : Route) (b : Option Route) (s : Neighbours) → family.words ≤ length ws - at → r ≡ route_at family ws at
-      → b ≡ longer best (matched family.width d r) → s ≡ noted family.width d seen r → Passed family d ws b s (at + family.words)
+module _ (family : Family) (F : Fits family) (d : Pattern) (ws : List ℕ) (best : Option Route) (seen : Neighbours) (more : List ℕ)
+    (c : Passed family d ws best seen more) (own rest : List ℕ) (cut : more ≡ own ++ rest) (size : length own ≡ family.words) where
+  pub pass_on : (r : Route) (b : Option Route) (s : Neighbours) → r ≡ route_at family own 0
+      → b ≡ longer best (matched family.width d r) → s ≡ noted family.width d seen r → Passed family d ws b s rest
   unfolding best_match undisputed every
-  pass_on r b s h e f g =
-      let some = F.words in
-      let next = routes-next family ws at (omega arith) h in
+  pass_on r b s e f g =
+      let next = routes-next family own rest F size more cut in
       record {
-        within = omega arith;
         matching =
-            rw (f, longer-assoc best (matched family.width d r) (best_match family.width d (ahead family ws (at + family.words))))
+            rw (f, longer-assoc best (matched family.width d r) (best_match family.width d (routes_of family rest)))
             (rw (next, ← e) at c.matching);
         agreeing = λ n. rw (g, noted-agrees family.width d seen r n, and_assoc) (rw (next, ← e) at (c.agreeing n));
       }
 
   -- a route that neither covers the destination nor lies inside it leaves what is kept as it was
-  pub pass-over : (r : Route) (nested : Bool) → family.words ≤ length ws - at → r ≡ route_at family ws at
-      → nested ≡ (contains family.width d r.prefix || contains family.width r.prefix d) → not nested ≡ true
-      → Passed family d ws best seen (at + family.words)
+  pub pass-over : (r : Route) (nested : Bool) → r ≡ route_at family own 0
+      → nested ≡ (contains family.width d r.prefix || contains family.width r.prefix d) → nested ≡ false → Passed family d ws best seen rest
   unfolding matched covered_by noted more_specific
-  pass-over r nested h e says far =
-      let none = neither (contains family.width d r.prefix) (contains family.width r.prefix d) (sym says ∙ not-true nested far) in
-      pass_on r best seen h e (rw none.1 (sym (longer-none best))) (rw none.0 refl)
+  pass-over r nested e says far =
+      let none = neither (contains family.width d r.prefix) (contains family.width r.prefix d) (sym says ∙ far) in
+      pass_on r best seen e (rw none.1 (sym (longer-none best))) (rw none.0 refl)
 
 -- what the pass has kept says what the routes do
 kept-says : (w : ℕ) (d : Pattern) (origin : Origin) (rs : List Route) (best : Option Route) (seen : Neighbours) → best_match w d rs ≡ best
@@ -119,12 +114,12 @@ unfolding validated judged
 kept-says w d origin rs None seen e f = rw (judged, e)
 kept-says w d origin rs (Some r) seen e f = rw (judged, e, f r.neighbour)
 
-pub pass-end : (family : Family) (d : Pattern) (ws : List ℕ) (best : Option Route) (seen : Neighbours) (at : ℕ) (origin : Origin) (v : Bool)
-    → Passed family d ws best seen at → length ws - at < family.words → v ≡ validated best origin seen
+pub pass-end : (family : Family) (d : Pattern) (ws : List ℕ) (best : Option Route) (seen : Neighbours) (more : List ℕ) (origin : Origin) (v : Bool)
+    → Passed family d ws best seen more → length more < family.words → v ≡ validated best origin seen
     → v ≡ judged family.width d origin (routes_of family ws)
 unfolding best_match undisputed every
-pass-end family d ws best seen at origin v c h e =
-    let none = routes-end family ws at h in
+pass-end family d ws best seen more origin v c h e =
+    let none = routes-none family more h in
     e
     ∙ kept-says family.width d origin (routes_of family ws) best seen (sym (rw none at c.matching) ∙ longer-none best)
     (λ n. sym (and-true (agrees seen n)) ∙ (rw none at (c.agreeing n)))

@@ -1,14 +1,15 @@
 -- The routes that words spell, one after the other, and the soundness of a list route by route. Assumes nothing.
-use mathlib.Core.Path.{◌≡◌, refl, sym, ◌∙◌}
-use mathlib.Core.Bool.{Bool, true, false, not, ◌&&◌, ◌||◌, and-false, and_assoc, or-false}
-use mathlib.Core.List.{List, [], ◌∷◌}
+use mathlib.Core.Path.{◌≡◌, refl, ap, sym, ◌∙◌}
+use mathlib.Core.Bool.{Bool, true, false, ◌&&◌, ◌||◌, and-false, and_assoc, or-false}
+use mathlib.Core.List.{List, [], ◌∷◌, ◌++◌}
 use Prim.Native.Nat.{ℕ, zero, suc, ◌+◌, ◌-◌, ◌*◌, ◌/◌, ◌%◌, ◌^◌, ◌≤◌, ◌<◌}
 use native.Mathlib.Omega.{arith}
-use native.Mathlib.Nat.{zero-add, add-zero, add-suc, add_assoc, pow-suc, sub-zero, mul-le-mul_right, div-eq_of_lt, div-eq-sub-div}
+use native.Mathlib.Nat.{zero-add, add-zero, add-suc, add_assoc, pow-suc, mul-le-mul_right, div-eq_of_lt, div-eq-sub-div}
 use native.Mathlib.Numerals.{add-one}
 use lib.Dec.{ltb, eqb, lit<}
-use lib.ListN.{length, get_or}
-use borrow.Author.Tests.{lt-ltb, le-ltb, ltb-true, ltb-false, le-leb, lt-leb, eq-eqb, ne_eqb, eqb-true, eqb-false, not-true, not-false}
+use lib.ListN.{length, get_or, length-append, get_or-append}
+use Rattle.std.proofs.lemmas.List.{get_or-append-add}
+use borrow.Author.Tests.{lt-ltb, le-ltb, ltb-true, ltb-false, le-leb, lt-leb, eq-eqb, ne_eqb, eqb-true, eqb-false}
 use Rattle.octets.specs.Test.{every}
 use Rattle.octets.proofs.Cases.{by-test}
 use Rattle.prefix.specs.declared.Address.{Address}
@@ -21,26 +22,66 @@ use Rattle.route.specs.declared.Route.{Route as RouteInCode}
 use Rattle.route.specs.Route.{Route, route_of, number_in_words, address_words, route_at, routes_from, routes_of, plain_prefix, rises, rising, most_routes, sound_routes}
 use Rattle.route.specs.Pass.{may_follow}
 
--- the routes from a place on
-abbrev pub ahead : Family → List ℕ → ℕ → List Route
-ahead family ws at = routes_from family ((length ws - at) / family.words) ws at
+-- the words of a route are no matter to those behind it, nor these to it
+number-behind : (n : ℕ) (own rest : List ℕ) (at : ℕ) → number_in_words n (own ++ rest) (length own + at) ≡ number_in_words n rest at
+unfolding number_in_words
+number-behind zero own rest at = refl
+number-behind (suc n) own rest at = rw (number-behind n own rest at, add_assoc, get_or-append-add own rest (at + n) 0)
 
-pub routes-all : (family : Family) (ws : List ℕ) → ahead family ws 0 ≡ routes_of family ws
-unfolding routes_of
-routes-all family ws = rw (sub-zero (length ws))
+number-before : (n : ℕ) (own rest : List ℕ) → n ≤ length own → number_in_words n (own ++ rest) 0 ≡ number_in_words n own 0
+unfolding number_in_words
+number-before zero own rest h = refl
+number-before (suc n) own rest h = rw (number-before n own rest (omega arith), get_or-append own rest 0 (0 + n) (omega arith))
 
--- as many words as a route has are one route more, and fewer are none
-pub routes-next : (family : Family) (ws : List ℕ) (at : ℕ) → 0 < family.words → family.words ≤ length ws - at
-    → ahead family ws at ≡ route_at family ws at ∷ ahead family ws (at + family.words)
-unfolding routes_from
-routes-next family ws at some h =
-    let e : length ws - at - family.words ≡ length ws - (at + family.words) = omega arith in
-    let f : (length ws - at) / family.words ≡ suc ((length ws - (at + family.words)) / family.words) = div-eq-sub-div some h ∙ rw (e, add-one) in
-    rw f
+module _ (family : Family) (own rest : List ℕ) where
+  route-behind : (at : ℕ) → route_at family (own ++ rest) (length own + at) ≡ route_at family rest at
+  unfolding route_at
+  route-behind at =
+      let n : ℕ = address_words family in
+      rw (
+        number-behind n own rest at,
+        add_assoc (length own) at n,
+        add_assoc (length own) (at + n) 1,
+        add_assoc (length own) (at + n) 2,
+        get_or-append-add own rest (at + n) 0,
+        get_or-append-add own rest (at + n + 1) 0,
+        get_or-append-add own rest (at + n + 2) 0,
+      )
 
-pub routes-end : (family : Family) (ws : List ℕ) (at : ℕ) → length ws - at < family.words → ahead family ws at ≡ []
-unfolding routes_from
-routes-end family ws at h = rw (div-eq_of_lt h)
+  routes-behind : (n at : ℕ) → routes_from family n (own ++ rest) (length own + at) ≡ routes_from family n rest at
+  unfolding routes_from
+  routes-behind zero at = refl
+  routes-behind (suc n) at = rw (route-behind at, add_assoc (length own) at family.words, routes-behind n (at + family.words))
+
+  module _ (F : Fits family) (size : length own ≡ family.words) where
+    route-before : route_at family (own ++ rest) 0 ≡ route_at family own 0
+    unfolding route_at
+    route-before =
+        let words = F.words in
+        let n : ℕ = address_words family in
+        rw (
+          number-before n own rest (omega arith),
+          get_or-append own rest 0 (0 + n) (omega arith),
+          get_or-append own rest 0 (0 + n + 1) (omega arith),
+          get_or-append own rest 0 (0 + n + 2) (omega arith),
+        )
+
+    -- as many words as a route has are one route more
+    pub routes-next : (ws : List ℕ) → ws ≡ own ++ rest → routes_of family ws ≡ route_at family own 0 ∷ routes_of family rest
+    unfolding routes_of routes_from
+    routes-next ws cut =
+        let words = F.words in
+        let some : 0 < family.words = omega arith in
+        let more : length ws ≡ length own + length rest = ap length cut ∙ length-append own rest in
+        let e : length ws - family.words ≡ length rest = omega arith in
+        let one_more : length ws / family.words ≡ suc (length rest / family.words) = div-eq-sub-div some (omega arith) ∙ rw (e, add-one) in
+        let behind : 0 + family.words ≡ length own + 0 = omega arith in
+        rw (one_more, cut, route-before, behind, routes-behind (length rest / family.words) 0)
+
+-- and fewer are none
+pub routes-none : (family : Family) (ws : List ℕ) → length ws < family.words → routes_of family ws ≡ []
+unfolding routes_of routes_from
+routes-none family ws h = rw (div-eq_of_lt h)
 
 -- the routes rise behind a prefix before them
 pub rising_behind : Pattern → List Route → Bool
@@ -75,9 +116,8 @@ next-in-order w p r rs =
     in-turn (plain_prefix w r.prefix) (every (λ (s : Route). plain_prefix w s.prefix) rs) (rises p r.prefix) (rising_behind r.prefix rs)
 
 -- what holds before each route of the check but the first: the list is sound exactly where the routes from here on are in order
-pub record Checked (family : Family) (ws : List ℕ) (previous : Pattern) (at : ℕ) : Type 0 where
-  pub within : at ≤ length ws
-  pub rest : in_order_behind family.width previous (ahead family ws at) ≡ sound_routes family ws
+abbrev pub Checked : Family → List ℕ → Pattern → List ℕ → Type 0
+Checked family ws previous more = in_order_behind family.width previous (routes_of family more) ≡ sound_routes family ws
 
 module _ (family : Family) (F : Fits family) (ws : List ℕ) where
   -- a list too long, or with words left over, is unsound, and of any other the routes decide
@@ -96,41 +136,36 @@ module _ (family : Family) (F : Fits family) (ws : List ℕ) where
 
     pub no-routes : length ws < family.words → true ≡ sound_routes family ws
     unfolding every rising
-    no-routes h = rw (← routes-all family ws, routes-end family ws 0 (omega arith)) at by-order
+    no-routes h = rw (routes-none family ws h) at by-order
 
-    module _ (r : RouteInCode) (p : Bool) (here : route_of r ≡ route_at family ws 0) (plain : p ≡ plain_prefix family.width (pattern_of r.prefix)) (some : family.words ≤ length ws) where
-      first_plain : sound_routes family ws ≡ p && in_order_behind family.width (pattern_of r.prefix) (ahead family ws (0 + family.words))
+    module _ (own rest : List ℕ) (cut : ws ≡ own ++ rest) (size : length own ≡ family.words) (r : RouteInCode) (p : Bool)
+        (here : route_of r ≡ route_at family own 0) (plain : p ≡ plain_prefix family.width (pattern_of r.prefix)) where
+      first_plain : sound_routes family ws ≡ p && in_order_behind family.width (pattern_of r.prefix) (routes_of family rest)
       first_plain =
-          let positive = F.words in
           sym by-order
-          ∙ rw (← routes-all family ws, routes-next family ws 0 (omega arith) (omega arith), ← here, plain)
-          (first-in-order family.width (route_of r) (ahead family ws (0 + family.words)))
+          ∙ rw (routes-next family own rest F size ws cut, ← here, plain) (first-in-order family.width (route_of r) (routes_of family rest))
 
-      pub first-not-plain : not p ≡ true → false ≡ sound_routes family ws
-      first-not-plain e = sym (first_plain ∙ rw (not-true p e))
+      pub first-not-plain : p ≡ false → false ≡ sound_routes family ws
+      first-not-plain e = sym (first_plain ∙ rw e)
 
-      pub check-start : not p ≡ false → Checked family ws (pattern_of r.prefix) family.words
-      check-start e =
-          let z : 0 + family.words ≡ family.words = omega arith in
-          let behind : sound_routes family ws ≡ in_order_behind family.width (pattern_of r.prefix) (ahead family ws (0 + family.words)) = first_plain ∙ rw (not-false p e) in
-          record { within = some; rest = sym (rw z at behind) }
+      pub check-start : p ≡ true → Checked family ws (pattern_of r.prefix) rest
+      check-start e = sym (first_plain ∙ rw e)
 
-  module _ (previous : Pattern) (r : RouteInCode) (at : ℕ) (p : Bool) (c : Checked family ws previous at) (h : family.words ≤ length ws - at)
-      (here : route_of r ≡ route_at family ws at) (follows : p ≡ may_follow family.width previous (pattern_of r.prefix)) where
-    turn : in_order_behind family.width previous (ahead family ws at) ≡ p && in_order_behind family.width (pattern_of r.prefix) (ahead family ws (at + family.words))
+  module _ (previous : Pattern) (more own rest : List ℕ) (c : Checked family ws previous more) (cut : more ≡ own ++ rest) (size : length own ≡ family.words)
+      (r : RouteInCode) (p : Bool) (here : route_of r ≡ route_at family own 0) (follows : p ≡ may_follow family.width previous (pattern_of r.prefix)) where
+    turn : in_order_behind family.width previous (routes_of family more) ≡ p && in_order_behind family.width (pattern_of r.prefix) (routes_of family rest)
     turn =
-        let positive = F.words in
-        rw (routes-next family ws at (omega arith) h, ← here, follows) (next-in-order family.width previous (route_of r) (ahead family ws (at + family.words)))
+        rw (routes-next family own rest F size more cut, ← here, follows) (next-in-order family.width previous (route_of r) (routes_of family rest))
 
-    pub not-following : not p ≡ true → false ≡ sound_routes family ws
-    not-following e = rw (not-true p e) at (sym turn) ∙ c.rest
+    pub not-following : p ≡ false → false ≡ sound_routes family ws
+    not-following e = rw e at (sym turn) ∙ c
 
-    pub check-on : not p ≡ false → Checked family ws (pattern_of r.prefix) (at + family.words)
-    check-on e = record { within = omega arith; rest = rw (not-false p e) at (sym turn) ∙ c.rest }
+    pub check-on : p ≡ true → Checked family ws (pattern_of r.prefix) rest
+    check-on e = rw e at (sym turn) ∙ c
 
-  pub check-end : (previous : Pattern) (at : ℕ) → Checked family ws previous at → length ws - at < family.words → true ≡ sound_routes family ws
+  pub check-end : (previous : Pattern) (more : List ℕ) → Checked family ws previous more → length more < family.words → true ≡ sound_routes family ws
   unfolding every rising_behind
-  check-end previous at c h = rw (routes-end family ws at h) at c.rest
+  check-end previous more c h = rw (routes-none family more h) at c
 
 -- a number in two parts
 number-parts : (m n : ℕ) (ws : List ℕ) (at : ℕ) → number_in_words (m + n) ws at ≡ number_in_words m ws at * (2 ^ 32) ^ n + number_in_words n ws (at + m)
@@ -158,28 +193,22 @@ two-words count ws at first second h a b e f =
 pub low-words : (count low : ℕ) (ws : List ℕ) (at : ℕ) → low ≡ number_in_words count ws at → address_of (record { high = 0; low = low }) ≡ number_in_words count ws at
 low-words count low ws at e = zero-add low ∙ e
 
-pub both_words : (count at rest high low : ℕ) (ws : List ℕ) → 2 < count → rest ≡ count - 2 → high ≡ number_in_words rest ws at → low ≡ number_in_words 2 ws (at + rest)
-    → address_of (record { high = high; low = low }) ≡ number_in_words count ws at
-both_words count at rest high low ws h e f g =
+pub both_words : (count rest high low : ℕ) (ws : List ℕ) → 2 < count → rest ≡ count - 2 → high ≡ number_in_words rest ws 0 → low ≡ number_in_words 2 ws rest
+    → address_of (record { high = high; low = low }) ≡ number_in_words count ws 0
+both_words count rest high low ws h e f g =
     let k : count ≡ rest + 2 = omega arith in
-    rw (f, g, k) (sym (number-parts rest 2 ws at))
+    rw (f, g, k) (sym (rw (zero-add rest) at (number-parts rest 2 ws 0)))
 
 -- how the code reads a route
-pub read-route : (family : Family) (ws : List ℕ) (at : ℕ) (a : Address) → address_of a ≡ number_in_words (address_words family) ws at
+pub read-route : (family : Family) (ws : List ℕ) (a : Address) → address_of a ≡ number_in_words (address_words family) ws 0
     → route_of (record {
-      prefix = record { offset = 0; length = get_or ws (at + address_words family) 0; address = a };
-      originator = get_or ws (at + address_words family + 1) 0;
-      neighbour = get_or ws (at + address_words family + 2) 0;
+      prefix = record { offset = 0; length = get_or ws (address_words family) 0; address = a };
+      originator = get_or ws (address_words family + 1) 0;
+      neighbour = get_or ws (address_words family + 2) 0;
     })
-    ≡ route_at family ws at
+    ≡ route_at family ws 0
 unfolding route_at
-read-route family ws at a e =
-    λ i.
-    record {
-      prefix = record { offset = 0; length = get_or ws (at + address_words family) 0; address = e i };
-      originator = get_or ws (at + address_words family + 1) 0;
-      neighbour = get_or ws (at + address_words family + 2) 0;
-    }
+read-route family ws a e = rw (zero-add (address_words family), e)
 
 -- how the code tests a prefix
 pub too_wide : (w : ℕ) (p : Pattern) → w < p.length → false ≡ plain_prefix w p

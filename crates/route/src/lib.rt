@@ -11,7 +11,7 @@ ghost use Rattle.route.specs.Feasible.{originates, matched, longer, judged, feas
 ghost use Rattle.route.specs.Pass.{may_follow, added, noted, agrees, validated};
 
 use prefix::{Address, Prefix};
-use rule::{Family, Next};
+use rule::Family;
 
 // A unicast route: its prefix, its originator, and the neighbour AS that it was received from.
 #[derive(Clone, Copy)]
@@ -60,34 +60,33 @@ fn number_in(count: usize, words: &[u32], at: usize) -> u64
     first * 4294967296 + second
 }
 
-// The address in at most four words that begin at a place.
-fn address_in(count: usize, words: &[u32], at: usize) -> Address
-    requires { (count ≤ 4) × (at + count ≤ length words.now) }
-    ensures { address_of result ≡ number_in_words count words.now at }
+// The address in the first words, at most four.
+fn address_in(count: usize, words: &[u32]) -> Address
+    requires { (count ≤ 4) × (count ≤ length words.now) }
+    ensures { address_of result ≡ number_in_words count words.now 0 }
 {
     if count <= 2 {
         return Address {
             high: 0,
-            low: number_in(count, words, at),
+            low: number_in(count, words, 0),
         };
     }
     let rest = count - 2;
-    let high = number_in(rest, words, at);
-    let low = number_in(2, words, at + rest);
+    let high = number_in(rest, words, 0);
+    let low = number_in(2, words, rest);
     Address { high, low }
 }
 
-// The route whose words begin at a place: its address's, its length, its originator and its neighbour AS.
-fn route_at(family: Family, words: &[u32], at: usize) -> Route
-    requires { Fits family × (at + family.words ≤ length words.now) }
-    ensures { route_of result ≡ route_at family words.now at }
+// The route that its own words spell: its address's, its length, its originator and its neighbour AS.
+fn route_in(family: Family, words: &[u32]) -> Route
+    requires { Fits family × (length words.now ≡ family.words) }
+    ensures { route_of result ≡ route_at family words.now 0 }
 {
     let count = family.words - 3;
-    let address = address_in(count, words, at);
-    let behind = at + count;
-    let bits = words[behind];
-    let originator = words[behind + 1];
-    let neighbour = words[behind + 2];
+    let address = address_in(count, words);
+    let bits = words[count];
+    let originator = words[count + 1];
+    let neighbour = words[count + 2];
     let prefix = Prefix {
         offset: 0,
         length: bits,
@@ -146,22 +145,21 @@ pub fn sound_routes(family: Family, words: &[u32]) -> bool
     if words.len() % stride != 0 {
         return false;
     }
-    if words.len() < stride {
+    let mut routes = words.chunks_exact(stride);
+    let Some(front) = routes.next() else {
         return true;
-    }
-    let first = route_at(family, words, 0);
+    };
+    let first = route_in(family, front);
     if !is_plain(family.width, first.prefix) {
         return false;
     }
     let mut previous = first.prefix;
-    let mut at = stride;
-    while stride <= words.len() - at {
-        let route = route_at(family, words, at);
+    for own in routes {
+        let route = route_in(family, own);
         if !may_follow(family.width, previous, route.prefix) {
             return false;
         }
         previous = route.prefix;
-        at += stride;
     }
     true
 }
@@ -252,14 +250,11 @@ fn judge(family: Family, destination: Prefix, origin: Origin, words: &[u32]) -> 
     requires { Fits family }
     ensures { result ≡ judged family.width (pattern_of destination) origin (routes_of family words.now) }
 {
-    let stride = family.words;
     let width = family.width;
     let mut best = None;
     let mut seen = Neighbours::Nobody;
-    let mut at = 0;
-    while stride <= words.len() - at {
-        let route = route_at(family, words, at);
-        at += stride;
+    for own in words.chunks_exact(family.words) {
+        let route = route_in(family, own);
         if !prefix::are_nested(width, destination, route.prefix) {
             continue;
         }
@@ -303,15 +298,9 @@ pub fn destination_of(family: Family, value: &[u8]) -> Option<Prefix>
     ensures { option_map pattern_of result ≡ destination_of family value.now }
 {
     let start = family.head;
-    match rule::next_component(family, value, start, 0) {
-        Next::Another { kind, next } => {
-            let body = rule::component_body(family, value, start, 0, next);
-            destination_for(family, kind, body)
-        }
-        Next::Nothing => None,
-        Next::Refused {
-            number: _,
-            place: _,
-        } => None,
-    }
+    let Ok(Some(component)) = rule::next_component(family, value, start, 0) else {
+        return None;
+    };
+    let body = rule::component_body(family, value, start, 0, component.next);
+    destination_for(family, component.kind, body)
 }

@@ -12,46 +12,48 @@ use Rattle.octets.proofs.Cases.{by-test, apart}
 use Rattle.octets.proofs.WalkLaws.{walk-stop, walk-last, walk_more, walk-ind}
 use Rattle.rule.specs.declared.Family.{Family}
 use Rattle.rule.specs.declared.Shape.{Shape}
-use Rattle.rule.specs.declared.NextPair.{NextPair}
-use Rattle.rule.specs.declared.NextPair.TheVariants.{More, Last, Refused as RefusedPair}
-use Rattle.rule.specs.declared.BodyEnd.{BodyEnd}
-use Rattle.rule.specs.declared.BodyEnd.TheVariants.{At, Refused as RefusedBody}
-use Rattle.rule.specs.declared.Next.{Next}
-use Rattle.rule.specs.declared.Next.TheVariants.{Nothing, Another, Refused}
+use Rattle.rule.specs.Refusal.{number_of, place_of}
 use Rattle.rule.specs.Shape.{shape_of}
 use Rattle.rule.specs.Operator.{ends_list, size_of}
 use Rattle.rule.specs.Component.{pair_at, Pair, pair_of, pair_step, pairs_from, lead_of, offset_at, prefix_end, body_end, found, component_at}
+use Rattle.std.proofs.Common.{Result, Ok, Err, Option, Some, None}
+use Rattle.rule.specs.declared.Refusal.{Refusal}
+use Rattle.rule.specs.declared.Refusal.TheVariants.{UnknownType, TypeOrder, PrefixLength, CutShort, ValueSize}
+use Rattle.rule.specs.declared.NextPair.{NextPair}
+use Rattle.rule.specs.declared.NextPair.TheVariants.{More, Last}
+use Rattle.rule.specs.declared.Located.{Located}
+use Rattle.rule.specs.Component.{located}
 
 -- how `pair_at` comes to each of its answers
 module _ (largest : ℕ) (v : List ℕ) (at : ℕ) where
-  pub pair-missing : length v ≤ at → RefusedPair 6 (length v) ≡ pair_at largest v at
+  pub pair-missing : length v ≤ at → Err (CutShort (length v)) ≡ pair_at largest v at
   unfolding pair_at
   pair-missing h = rw (le-leb _ _ h)
 
   module _ (size : ℕ) (is : size ≡ size_of (get_or v at 0)) (within : at < length v) where
-    pub pair_size : largest < size → RefusedPair 7 at ≡ pair_at largest v at
+    pub pair_size : largest < size → Err (ValueSize at) ≡ pair_at largest v at
     unfolding pair_at
     pair_size h = rw (lt-leb _ _ within, ← is, lt-ltb _ _ h)
 
     module _ (allowed : size ≤ largest) where
-      pub pair-short : length v - (at + 1) < size → RefusedPair 6 (length v) ≡ pair_at largest v at
+      pub pair-short : length v - (at + 1) < size → Err (CutShort (length v)) ≡ pair_at largest v at
       unfolding pair_at
       pair-short h = rw (lt-leb _ _ within, ← is, le-ltb _ _ allowed, lt-ltb _ _ h)
 
       module _ (ends : Bool) (tells : ends ≡ ends_list (get_or v at 0)) (fits : size ≤ length v - (at + 1)) where
-        pub pair-last : ends ≡ true → Last (at + 1 + size) ≡ pair_at largest v at
+        pub pair-last : ends ≡ true → Ok (Last (at + 1 + size)) ≡ pair_at largest v at
         unfolding pair_at
         pair-last h = rw (lt-leb _ _ within, ← is, le-ltb _ _ allowed, le-ltb _ _ fits, ← tells, h)
 
-        pub pair-more : ends ≡ false → More (at + 1 + size) ≡ pair_at largest v at
+        pub pair-more : ends ≡ false → Ok (More (at + 1 + size)) ≡ pair_at largest v at
         unfolding pair_at
         pair-more h = rw (lt-leb _ _ within, ← is, le-ltb _ _ allowed, le-ltb _ _ fits, ← tells, h)
 
 -- what holds of each answer that a list's cursor can give holds of the one that it gives
-pub pair-cases : (largest : ℕ) (v : List ℕ) (at : ℕ) (P : NextPair → Type 0) → let operator = get_or v at 0 in let size = size_of operator in
-    P (RefusedPair 6 (length v)) → (at < length v → P (RefusedPair 7 at))
-    → (at + 1 + size ≤ length v → size ≤ largest → ends_list operator ≡ true → P (Last (at + 1 + size)))
-    → (at + 1 + size ≤ length v → size ≤ largest → ends_list operator ≡ false → P (More (at + 1 + size)))
+pub pair-cases : (largest : ℕ) (v : List ℕ) (at : ℕ) (P : Result NextPair Refusal → Type 0) → let operator = get_or v at 0 in let size = size_of operator in
+    P (Err (CutShort (length v))) → (at < length v → P (Err (ValueSize at)))
+    → (at + 1 + size ≤ length v → size ≤ largest → ends_list operator ≡ true → P (Ok (Last (at + 1 + size))))
+    → (at + 1 + size ≤ length v → size ≤ largest → ends_list operator ≡ false → P (Ok (More (at + 1 + size))))
     → P (pair_at largest v at)
 unfolding pair_at
 pair-cases largest v at P cut sized ends goes =
@@ -98,9 +100,9 @@ not-below bits offset e =
     (λ t. let n = leb-false bits offset t in omega arith)
 
 -- and likewise of where a prefix ends
-pub prefix_cases : (family : Family) (v : List ℕ) (at : ℕ) (P : BodyEnd → Type 0) → let bits = get_or v at 0 in let offset = offset_at family v (at + 1) in
-    let octets = (bits - offset + 7) / 8 in P (RefusedBody 6 (length v)) → (at < length v → P (RefusedBody 5 at))
-    → (at + lead_of family + octets ≤ length v → bits ≤ family.width → offset ≤ bits → P (At (at + lead_of family + octets))) → P (prefix_end family v at)
+pub prefix_cases : (family : Family) (v : List ℕ) (at : ℕ) (P : Result ℕ Refusal → Type 0) → let bits = get_or v at 0 in let offset = offset_at family v (at + 1) in
+    let octets = (bits - offset + 7) / 8 in P (Err (CutShort (length v))) → (at < length v → P (Err (PrefixLength at)))
+    → (at + lead_of family + octets ≤ length v → bits ≤ family.width → offset ≤ bits → P (Ok (at + lead_of family + octets))) → P (prefix_end family v at)
 unfolding prefix_end
 prefix_cases family v at P cut long ends =
     let bits = get_or v at 0 in
@@ -120,22 +122,22 @@ prefix_cases family v at P cut long ends =
     rw (t, u, w, x, y) (ends (omega arith) (ltb-false family.width bits u) (not-below bits offset x)))))))
 
 -- a prefix that ends somewhere begins below its length, or has neither length nor offset
-pub prefix-begins : (family : Family) (v : List ℕ) (at next : ℕ) → prefix_end family v at ≡ At next → get_or v at 0 ≤ offset_at family v (at + 1) → offset_at family v (at + 1) ≡ 0
+pub prefix-begins : (family : Family) (v : List ℕ) (at next : ℕ) → prefix_end family v at ≡ Ok next → get_or v at 0 ≤ offset_at family v (at + 1) → offset_at family v (at + 1) ≡ 0
 unfolding prefix_end
 prefix-begins family v at next e h =
     let bits = get_or v at 0 in
     let offset = offset_at family v (at + 1) in
     by-test (ltb 0 offset)
     (λ x.
-    by-test (leb (length v) at) (λ t. let z : RefusedBody 6 (length v) ≡ At next = rw t at e in apart (cc))
-    (λ t. by-test (ltb family.width bits) (λ u. let z : RefusedBody 5 at ≡ At next = rw (t, u) at e in apart (cc))
-    (λ u. by-test (ltb (length v) (at + lead_of family)) (λ w. let z : RefusedBody 6 (length v) ≡ At next = rw (t, u, w) at e in apart (cc))
-    (λ w. let z : RefusedBody 5 at ≡ At next = rw (t, u, w, x, le-leb bits offset h) at e in apart (cc)))))
+    by-test (leb (length v) at) (λ t. let z : Err (CutShort (length v)) ≡ Ok next = rw t at e in apart (cc))
+    (λ t. by-test (ltb family.width bits) (λ u. let z : Err (PrefixLength at) ≡ Ok next = rw (t, u) at e in apart (cc))
+    (λ u. by-test (ltb (length v) (at + lead_of family)) (λ w. let z : Err (CutShort (length v)) ≡ Ok next = rw (t, u, w) at e in apart (cc))
+    (λ w. let z : Err (PrefixLength at) ≡ Ok next = rw (t, u, w, x, le-leb bits offset h) at e in apart (cc)))))
     (λ x. let n = ltb-false 0 offset x in omega arith)
 
 -- and of the cursor
-pub component-cases : (family : Family) (v : List ℕ) (at previous : ℕ) (P : Next → Type 0) → let kind = get_or v at 0 in
-    (length v ≤ at → P Nothing) → (at < length v → P (Refused 3 at)) → (at < length v → P (Refused 4 at))
+pub component-cases : (family : Family) (v : List ℕ) (at previous : ℕ) (P : Result (Option Located) Refusal → Type 0) → let kind = get_or v at 0 in
+    (length v ≤ at → P (Ok None)) → (at < length v → P (Err (UnknownType at))) → (at < length v → P (Err (TypeOrder at)))
     → (at < length v → (kind ≡ 0 → ⊥) → kind ≤ family.highest → previous < kind → P (found kind (body_end family kind v (at + 1)))) → P (component_at family v at previous)
 unfolding component_at
 component-cases family v at previous P none unknown unordered body =
@@ -153,17 +155,17 @@ abbrev pub Within : List ℕ → ℕ → ℕ → Type 0
 Within v at next = (at < next) × (next ≤ length v)
 
 -- a refusal met in a value: one of the numbers 3 to 7, at an octet of the value or at its end
-abbrev pub Met : List ℕ → ℕ → ℕ → Type 0
-Met v number place = (3 ≤ number) × ((number ≤ 7) × (place ≤ length v))
+abbrev pub Met : List ℕ → Refusal → Type 0
+Met v refusal = (3 ≤ number_of refusal) × ((number_of refusal ≤ 7) × (place_of refusal ≤ length v))
 
 -- cut short is 6 at the value's end
-short : (v : List ℕ) → Met v 6 (length v)
+short : (v : List ℕ) → Met v (CutShort (length v))
 short v = (omega arith, (omega arith, omega arith))
 
-abbrev pub PairWithin : List ℕ → ℕ → NextPair → Type 0
-PairWithin v at (More next) = Within v at next
-PairWithin v at (Last next) = Within v at next
-PairWithin v at (RefusedPair number place) = Met v number place
+abbrev pub PairWithin : List ℕ → ℕ → Result NextPair Refusal → Type 0
+PairWithin v at (Ok (More next)) = Within v at next
+PairWithin v at (Ok (Last next)) = Within v at next
+PairWithin v at (Err refusal) = Met v refusal
 
 module _ (largest : ℕ) (v : List ℕ) where
   pub pair-within : (at : ℕ) → PairWithin v at (pair_at largest v at)
@@ -171,115 +173,115 @@ module _ (largest : ℕ) (v : List ℕ) where
       pair-cases largest v at (PairWithin v at) (short v) (λ h. (omega arith, (omega arith, omega arith)))
       (λ h u e. (omega arith, omega arith)) (λ h u e. (omega arith, omega arith))
 
-  pub more_within : (at next : ℕ) → pair_at largest v at ≡ More next → Within v at next
+  pub more_within : (at next : ℕ) → pair_at largest v at ≡ Ok (More next) → Within v at next
   more_within at next e = subst (PairWithin v at) e (pair-within at)
 
-  pub last_within : (at next : ℕ) → pair_at largest v at ≡ Last next → Within v at next
+  pub last_within : (at next : ℕ) → pair_at largest v at ≡ Ok (Last next) → Within v at next
   last_within at next e = subst (PairWithin v at) e (pair-within at)
 
-  pub refused-within : (at number place : ℕ) → pair_at largest v at ≡ RefusedPair number place → Met v number place
-  refused-within at number place e = subst (PairWithin v at) e (pair-within at)
+  pub refused-within : (at : ℕ) (refusal : Refusal) → pair_at largest v at ≡ Err refusal → Met v refusal
+  refused-within at refusal e = subst (PairWithin v at) e (pair-within at)
 
   -- a step on along a list goes towards the value's end
   falls : (i j : ℕ) (a : Pair) → pair_step v i (pair_at largest v i) ≡ more a j → length v - j < length v - i
   falls i j a = go (pair_at largest v i) refl
     where
-      go : (x : NextPair) → pair_at largest v i ≡ x → pair_step v i x ≡ more a j → length v - j < length v - i
-      go (More next) e q = let w = more_within i next e in let s : next ≡ j = cc in omega arith
-      go (Last next) e q = apart (cc)
-      go (RefusedPair number place) e q = apart (cc)
+      go : (x : (Result NextPair Refusal)) → pair_at largest v i ≡ x → pair_step v i x ≡ more a j → length v - j < length v - i
+      go (Ok (More next)) e q = let w = more_within i next e in let s : next ≡ j = cc in omega arith
+      go (Ok (Last next)) e q = apart (cc)
+      go (Err refusal) e q = apart (cc)
 
   -- the pairs from a place on: one more and the rest, the last, or none
-  pub pairs-more : (at next : ℕ) → pair_at largest v at ≡ More next → pairs_from largest v at ≡ before (pair_of v at next) (pairs_from largest v next)
+  pub pairs-more : (at next : ℕ) → pair_at largest v at ≡ Ok (More next) → pairs_from largest v at ≡ before (pair_of v at next) (pairs_from largest v next)
   unfolding pairs_from
   pairs-more at next e =
-      walk_more (RefusedBody 6 (length v)) (λ i. pair_step v i (pair_at largest v i)) (λ i. length v - i) falls (length v + 1) at next (pair_of v at next) (omega arith)
+      walk_more (Err (CutShort (length v))) (λ i. pair_step v i (pair_at largest v i)) (λ i. length v - i) falls (length v + 1) at next (pair_of v at next) (omega arith)
       (ap (pair_step v at) e)
 
-  pub pairs-last : (at next : ℕ) → pair_at largest v at ≡ Last next → pairs_from largest v at ≡ record { items = pair_of v at next ∷ []; ending = At next }
+  pub pairs-last : (at next : ℕ) → pair_at largest v at ≡ Ok (Last next) → pairs_from largest v at ≡ record { items = pair_of v at next ∷ []; ending = Ok next }
   unfolding pairs_from
   pairs-last at next e =
-      walk-last (RefusedBody 6 (length v)) (λ i. pair_step v i (pair_at largest v i)) (length v + 1) at (pair_of v at next) (At next) (omega arith) (ap (pair_step v at) e)
+      walk-last (Err (CutShort (length v))) (λ i. pair_step v i (pair_at largest v i)) (length v + 1) at (pair_of v at next) (Ok next) (omega arith) (ap (pair_step v at) e)
 
-  pub pairs-refused : (at number place : ℕ) → pair_at largest v at ≡ RefusedPair number place
-      → pairs_from largest v at ≡ record { items = []; ending = RefusedBody number place }
+  pub pairs-refused : (at : ℕ) (refusal : Refusal) → pair_at largest v at ≡ Err refusal
+      → pairs_from largest v at ≡ record { items = []; ending = Err refusal }
   unfolding pairs_from
-  pairs-refused at number place e =
-      walk-stop (RefusedBody 6 (length v)) (λ i. pair_step v i (pair_at largest v i)) (length v + 1) at (RefusedBody number place) (omega arith) (ap (pair_step v at) e)
+  pairs-refused at refusal e =
+      walk-stop (Err (CutShort (length v))) (λ i. pair_step v i (pair_at largest v i)) (length v + 1) at (Err refusal) (omega arith) (ap (pair_step v at) e)
 
   -- what holds of the last pair and of a refusal, and before a pair where it holds behind it, holds of every list of pairs
-  pub pairs-ind : (P : ℕ → Walk Pair BodyEnd → Type 0)
-      → ((at number place : ℕ) → pair_at largest v at ≡ RefusedPair number place → P at (record { items = []; ending = RefusedBody number place }))
-      → ((at next : ℕ) → pair_at largest v at ≡ Last next → P at (record { items = pair_of v at next ∷ []; ending = At next }))
-      → ((at next : ℕ) (w : Walk Pair BodyEnd) → pair_at largest v at ≡ More next → P next w → P at (before (pair_of v at next) w))
+  pub pairs-ind : (P : ℕ → Walk Pair (Result ℕ Refusal) → Type 0)
+      → ((at : ℕ) (refusal : Refusal) → pair_at largest v at ≡ Err refusal → P at (record { items = []; ending = Err refusal }))
+      → ((at next : ℕ) → pair_at largest v at ≡ Ok (Last next) → P at (record { items = pair_of v at next ∷ []; ending = Ok next }))
+      → ((at next : ℕ) (w : Walk Pair (Result ℕ Refusal)) → pair_at largest v at ≡ Ok (More next) → P next w → P at (before (pair_of v at next) w))
       → (at : ℕ) → P at (pairs_from largest v at)
   unfolding pairs_from
   pairs-ind P refused ends goes at =
-      walk-ind (RefusedBody 6 (length v)) (λ i. pair_step v i (pair_at largest v i)) (λ i. length v - i) falls P
+      walk-ind (Err (CutShort (length v))) (λ i. pair_step v i (pair_at largest v i)) (λ i. length v - i) falls P
       (λ i e q. stops i e (pair_at largest v i) refl q)
       (λ i a e q. lasts i a e (pair_at largest v i) refl q)
       (λ i j a w q h. mores i j a w (pair_at largest v i) refl q h)
       (length v + 1) at (omega arith)
     where
-      stops : (i : ℕ) (e : BodyEnd) (x : NextPair) → pair_at largest v i ≡ x → pair_step v i x ≡ stop e → P i (record { items = []; ending = e })
-      stops i e (More next) f q = apart (cc)
-      stops i e (Last next) f q = apart (cc)
-      stops i e (RefusedPair number place) f q = let s : RefusedBody number place ≡ e = cc in rw (← s) (refused i number place f)
+      stops : (i : ℕ) (e : (Result ℕ Refusal)) (x : (Result NextPair Refusal)) → pair_at largest v i ≡ x → pair_step v i x ≡ stop e → P i (record { items = []; ending = e })
+      stops i e (Ok (More next)) f q = apart (cc)
+      stops i e (Ok (Last next)) f q = apart (cc)
+      stops i e (Err refusal) f q = let s : Err refusal ≡ e = cc in rw (← s) (refused i refusal f)
 
-      lasts : (i : ℕ) (a : Pair) (e : BodyEnd) (x : NextPair) → pair_at largest v i ≡ x → pair_step v i x ≡ last a e → P i (record { items = a ∷ []; ending = e })
-      lasts i a e (More next) f q = apart (cc)
-      lasts i a e (Last next) f q =
-          let s : At next ≡ e = cc in
+      lasts : (i : ℕ) (a : Pair) (e : (Result ℕ Refusal)) (x : (Result NextPair Refusal)) → pair_at largest v i ≡ x → pair_step v i x ≡ last a e → P i (record { items = a ∷ []; ending = e })
+      lasts i a e (Ok (More next)) f q = apart (cc)
+      lasts i a e (Ok (Last next)) f q =
+          let s : Ok next ≡ e = cc in
           let u : pair_of v i next ≡ a = cc in
           rw (← s, ← u) (ends i next f)
-      lasts i a e (RefusedPair number place) f q = apart (cc)
+      lasts i a e (Err refusal) f q = apart (cc)
 
-      mores : (i j : ℕ) (a : Pair) (w : Walk Pair BodyEnd) (x : NextPair) → pair_at largest v i ≡ x → pair_step v i x ≡ more a j → P j w → P i (before a w)
-      mores i j a w (More next) f q h =
+      mores : (i j : ℕ) (a : Pair) (w : Walk Pair (Result ℕ Refusal)) (x : (Result NextPair Refusal)) → pair_at largest v i ≡ x → pair_step v i x ≡ more a j → P j w → P i (before a w)
+      mores i j a w (Ok (More next)) f q h =
           let s : next ≡ j = cc in
           let u : pair_of v i next ≡ a = cc in
           rw (← u) (goes i next w f (rw s h))
-      mores i j a w (Last next) f q h = apart (cc)
-      mores i j a w (RefusedPair number place) f q h = apart (cc)
+      mores i j a w (Ok (Last next)) f q h = apart (cc)
+      mores i j a w (Err refusal) f q h = apart (cc)
 
   -- the refusal for too few steps is no matter: any other gives the same walk
-  pub pairs-any : (out : BodyEnd) (at : ℕ) → through v out (λ i. pair_step v i (pair_at largest v i)) at ≡ pairs_from largest v at
+  pub pairs-any : (out : (Result ℕ Refusal)) (at : ℕ) → through v out (λ i. pair_step v i (pair_at largest v i)) at ≡ pairs_from largest v at
   pairs-any out =
       pairs-ind (λ at w. through v out step at ≡ w)
-      (λ at number place e. walk-stop out step (length v + 1) at (RefusedBody number place) (omega arith) (ap (pair_step v at) e))
-      (λ at next e. walk-last out step (length v + 1) at (pair_of v at next) (At next) (omega arith) (ap (pair_step v at) e))
+      (λ at refusal e. walk-stop out step (length v + 1) at (Err refusal) (omega arith) (ap (pair_step v at) e))
+      (λ at next e. walk-last out step (length v + 1) at (pair_of v at next) (Ok next) (omega arith) (ap (pair_step v at) e))
       (λ at next w e h.
       walk_more out step (λ i. length v - i) falls (length v + 1) at next (pair_of v at next) (omega arith) (ap (pair_step v at) e) ∙ ap (before (pair_of v at next)) h)
     where
-      step : ℕ → Step ℕ Pair BodyEnd
+      step : ℕ → Step ℕ Pair (Result ℕ Refusal)
       step i = pair_step v i (pair_at largest v i)
 
 -- how `list_end` goes on and comes to each of its answers
-module _ (largest : ℕ) (v : List ℕ) (start at : ℕ) (pair : NextPair) (is : pair ≡ pair_at largest v at)
+module _ (largest : ℕ) (v : List ℕ) (start at : ℕ) (pair : (Result NextPair Refusal)) (is : pair ≡ pair_at largest v at)
     (so_far : (pairs_from largest v start).ending ≡ (pairs_from largest v at).ending) where
-  pub list_on : (next : ℕ) → pair ≡ More next → (pairs_from largest v start).ending ≡ (pairs_from largest v next).ending
+  pub list_on : (next : ℕ) → pair ≡ Ok (More next) → (pairs_from largest v start).ending ≡ (pairs_from largest v next).ending
   list_on next e = so_far ∙ rw (pairs-more largest v at next (sym is ∙ e))
 
-  pub list-last : (next : ℕ) → pair ≡ Last next → At next ≡ (pairs_from largest v start).ending
+  pub list-last : (next : ℕ) → pair ≡ Ok (Last next) → Ok next ≡ (pairs_from largest v start).ending
   list-last next e = sym (so_far ∙ rw (pairs-last largest v at next (sym is ∙ e)))
 
-  pub list-refused : (number place : ℕ) → pair ≡ RefusedPair number place → RefusedBody number place ≡ (pairs_from largest v start).ending
-  list-refused number place e = sym (so_far ∙ rw (pairs-refused largest v at number place (sym is ∙ e)))
+  pub list-refused : (refusal : Refusal) → pair ≡ Err refusal → Err refusal ≡ (pairs_from largest v start).ending
+  list-refused refusal e = sym (so_far ∙ rw (pairs-refused largest v at refusal (sym is ∙ e)))
 
 -- an end of a body lies behind the body's start and in the value, and so does a refusal
-abbrev pub EndWithin : List ℕ → ℕ → BodyEnd → Type 0
-EndWithin v at (At next) = Within v at next
-EndWithin v at (RefusedBody number place) = Met v number place
+abbrev pub EndWithin : List ℕ → ℕ → Result ℕ Refusal → Type 0
+EndWithin v at (Ok next) = Within v at next
+EndWithin v at (Err refusal) = Met v refusal
 
 module _ (v : List ℕ) where
   pub list-within : (largest at : ℕ) → EndWithin v at (pairs_from largest v at).ending
   list-within largest at =
-      pairs-ind largest v (λ i w. EndWithin v i w.ending) (λ i number place e. refused-within largest v i number place e) (λ i next e. last_within largest v i next e)
+      pairs-ind largest v (λ i w. EndWithin v i w.ending) (λ i refusal e. refused-within largest v i refusal e) (λ i next e. last_within largest v i next e)
       (λ i next w e h. further i next w.ending (more_within largest v i next e) h) at
     where
-      further : (i next : ℕ) (e : BodyEnd) → Within v i next → EndWithin v next e → EndWithin v i e
-      further i next (At j) h k = (omega arith, k.1)
-      further i next (RefusedBody number place) h k = k
+      further : (i next : ℕ) (e : (Result ℕ Refusal)) → Within v i next → EndWithin v next e → EndWithin v i e
+      further i next (Ok j) h k = (omega arith, k.1)
+      further i next (Err refusal) h k = k
 
   pub prefix-within : (family : Family) (at : ℕ) → EndWithin v at (prefix_end family v at)
   prefix-within family at =
@@ -293,35 +295,35 @@ module _ (v : List ℕ) where
 
 -- how `prefix_end` comes to each of its answers
 module _ (family : Family) (v : List ℕ) (at : ℕ) where
-  pub prefix-missing : length v ≤ at → RefusedBody 6 (length v) ≡ prefix_end family v at
+  pub prefix-missing : length v ≤ at → Err (CutShort (length v)) ≡ prefix_end family v at
   unfolding prefix_end
   prefix-missing h = rw (le-leb _ _ h)
 
-  pub prefix-long : at < length v → family.width < get_or v at 0 → RefusedBody 5 at ≡ prefix_end family v at
+  pub prefix-long : at < length v → family.width < get_or v at 0 → Err (PrefixLength at) ≡ prefix_end family v at
   unfolding prefix_end
   prefix-long h k = rw (lt-leb _ _ h, lt-ltb _ _ k)
 
   module _ (lead : ℕ) (is : lead ≡ lead_of family) (within : at < length v) (narrow : get_or v at 0 ≤ family.width) where
-    pub prefix-no-offset : length v < at + lead → RefusedBody 6 (length v) ≡ prefix_end family v at
+    pub prefix-no-offset : length v < at + lead → Err (CutShort (length v)) ≡ prefix_end family v at
     unfolding prefix_end
     prefix-no-offset h = rw (lt-leb _ _ within, le-ltb _ _ narrow, ← is, lt-ltb _ _ h)
 
     module _ (offset : ℕ) (says : offset ≡ offset_at family v (at + 1)) (there : at + lead ≤ length v) where
-      pub prefix-below : (ltb 0 offset && leb (get_or v at 0) offset) ≡ true → RefusedBody 5 at ≡ prefix_end family v at
+      pub prefix-below : (ltb 0 offset && leb (get_or v at 0) offset) ≡ true → Err (PrefixLength at) ≡ prefix_end family v at
       unfolding prefix_end
       prefix-below h = rw (lt-leb _ _ within, le-ltb _ _ narrow, ← is, le-ltb _ _ there, ← says, h)
 
       module _ (above : (ltb 0 offset && leb (get_or v at 0) offset) ≡ false) where
-        pub prefix-short : length v - (at + lead) < (get_or v at 0 - offset + 7) / 8 → RefusedBody 6 (length v) ≡ prefix_end family v at
+        pub prefix-short : length v - (at + lead) < (get_or v at 0 - offset + 7) / 8 → Err (CutShort (length v)) ≡ prefix_end family v at
         unfolding prefix_end
         prefix-short h = rw (lt-leb _ _ within, le-ltb _ _ narrow, ← is, le-ltb _ _ there, ← says, above, lt-ltb _ _ h)
 
-        pub prefix-whole : (get_or v at 0 - offset + 7) / 8 ≤ length v - (at + lead) → At (at + lead + (get_or v at 0 - offset + 7) / 8) ≡ prefix_end family v at
+        pub prefix-whole : (get_or v at 0 - offset + 7) / 8 ≤ length v - (at + lead) → Ok (at + lead + (get_or v at 0 - offset + 7) / 8) ≡ prefix_end family v at
         unfolding prefix_end
         prefix-whole h = rw (lt-leb _ _ within, le-ltb _ _ narrow, ← is, le-ltb _ _ there, ← says, above, le-ltb _ _ h)
 
 -- how `body_end` comes to each of its answers
-module _ (family : Family) (kind : ℕ) (v : List ℕ) (at : ℕ) (end : BodyEnd) (shape : Shape) (is : shape ≡ shape_of family kind) where
+module _ (family : Family) (kind : ℕ) (v : List ℕ) (at : ℕ) (end : (Result ℕ Refusal)) (shape : Shape) (is : shape ≡ shape_of family kind) where
   pub body-prefix : shape.prefix ≡ true → end ≡ prefix_end family v at → end ≡ body_end family kind v at
   unfolding body_end
   body-prefix h e = rw (← is, h) e
@@ -332,26 +334,26 @@ module _ (family : Family) (kind : ℕ) (v : List ℕ) (at : ℕ) (end : BodyEnd
 
 -- how the cursor comes to each of its answers
 module _ (family : Family) (v : List ℕ) (at previous : ℕ) where
-  pub component-none : length v ≤ at → Nothing ≡ component_at family v at previous
+  pub component-none : length v ≤ at → (Ok None) ≡ component_at family v at previous
   unfolding component_at
   component-none h = rw (le-leb _ _ h)
 
   abbrev unknown : Bool
   unknown = eqb (get_or v at 0) 0 || ltb family.highest (get_or v at 0)
 
-  pub component-unknown : at < length v → unknown ≡ true → Refused 3 at ≡ component_at family v at previous
+  pub component-unknown : at < length v → unknown ≡ true → Err (UnknownType at) ≡ component_at family v at previous
   unfolding component_at
   component-unknown h t = rw (lt-leb _ _ h, t)
 
-  pub component-order : at < length v → unknown ≡ false → get_or v at 0 ≤ previous → Refused 4 at ≡ component_at family v at previous
+  pub component-order : at < length v → unknown ≡ false → get_or v at 0 ≤ previous → Err (TypeOrder at) ≡ component_at family v at previous
   unfolding component_at
   component-order h t l = rw (lt-leb _ _ h, t, le-leb _ _ l)
 
-  module _ (within : at < length v) (known : unknown ≡ false) (rises : previous < get_or v at 0) (end : BodyEnd) (is : end ≡ body_end family (get_or v at 0) v (at + 1)) where
-    pub component-whole : (next : ℕ) → end ≡ At next → Another (get_or v at 0) next ≡ component_at family v at previous
+  module _ (within : at < length v) (known : unknown ≡ false) (rises : previous < get_or v at 0) (end : (Result ℕ Refusal)) (is : end ≡ body_end family (get_or v at 0) v (at + 1)) where
+    pub component-whole : (next : ℕ) → end ≡ Ok next → Ok (Some (located (get_or v at 0) next)) ≡ component_at family v at previous
     unfolding component_at
     component-whole next e = rw (lt-leb _ _ within, known, lt-leb _ _ rises, ← is, e)
 
-    pub component-refused : (number place : ℕ) → end ≡ RefusedBody number place → Refused number place ≡ component_at family v at previous
+    pub component-refused : (refusal : Refusal) → end ≡ Err refusal → Err refusal ≡ component_at family v at previous
     unfolding component_at
-    component-refused number place e = rw (lt-leb _ _ within, known, lt-leb _ _ rises, ← is, e)
+    component-refused refusal e = rw (lt-leb _ _ within, known, lt-leb _ _ rises, ← is, e)

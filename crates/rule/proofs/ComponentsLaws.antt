@@ -14,14 +14,13 @@ use Rattle.octets.specs.Test.{Each}
 use Rattle.octets.proofs.Cases.{by-test}
 use Rattle.octets.proofs.Facts.{Octets}
 use Rattle.rule.specs.declared.Family.{Family}
-use Rattle.rule.specs.declared.BodyEnd.{BodyEnd}
-use Rattle.rule.specs.declared.BodyEnd.TheVariants.{At, Refused as RefusedBody}
-use Rattle.rule.specs.declared.Checked.TheVariants.{Accepted}
 use Rattle.rule.specs.Shape.{shape_of}
 use Rattle.rule.specs.Component.{lead_of, offset_at, prefix_end, body_end}
 use Rattle.rule.specs.Value.{Component, spelled, between, head_of, components_from, components, check_value}
 use Rattle.rule.proofs.ComponentLaws.{prefix_cases, prefix-begins, lead-with, offset-with, offset-without}
 use Rattle.rule.proofs.ValueLaws.{Found, was-found, none_left, components-ind, accepted-walk}
+use Rattle.std.proofs.Common.{Result, Ok, Err}
+use Rattle.rule.specs.declared.Refusal.{Refusal}
 
 -- the octets from one place up to another: each of them, and how many
 pub between-octet : (v : List ℕ) (from to i : ℕ) → i < to - from → get_or (between v from to) i 0 ≡ get_or v (from + i) 0
@@ -45,13 +44,13 @@ between-then v from to h =
     ap (λ n. between v from to ++ drop n v) (sym e) ∙ rw (← drop-drop (to - from) from v) (take-append-drop (to - from) (drop from v))
 
 module _ (family : Family) (v : List ℕ) where
-  spelled-from : (at previous : ℕ) → (components_from family v (record { at = at; previous = previous })).ending ≡ Accepted
+  spelled-from : (at previous : ℕ) → (components_from family v (record { at = at; previous = previous })).ending ≡ Ok tt
       → spelled (components_from family v (record { at = at; previous = previous })).items ≡ drop at v
   unfolding spelled
   spelled-from =
-      components-ind family v (λ at previous w. w.ending ≡ Accepted → spelled w.items ≡ drop at v)
+      components-ind family v (λ at previous w. w.ending ≡ Ok tt → spelled w.items ≡ drop at v)
       (λ at previous e ok. sym (drop_of_length-le v (none_left family v at previous e)))
-      (λ at previous number place e ok. cc)
+      (λ at previous refusal e ok. cc)
       (λ at previous kind next w e h ok.
       let f = was-found family v at previous kind next e in
       let inside = f.inside in
@@ -59,7 +58,7 @@ module _ (family : Family) (v : List ℕ) where
       rw (h ok, between-then v (at + 1) next (omega arith), drop-cons v at 0 inside, f.is, add-one))
 
   -- an accepted value is its head and what its components spell
-  pub spelled-whole : check_value family v ≡ Accepted → head_of family v ++ spelled (components family v) ≡ v
+  pub spelled-whole : check_value family v ≡ Ok tt → head_of family v ++ spelled (components family v) ≡ v
   unfolding components
   spelled-whole ok =
       ap (λ (l : List ℕ). head_of family v ++ l) (spelled-from family.head 0 (accepted-walk family v ok)) ∙ take-append-drop family.head v
@@ -73,7 +72,7 @@ module _ (family : Family) (v : List ℕ) where
   pub types-rise : Rising 0 (components family v)
   unfolding components
   types-rise =
-      components-ind family v (λ at previous w. Rising previous w.items) (λ at previous e. tt) (λ at previous number place e. tt)
+      components-ind family v (λ at previous w. Rising previous w.items) (λ at previous e. tt) (λ at previous refusal e. tt)
       (λ at previous kind next w e h. ((was-found family v at previous kind next e).rises, h)) family.head 0
 
   -- what holds of all that the cursor finds holds of each component
@@ -82,7 +81,7 @@ module _ (family : Family) (v : List ℕ) where
       → Each P (components family v)
   unfolding components
   each-found P holds =
-      components-ind family v (λ at previous w. Each P w.items) (λ at previous e. tt) (λ at previous number place e. tt)
+      components-ind family v (λ at previous w. Each P w.items) (λ at previous e. tt) (λ at previous refusal e. tt)
       (λ at previous kind next w e h. (holds at previous kind next (was-found family v at previous kind next e), h)) family.head 0
 
 -- a prefix's body: its length is within the width and not below its offset, and it has just the octets that these ask for
@@ -99,11 +98,11 @@ pub record SoundComponent (family : Family) (p : Component) : Type 0 where
   pub prefix : (shape_of family p.kind).prefix ≡ true → PrefixBody family p.body
 
 -- where a prefix that begins at a place ends
-PrefixEnds : Family → List ℕ → ℕ → BodyEnd → Type 0
-PrefixEnds family v at (At next) =
+PrefixEnds : Family → List ℕ → ℕ → Result ℕ Refusal → Type 0
+PrefixEnds family v at (Ok next) =
     (get_or v at 0 ≤ family.width) × ((offset_at family v (at + 1) ≤ get_or v at 0)
     × ((next ≡ at + lead_of family + (get_or v at 0 - offset_at family v (at + 1) + 7) / 8) × (at + lead_of family ≤ next)))
-PrefixEnds family v at (RefusedBody number place) = Unit {0}
+PrefixEnds family v at (Err refusal) = Unit {0}
 
 module _ (family : Family) (v : List ℕ) where
   prefix-ends : (at : ℕ) → PrefixEnds family v at (prefix_end family v at)
@@ -122,7 +121,7 @@ module _ (family : Family) (v : List ℕ) where
         offset-with family (between v at next) 1 t ∙ between-octet v at next 1 (omega arith) ∙ sym (offset-with family v (at + 1) t))
         (λ t. offset-without family (between v at next) 1 t ∙ sym (offset-without family v (at + 1) t))
 
-    pub prefix-body : (kind : ℕ) → (shape_of family kind).prefix ≡ true → body_end family kind v at ≡ At next → PrefixBody family (between v at next)
+    pub prefix-body : (kind : ℕ) → (shape_of family kind).prefix ≡ true → body_end family kind v at ≡ Ok next → PrefixBody family (between v at next)
     unfolding body_end PrefixEnds
     prefix-body kind t e =
         let ends = subst (PrefixEnds family v at) (rw t at e) (prefix-ends at) in

@@ -2,7 +2,8 @@
 pub mod FamilyLaws
 pub mod ShapeLaws
 pub mod OperatorLaws
-pub mod Refusal
+pub mod Passing
+pub mod Near
 pub mod ComponentLaws
 pub mod ValueLaws
 pub mod ComponentsLaws

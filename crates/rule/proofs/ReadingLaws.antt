@@ -12,14 +12,15 @@ use lib.Seq.{get_or-take}
 use borrow.Author.Tests.{lt-ltb, le-ltb, ltb-false, eq-eqb, ne_eqb}
 use Rattle.octets.proofs.Cases.{by-test}
 use Rattle.rule.specs.declared.Family.{Family}
-use Rattle.rule.specs.declared.Checked.{Checked}
-use Rattle.rule.specs.declared.Checked.TheVariants.{Accepted, Refused as RefusedValue}
-use Rattle.rule.specs.declared.Reading.{Reading}
-use Rattle.rule.specs.declared.Reading.TheVariants.{Rule, Refused}
 use Rattle.rule.specs.Value.{check_value}
 use Rattle.rule.specs.Reading.{field_size, field_length, read_as, first_rule, alone, one_rule}
-use Rattle.rule.proofs.Refusal.{Refusal, placeless}
+use Rattle.rule.specs.declared.Refusal.{Refusal}
+use Rattle.rule.proofs.Near.{Near, placeless}
 use Rattle.rule.proofs.ValueLaws.{Checks, value-checks}
+use Rattle.std.proofs.Common.{Result, Ok, Err}
+use Rattle.rule.specs.declared.Refusal.TheVariants.{Overlong, OctetsBehind}
+use Rattle.rule.specs.declared.Span.{Span}
+use Rattle.rule.specs.Reading.{span}
 
 -- the length field in both forms
 module _ (s : List ℕ) (first : ℕ) (is : first ≡ get_or s 0 0) where
@@ -73,18 +74,18 @@ pub high_small : (x : ℕ) → bit_and x 0x0f ≤ 15
 high_small x = and_le_r x 15
 
 module _ (family : Family) (s : List ℕ) (start size : ℕ) (is : start ≡ field_size s) (tells : size ≡ field_length s) where
-  pub read_short : length s < start + size → Refused 1 0 ≡ first_rule family s
+  pub read_short : length s < start + size → Err Overlong ≡ first_rule family s
   unfolding first_rule
   read_short h = rw (← is, ← tells, lt-ltb _ _ h)
 
-  module _ (checked : Checked) (says : checked ≡ check_value family (take (start + size - start) (drop start s))) (inside : start + size ≤ length s) where
-    pub read-accepted : checked ≡ Accepted → Rule start size ≡ first_rule family s
+  module _ (checked : (Result Unit Refusal)) (says : checked ≡ check_value family (take (start + size - start) (drop start s))) (inside : start + size ≤ length s) where
+    pub read-accepted : checked ≡ Ok tt → Ok (span start size) ≡ first_rule family s
     unfolding first_rule
     read-accepted e = let c = sym says ∙ e in rw (← is, ← tells, le-ltb _ _ inside, rw (add-sub_cancel_left start size) at c)
 
-    pub read-refused : (number place : ℕ) → checked ≡ RefusedValue number place → Refused number place ≡ first_rule family s
+    pub read-refused : (refusal : Refusal) → checked ≡ Err refusal → Err refusal ≡ first_rule family s
     unfolding first_rule
-    read-refused number place e =
+    read-refused refusal e =
         let c = sym says ∙ e in
         rw (← is, ← tells, le-ltb _ _ inside, rw (add-sub_cancel_left start size) at c)
 
@@ -93,52 +94,52 @@ pub record ReadRule (family : Family) (s : List ℕ) (start size : ℕ) : Type 0
   pub field : start ≡ field_size s
   pub tells : size ≡ field_length s
   pub inside : start + size ≤ length s
-  pub accepted : check_value family (take size (drop start s)) ≡ Accepted
+  pub accepted : check_value family (take size (drop start s)) ≡ Ok tt
 
 -- what an answer says: such a rule, or a refusal of 01's table
-abbrev pub SaysRule : Family → List ℕ → Reading → Type 0
-SaysRule family s (Rule start size) = ReadRule family s start size
-SaysRule family s (Refused number place) = Refusal number place
+abbrev pub SaysRule : Family → List ℕ → Result Span Refusal → Type 0
+SaysRule family s (Ok read) = ReadRule family s read.start read.size
+SaysRule family s (Err refusal) = Near refusal
 
 module _ (family : Family) (s : List ℕ) where
   pub reading-says : SaysRule family s (first_rule family s)
   unfolding first_rule
   reading-says =
-      by-test (ltb (length s) (field_size s + field_length s)) (λ t. rw t (placeless 1 (omega arith) (omega arith)))
+      by-test (ltb (length s) (field_size s + field_length s)) (λ t. rw t (placeless Overlong refl))
       (λ t. rw t (go (ltb-false _ _ t) (check_value family (take (field_length s) (drop (field_size s) s))) refl))
     where
-      go : field_size s + field_length s ≤ length s → (c : Checked) → check_value family (take (field_length s) (drop (field_size s) s)) ≡ c
+      go : field_size s + field_length s ≤ length s → (c : (Result Unit Refusal)) → check_value family (take (field_length s) (drop (field_size s) s)) ≡ c
           → SaysRule family s (read_as (field_size s) (field_length s) c)
-      go h Accepted e = record { field = refl; tells = refl; inside = h; accepted = e }
-      go h (RefusedValue number place) e = subst Checks e (value-checks family (take (field_length s) (drop (field_size s) s)))
+      go h (Ok _) e = record { field = refl; tells = refl; inside = h; accepted = e }
+      go h (Err refusal) e = subst Checks e (value-checks family (take (field_length s) (drop (field_size s) s)))
 
-  pub rule-read : (start size : ℕ) → first_rule family s ≡ Rule start size → ReadRule family s start size
+  pub rule-read : (start size : ℕ) → first_rule family s ≡ Ok (span start size) → ReadRule family s start size
   rule-read start size e = subst (SaysRule family s) e reading-says
 
-  module _ (reading : Reading) (is : reading ≡ first_rule family s) where
-    pub alone-whole : (start size : ℕ) → reading ≡ Rule start size → start + size ≡ length s → Rule start size ≡ one_rule family s
+  module _ (reading : (Result Span Refusal)) (is : reading ≡ first_rule family s) where
+    pub alone-whole : (start size : ℕ) → reading ≡ Ok (span start size) → start + size ≡ length s → Ok (span start size) ≡ one_rule family s
     unfolding one_rule
     alone-whole start size e h = rw (← is, e, eq-eqb _ _ h)
 
-    pub alone-more : (start size : ℕ) → reading ≡ Rule start size → (start + size ≡ length s → ⊥) → Refused 15 0 ≡ one_rule family s
+    pub alone-more : (start size : ℕ) → reading ≡ Ok (span start size) → (start + size ≡ length s → ⊥) → Err OctetsBehind ≡ one_rule family s
     unfolding one_rule
     alone-more start size e h = rw (← is, e, ne_eqb _ _ h)
 
-    pub alone-refused : (number place : ℕ) → reading ≡ Refused number place → Refused number place ≡ one_rule family s
+    pub alone-refused : (refusal : Refusal) → reading ≡ Err refusal → Err refusal ≡ one_rule family s
     unfolding one_rule
-    alone-refused number place e = rw (← is, e)
+    alone-refused refusal e = rw (← is, e)
 
   -- the one rule that octets are is the rule they begin with
   pub one-says : SaysRule family s (one_rule family s)
   unfolding one_rule
   one-says = go (first_rule family s) reading-says
     where
-      go : (r : Reading) → SaysRule family s r → SaysRule family s (alone (length s) r)
-      go (Rule start size) h = by-test (eqb (start + size) (length s)) (λ t. rw t h) (λ t. rw t (placeless 15 (omega arith) (omega arith)))
-      go (Refused number place) h = h
+      go : (r : (Result Span Refusal)) → SaysRule family s r → SaysRule family s (alone (length s) r)
+      go (Ok read) h = by-test (eqb (read.start + read.size) (length s)) (λ t. rw t h) (λ t. rw t (placeless OctetsBehind refl))
+      go (Err refusal) h = h
 
-  pub one-read : (start size : ℕ) → one_rule family s ≡ Rule start size → ReadRule family s start size
+  pub one-read : (start size : ℕ) → one_rule family s ≡ Ok (span start size) → ReadRule family s start size
   one-read start size e = subst (SaysRule family s) e one-says
 
-  pub one-refused : (number place : ℕ) → one_rule family s ≡ Refused number place → Refusal number place
-  one-refused number place e = subst (SaysRule family s) e one-says
+  pub one-refused : (refusal : Refusal) → one_rule family s ≡ Err refusal → Near refusal
+  one-refused refusal e = subst (SaysRule family s) e one-says

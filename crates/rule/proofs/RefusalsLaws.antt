@@ -10,14 +10,7 @@ use lib.ListN.{length, get_or}
 use borrow.Author.Tests.{leb-true, leb-false, le-leb, lt-leb, ltb-true, ltb-false, lt-ltb, eqb-true, eqb-false, eq-eqb, ne_eqb}
 use Rattle.octets.proofs.Cases.{by-test, both}
 use Rattle.rule.specs.declared.Family.{Family}
-use Rattle.rule.specs.declared.NextPair.{NextPair}
-use Rattle.rule.specs.declared.NextPair.TheVariants.{More, Last, Refused as RefusedPair}
-use Rattle.rule.specs.declared.BodyEnd.{BodyEnd}
-use Rattle.rule.specs.declared.BodyEnd.TheVariants.{At, Refused as RefusedBody}
-use Rattle.rule.specs.declared.Next.{Next}
-use Rattle.rule.specs.declared.Next.TheVariants.{Nothing, Another, Refused as RefusedNext}
-use Rattle.rule.specs.declared.Checked.{Checked}
-use Rattle.rule.specs.declared.Checked.TheVariants.{Accepted, Refused}
+use Rattle.rule.specs.Refusal.{number_of}
 use Rattle.rule.specs.Operator.{ends_list, size_of}
 use Rattle.rule.specs.Component.{pair_at, pairs_from, lead_of, offset_at, prefix_end, body_end, found, component_at}
 use Rattle.rule.specs.Value.{most_value, check_value}
@@ -25,6 +18,12 @@ use Rattle.rule.specs.Reading.{rule_end, value_in, check_rule}
 use Rattle.rule.specs.Refusals.{Begins, first, next, type_at, unknown_type, shape_at, Opens, OutOfRange, above-width, within-offset, PrefixCut, no_length, no-offset, short-pattern, Operator, PairCut, no-operator, short-value, ValueRefused, one, two, three, four, five, six-prefix, six-list, six-head, seven, RuleRefused}
 use Rattle.rule.proofs.ComponentLaws.{lead-with, lead-without, lead-some, offset-without, pair-missing, pair_size, pair-short, pairs-ind, list_on, list-refused, prefix-missing, prefix-long, prefix-no-offset, prefix-below, prefix-short, body-prefix, body-list, component-unknown, component-order, component-refused}
 use Rattle.rule.proofs.ValueLaws.{accepts, components-ind, check-long, check-empty, check-cut, check-walk, check-on, check-refused, check-cases, was-refused}
+use Rattle.std.proofs.Common.{Result, Ok, Err, Option, Some, None}
+use Rattle.rule.specs.declared.Refusal.{Refusal}
+use Rattle.rule.specs.declared.Refusal.TheVariants.{UnknownType, TypeOrder, PrefixLength, CutShort, ValueSize}
+use Rattle.rule.specs.declared.NextPair.{NextPair}
+use Rattle.rule.specs.declared.NextPair.TheVariants.{More, Last}
+use Rattle.rule.specs.declared.Located.{Located}
 
 -- ---- what each refusal says ----
 
@@ -42,23 +41,23 @@ module _ (family : Family) where
 
 module _ (family : Family) (v : List ℕ) where
   -- what a refusal must say, of a pair, a body, a component and a value
-  abbrev OfPair : NextPair → Type 0
-  OfPair (RefusedPair number place) = ValueRefused family v number place
-  OfPair (More behind) = Unit {0}
-  OfPair (Last behind) = Unit {0}
+  abbrev OfPair : Result NextPair Refusal → Type 0
+  OfPair (Err refusal) = ValueRefused family v refusal
+  OfPair (Ok (More behind)) = Unit {0}
+  OfPair (Ok (Last behind)) = Unit {0}
 
-  abbrev OfBody : BodyEnd → Type 0
-  OfBody (RefusedBody number place) = ValueRefused family v number place
-  OfBody (At behind) = Unit {0}
+  abbrev OfBody : Result ℕ Refusal → Type 0
+  OfBody (Err refusal) = ValueRefused family v refusal
+  OfBody (Ok behind) = Unit {0}
 
-  abbrev OfComponent : Next → Type 0
-  OfComponent (RefusedNext number place) = ValueRefused family v number place
-  OfComponent Nothing = Unit {0}
-  OfComponent (Another kind behind) = Unit {0}
+  abbrev OfComponent : Result (Option Located) Refusal → Type 0
+  OfComponent (Err refusal) = ValueRefused family v refusal
+  OfComponent (Ok None) = Unit {0}
+  OfComponent (Ok (Some found)) = Unit {0}
 
-  abbrev OfValue : Checked → Type 0
-  OfValue (Refused number place) = ValueRefused family v number place
-  OfValue Accepted = Unit {0}
+  abbrev OfValue : Result Unit Refusal → Type 0
+  OfValue (Err refusal) = ValueRefused family v refusal
+  OfValue (Ok _) = Unit {0}
 
   module _ (at : ℕ) (opens : Opens family v at) where
     pair_row : (shape_at family v at).prefix ≡ false → (place : ℕ) → Operator family v at place → OfPair (pair_at (shape_at family v at).largest v place)
@@ -80,7 +79,7 @@ module _ (family : Family) (v : List ℕ) where
     list-row : (shape_at family v at).prefix ≡ false → OfBody (pairs_from (shape_at family v at).largest v (at + 1)).ending
     list-row list =
         pairs-ind (shape_at family v at).largest v (λ place w. Operator family v at place → OfBody w.ending)
-        (λ place number there e o. subst OfPair e (pair_row list place o))
+        (λ place refusal e o. subst OfPair e (pair_row list place o))
         (λ place behind e o. tt)
         (λ place behind w e rest o. rest (next o e))
         (at + 1) first
@@ -131,9 +130,9 @@ module _ (family : Family) (v : List ℕ) where
       let opens : Opens family v at = record { previous = previous; begins = b; inside = inside; known = u; rises = leb-false (type_at v at) previous w } in
       rw (t, u, w) (go (body_end family (type_at v at) v (at + 1)) (body-row at opens)))))
     where
-      go : (e : BodyEnd) → OfBody e → OfComponent (found (type_at v at) e)
-      go (At behind) h = tt
-      go (RefusedBody number place) h = h
+      go : (e : (Result ℕ Refusal)) → OfBody e → OfComponent (found (type_at v at) e)
+      go (Ok behind) h = tt
+      go (Err refusal) h = h
 
   value_row : OfValue (check_value family v)
   unfolding check_value
@@ -156,7 +155,7 @@ module _ (family : Family) (v : List ℕ) where
       walked =
           components-ind family v (λ at previous w. Begins family v at previous → OfValue w.ending)
           (λ at previous e b. tt)
-          (λ at previous number place e b. subst OfComponent e (component-row at previous b))
+          (λ at previous refusal e b. subst OfComponent e (component-row at previous b))
           (λ at previous kind behind w e rest b. rest (next b e)) family.head 0
 
 -- ---- what each row refuses ----
@@ -173,25 +172,25 @@ module _ (family : Family) (v : List ℕ) where
       check-walk family v small (rw (ne_eqb (length v) 0 (λ e. omega arith), ne_eqb (length v) family.head (λ e. omega arith))) (omega arith)
   begun behind kind (next {at} {previous} b e) = check-on family v at previous (component_at family v at previous) refl (begun at previous b) kind behind e
 
-  refused-there : (at previous number place : ℕ) → Begins family v at previous → RefusedNext number place ≡ component_at family v at previous
-      → check_value family v ≡ Refused number place
-  refused-there at previous number place b e =
-      sym (check-refused family v at previous (component_at family v at previous) refl (begun at previous b) number place (sym e))
+  refused-there : (at previous : ℕ) (refusal : Refusal) → Begins family v at previous → Err refusal ≡ component_at family v at previous
+      → check_value family v ≡ Err refusal
+  refused-there at previous refusal b e =
+      sym (check-refused family v at previous (component_at family v at previous) refl (begun at previous b) refusal (sym e))
 
   -- a body that is refused
-  refused-in : (at number place : ℕ) → Opens family v at → RefusedBody number place ≡ body_end family (type_at v at) v (at + 1)
-      → check_value family v ≡ Refused number place
-  refused-in at number place o e =
-      refused-there at o.previous number place o.begins
-      (component-refused family v at o.previous o.inside o.known o.rises (RefusedBody number place) e number place refl)
+  refused-in : (at : ℕ) (refusal : Refusal) → Opens family v at → Err refusal ≡ body_end family (type_at v at) v (at + 1)
+      → check_value family v ≡ Err refusal
+  refused-in at refusal o e =
+      refused-there at o.previous refusal o.begins
+      (component-refused family v at o.previous o.inside o.known o.rises (Err refusal) e refusal refl)
 
-  refused-prefix : (at number place : ℕ) → Opens family v at → (shape_at family v at).prefix ≡ true → RefusedBody number place ≡ prefix_end family v (at + 1)
-      → check_value family v ≡ Refused number place
-  refused-prefix at number place o t e =
-      refused-in at number place o (body-prefix family (type_at v at) v (at + 1) (RefusedBody number place) (shape_at family v at) refl t e)
+  refused-prefix : (at : ℕ) (refusal : Refusal) → Opens family v at → (shape_at family v at).prefix ≡ true → Err refusal ≡ prefix_end family v (at + 1)
+      → check_value family v ≡ Err refusal
+  refused-prefix at refusal o t e =
+      refused-in at refusal o (body-prefix family (type_at v at) v (at + 1) (Err refusal) (shape_at family v at) refl t e)
 
   -- a length out of its range, and a prefix cut short
-  prefix-out-of-range : (at : ℕ) → OutOfRange family v at → RefusedBody 5 at ≡ prefix_end family v at
+  prefix-out-of-range : (at : ℕ) → OutOfRange family v at → Err (PrefixLength at) ≡ prefix_end family v at
   prefix-out-of-range at (above-width inside long) = prefix-long family v at inside long
   prefix-out-of-range at (within-offset there some below) =
       let bits = get_or v at 0 in
@@ -202,7 +201,7 @@ module _ (family : Family) (v : List ℕ) where
       prefix-below family v at (lead_of family) refl (omega arith) (ltb-false family.width bits t) offset refl (omega arith)
       (rw (lt-ltb 0 offset some, le-leb bits offset below)))
 
-  prefix-cut : (at : ℕ) → PrefixCut family v at → RefusedBody 6 (length v) ≡ prefix_end family v at
+  prefix-cut : (at : ℕ) → PrefixCut family v at → Err (CutShort (length v)) ≡ prefix_end family v at
   prefix-cut at (no_length missing) = prefix-missing family v at missing
   prefix-cut at (no-offset ends narrow offsets) =
       let lead = lead-with family offsets in
@@ -221,67 +220,67 @@ module _ (family : Family) (v : List ℕ) where
   reached at behind (next {place} o e) =
       list_on (shape_at family v at).largest v (at + 1) place (pair_at (shape_at family v at).largest v place) refl (reached at place o) behind e
 
-  refused-pair : (at place number there : ℕ) → Opens family v at → (shape_at family v at).prefix ≡ false → Operator family v at place
-      → RefusedPair number there ≡ pair_at (shape_at family v at).largest v place → check_value family v ≡ Refused number there
-  refused-pair at place number there o t p e =
-      refused-in at number there o
-      (body-list family (type_at v at) v (at + 1) (RefusedBody number there) (shape_at family v at) refl t
-      (list-refused (shape_at family v at).largest v (at + 1) place (pair_at (shape_at family v at).largest v place) refl (reached at place p) number there (sym e)))
+  refused-pair : (at place : ℕ) (refusal : Refusal) → Opens family v at → (shape_at family v at).prefix ≡ false → Operator family v at place
+      → Err refusal ≡ pair_at (shape_at family v at).largest v place → check_value family v ≡ Err refusal
+  refused-pair at place refusal o t p e =
+      refused-in at refusal o
+      (body-list family (type_at v at) v (at + 1) (Err refusal) (shape_at family v at) refl t
+      (list-refused (shape_at family v at).largest v (at + 1) place (pair_at (shape_at family v at).largest v place) refl (reached at place p) refusal (sym e)))
 
-  pair-cut : (largest at : ℕ) → PairCut largest v at → RefusedPair 6 (length v) ≡ pair_at largest v at
+  pair-cut : (largest at : ℕ) → PairCut largest v at → Err (CutShort (length v)) ≡ pair_at largest v at
   pair-cut largest at (no-operator missing) = pair-missing largest v at missing
   pair-cut largest at (short-value inside allowed short) = pair-short largest v at (size_of (get_or v at 0)) refl inside allowed short
 
-  row-refuses : (number place : ℕ) → ValueRefused family v number place → check_value family v ≡ Refused number place
-  row-refuses number there (one long) = sym (check-long family v long)
-  row-refuses number there (two small none) = sym (check-empty family v small (go none))
+  row-refuses : (refusal : Refusal) → ValueRefused family v refusal → check_value family v ≡ Err refusal
+  row-refuses refusal (one long) = sym (check-long family v long)
+  row-refuses refusal (two small none) = sym (check-empty family v small (go none))
     where
       go : (length v ≡ 0) ⊎ (length v ≡ family.head) → (eqb (length v) 0 || eqb (length v) family.head) ≡ true
       go (inl e) = rw (eq-eqb (length v) 0 e)
       go (inr e) = by-test (eqb (length v) 0) (λ t. rw t) (λ t. rw (t, eq-eqb (length v) family.head e))
-  row-refuses number there (three {place} {previous} b inside unknown) =
-      refused-there place previous 3 place b (component-unknown family v place previous inside unknown)
-  row-refuses number there (four {place} {previous} b inside known order) =
-      refused-there place previous 4 place b (component-order family v place previous inside known order)
-  row-refuses number there (five {at} o t range) = refused-prefix at 5 (at + 1) o t (prefix-out-of-range (at + 1) range)
-  row-refuses number there (six-prefix {at} o t cut) = refused-prefix at 6 (length v) o t (prefix-cut (at + 1) cut)
-  row-refuses number there (six-list {at} {place} o t p cut) =
-      refused-pair at place 6 (length v) o t p (pair-cut (shape_at family v at).largest place cut)
-  row-refuses number there (six-head small some short) =
+  row-refuses refusal (three {place} {previous} b inside unknown) =
+      refused-there place previous (UnknownType place) b (component-unknown family v place previous inside unknown)
+  row-refuses refusal (four {place} {previous} b inside known order) =
+      refused-there place previous (TypeOrder place) b (component-order family v place previous inside known order)
+  row-refuses refusal (five {at} o t range) = refused-prefix at (PrefixLength (at + 1)) o t (prefix-out-of-range (at + 1) range)
+  row-refuses refusal (six-prefix {at} o t cut) = refused-prefix at (CutShort (length v)) o t (prefix-cut (at + 1) cut)
+  row-refuses refusal (six-list {at} {place} o t p cut) =
+      refused-pair at place (CutShort (length v)) o t p (pair-cut (shape_at family v at).largest place cut)
+  row-refuses refusal (six-head small some short) =
       sym (check-cut family v small (rw (ne_eqb (length v) 0 (λ e. omega arith), ne_eqb (length v) family.head (λ e. omega arith))) short)
-  row-refuses number there (seven {at} {place} o t p inside large) =
-      refused-pair at place 7 place o t p (pair_size (shape_at family v at).largest v place (size_of (get_or v place 0)) refl inside large)
+  row-refuses refusal (seven {at} {place} o t p inside large) =
+      refused-pair at place (ValueSize place) o t p (pair_size (shape_at family v at).largest v place (size_of (get_or v place 0)) refl inside large)
 
   -- **1 to 7 of a value**, each exactly where its row says, and at that place.
-  pub value-numbers : (number place : ℕ) → (check_value family v ≡ Refused number place) ↔ ValueRefused family v number place
-  value-numbers number place = ((λ e. subst (OfValue family v) e (value_row family v)), row-refuses number place)
+  pub value-numbers : (refusal : Refusal) → (check_value family v ≡ Err refusal) ↔ ValueRefused family v refusal
+  value-numbers refusal = ((λ e. subst (OfValue family v) e (value_row family v)), row-refuses refusal)
 
 -- **1 to 7 of a rule**: its octets run past, or its value is refused.
-pub rule-numbers : (family : Family) (rule : List ℕ) (number place : ℕ)
-    → (check_rule family rule ≡ Refused number place) ↔ RuleRefused family rule number place
-rule-numbers family rule number place =
+pub rule-numbers : (family : Family) (rule : List ℕ) (refusal : Refusal)
+    → (check_rule family rule ≡ Err refusal) ↔ RuleRefused family rule refusal
+rule-numbers family rule refusal =
     by-test (ltb (length rule) (rule_end rule))
     (λ t.
     let past = ltb-true (length rule) (rule_end rule) t in
-    rw t ((λ e. inl (past, (cc, cc))), ⊎_elim (λ b. rw (b.1.0, b.1.1)) (λ b. let fits = b.0 in absurd (omega arith))))
+    rw t ((λ e. inl (past, cc)), ⊎_elim (λ b. rw b.1) (λ b. let fits = b.0 in absurd (omega arith))))
     (λ t.
     let fits = ltb-false (length rule) (rule_end rule) t in
-    let value = value-numbers family (value_in rule) number place in
+    let value = value-numbers family (value_in rule) refusal in
     rw t ((λ e. inr (fits, value.0 e)), ⊎_elim (λ b. let past = b.0 in absurd (omega arith)) (λ b. value.1 b.1)))
 
 -- ---- the numbers themselves ----
 
 -- a refusal has a number from 1 to 7
-abbrev pub Numbered : Checked → Type 0
-Numbered Accepted = Unit {0}
-Numbered (Refused number place) = (1 ≤ number) × (number ≤ 7)
+abbrev pub Numbered : Result Unit Refusal → Type 0
+Numbered (Ok _) = Unit {0}
+Numbered (Err refusal) = (1 ≤ number_of refusal) × (number_of refusal ≤ 7)
 
 pub value-numbered : (family : Family) (v : List ℕ) → Numbered (check_value family v)
 value-numbered family v =
     check-cases family v Numbered (omega arith, omega arith) (omega arith, omega arith) (λ h. (omega arith, omega arith))
     (λ h k.
     components-ind family v (λ at previous w. Numbered w.ending) (λ at previous e. tt)
-    (λ at previous number place e. let m = was-refused family v at previous number place e in (omega arith, m.1.0))
+    (λ at previous refusal e. let m = was-refused family v at previous refusal e in (omega arith, m.1.0))
     (λ at previous kind behind w e rest. rest) family.head 0)
 
 pub rule-numbered : (family : Family) (rule : List ℕ) → Numbered (check_rule family rule)

@@ -1,4 +1,5 @@
 -- The definitions of this crate, in the order in which to read them.
+pub mod Refusal
 pub mod Family
 pub mod Shape
 pub mod Operator

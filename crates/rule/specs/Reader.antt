@@ -2,17 +2,19 @@
 use Rattle.std.specs.Prelude.{ℕ, ◌+◌, ◌≡◌, List}
 use Rattle.std.specs.Borrow.{Bor}
 use Rattle.rule.specs.declared.Family.{Family}
-use Rattle.rule.specs.declared.Next.{Next}
 use Rattle.rule.specs.declared.Reader.{Reader}
 use Rattle.rule.specs.Component.{component_at}
 use Rattle.rule.specs.Value.{between}
+use Rattle.std.specs.Prelude.{Result, Option}
+use Rattle.rule.specs.declared.Refusal.{Refusal}
+use Rattle.rule.specs.declared.Located.{Located}
 
 -- The reader at a place of a lent value.
 abbrev pub reader_at : Family → Bor (List ℕ) → ℕ → ℕ → Reader
 reader_at family value at previous = record { family = family; value = value; at = at; previous = previous }
 
 -- What a reader finds at its place.
-abbrev pub next_of : Reader → Next
+abbrev pub next_of : Reader → Result (Option Located) Refusal
 next_of r = component_at r.family r.value.now r.at r.previous
 
 -- The reader moved behind a component of the type `kind`, or behind the head where `kind` is 0, which ends at `next`.

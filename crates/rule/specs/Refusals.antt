@@ -5,19 +5,22 @@
 use Rattle.std.specs.Prelude.{ℕ, ◌+◌, ◌-◌, ◌/◌, ◌<◌, ◌≤◌, ◌≡◌, Bool, true, false, ◌||◌, List, ◌⊎◌, ltb, eqb, length, get_or}
 use Rattle.rule.specs.declared.Family.{Family}
 use Rattle.rule.specs.declared.Shape.{Shape}
-use Rattle.rule.specs.declared.NextPair.TheVariants.{More}
-use Rattle.rule.specs.declared.Next.TheVariants.{Another}
 use Rattle.rule.specs.Shape.{shape_of}
 use Rattle.rule.specs.Operator.{size_of}
 use Rattle.rule.specs.Component.{pair_at, lead_of, offset_at, component_at}
 use Rattle.rule.specs.Value.{most_value}
 use Rattle.rule.specs.Reading.{rule_end, value_in}
+use Rattle.std.specs.Prelude.{Ok, Some}
+use Rattle.rule.specs.declared.NextPair.TheVariants.{More}
+use Rattle.rule.specs.declared.Refusal.{Refusal}
+use Rattle.rule.specs.declared.Refusal.TheVariants.{Overlong, Empty, UnknownType, TypeOrder, PrefixLength, CutShort, ValueSize}
+use Rattle.rule.specs.Component.{located}
 
 -- In a value of at most 4,095 octets that is longer than its head a component begins, or the value ends, at a place; the component before
 -- it is of the type `previous`. The first begins behind the head, and 0 stands for the type before it.
 pub data Begins (family : Family) (v : List ℕ) : ℕ → ℕ → Type 0 where
   first : length v ≤ most_value → family.head < length v → Begins family v family.head 0
-  next : {at previous kind behind : ℕ} → Begins family v at previous → component_at family v at previous ≡ Another kind behind
+  next : {at previous kind behind : ℕ} → Begins family v at previous → component_at family v at previous ≡ Ok (Some (located kind behind))
       → Begins family v behind kind
 
 -- The type octet of the component that begins at a place.
@@ -62,7 +65,7 @@ pub data PrefixCut (family : Family) (v : List ℕ) (at : ℕ) : Type 0 where
 -- before it.
 pub data Operator (family : Family) (v : List ℕ) (at : ℕ) : ℕ → Type 0 where
   first : Operator family v at (at + 1)
-  next : {place behind : ℕ} → Operator family v at place → pair_at (shape_at family v at).largest v place ≡ More behind
+  next : {place behind : ℕ} → Operator family v at place → pair_at (shape_at family v at).largest v place ≡ Ok (More behind)
       → Operator family v at behind
 
 -- A pair, of values of at most `largest` octets, whose operator is to stand at a place is cut short.
@@ -72,34 +75,34 @@ pub data PairCut (largest : ℕ) (v : List ℕ) (at : ℕ) : Type 0 where
   -- Fewer octets follow than it says, of a size that the type allows.
   short-value : at < length v → size_of (get_or v at 0) ≤ largest → length v - (at + 1) < size_of (get_or v at 0) → PairCut largest v at
 
--- A value is refused with a number at a place. 01: "3 to 7 carry a place in the value: the type octet (3, 4), the length octet (5), the
+-- A value is refused so. 01: "3 to 7 carry a place in the value: the type octet (3, 4), the length octet (5), the
 -- operator (7), the value's end (6)"; "at one octet 3 precedes 4, and 7 precedes 6".
-pub data ValueRefused (family : Family) (v : List ℕ) : ℕ → ℕ → Type 0 where
+pub data ValueRefused (family : Family) (v : List ℕ) : Refusal → Type 0 where
   -- "value over 4,095"
-  one : most_value < length v → ValueRefused family v 1 0
+  one : most_value < length v → ValueRefused family v Overlong
   -- "value of length 0", or exactly as long as its head
-  two : length v ≤ most_value → (length v ≡ 0) ⊎ (length v ≡ family.head) → ValueRefused family v 2 0
+  two : length v ≤ most_value → (length v ≡ 0) ⊎ (length v ≡ family.head) → ValueRefused family v Empty
   -- "component type 0 or above 12"
   three : {place previous : ℕ} → Begins family v place previous → place < length v → unknown_type family v place ≡ true
-      → ValueRefused family v 3 place
+      → ValueRefused family v (UnknownType place)
   -- "type not above the one before"
   four : {place previous : ℕ} → Begins family v place previous → place < length v → unknown_type family v place ≡ false
       → type_at v place ≤ previous
-      → ValueRefused family v 4 place
+      → ValueRefused family v (TypeOrder place)
   -- "prefix length above 32"
-  five : {at : ℕ} → Opens family v at → (shape_at family v at).prefix ≡ true → OutOfRange family v (at + 1) → ValueRefused family v 5 (at + 1)
+  five : {at : ℕ} → Opens family v at → (shape_at family v at).prefix ≡ true → OutOfRange family v (at + 1) → ValueRefused family v (PrefixLength (at + 1))
   -- "value ends inside a component": a prefix or a list; or, before any, inside the head
   six-prefix : {at : ℕ} → Opens family v at → (shape_at family v at).prefix ≡ true → PrefixCut family v (at + 1)
-      → ValueRefused family v 6 (length v)
+      → ValueRefused family v (CutShort (length v))
   six-list : {at place : ℕ} → Opens family v at → (shape_at family v at).prefix ≡ false → Operator family v at place
-      → PairCut (shape_at family v at).largest v place → ValueRefused family v 6 (length v)
-  six-head : length v ≤ most_value → 0 < length v → length v < family.head → ValueRefused family v 6 (length v)
+      → PairCut (shape_at family v at).largest v place → ValueRefused family v (CutShort (length v))
+  six-head : length v ≤ most_value → 0 < length v → length v < family.head → ValueRefused family v (CutShort (length v))
   -- "size not allowed for the type"
   seven : {at place : ℕ} → Opens family v at → (shape_at family v at).prefix ≡ false → Operator family v at place → place < length v
-      → (shape_at family v at).largest < size_of (get_or v place 0) → ValueRefused family v 7 place
+      → (shape_at family v at).largest < size_of (get_or v place 0) → ValueRefused family v (ValueSize place)
 
 -- A rule is refused so: 1 where its "length field or value runs past the bytes", and else as its value is.
-abbrev pub RuleRefused : Family → List ℕ → ℕ → ℕ → Type 0
-RuleRefused family rule number place =
-    ((length rule < rule_end rule) × ((number ≡ 1) × (place ≡ 0)))
-    ⊎ ((rule_end rule ≤ length rule) × ValueRefused family (value_in rule) number place)
+abbrev pub RuleRefused : Family → List ℕ → Refusal → Type 0
+RuleRefused family rule refusal =
+    ((length rule < rule_end rule) × (refusal ≡ Overlong))
+    ⊎ ((rule_end rule ≤ length rule) × ValueRefused family (value_in rule) refusal)

@@ -3,11 +3,11 @@
 use Rattle.std.specs.Prelude.{ℕ, ◌+◌, ◌-◌, cond, ◌||◌, List, [], ◌∷◌, ◌++◌, ltb, eqb, length, take, drop}
 use Rattle.octets.specs.Walk.{Step, more, stop, Walk, through}
 use Rattle.rule.specs.declared.Family.{Family}
-use Rattle.rule.specs.declared.Next.{Next}
-use Rattle.rule.specs.declared.Next.TheVariants.{Nothing, Another, Refused as RefusedNext}
-use Rattle.rule.specs.declared.Checked.{Checked}
-use Rattle.rule.specs.declared.Checked.TheVariants.{Accepted, Refused}
 use Rattle.rule.specs.Component.{component_at}
+use Rattle.std.specs.Prelude.{Result, Ok, Err, Option, Some, None}
+use Rattle.rule.specs.declared.Refusal.{Refusal}
+use Rattle.rule.specs.declared.Refusal.TheVariants.{Overlong, Empty, CutShort}
+use Rattle.rule.specs.declared.Located.{Located}
 
 -- The octets a value has at most.
 abbrev pub most_value : ℕ
@@ -45,15 +45,15 @@ abbrev pub at_start : Family → Progress
 at_start family = record { at = family.head; previous = 0 }
 
 -- A step along a value.
-abbrev pub component_step : List ℕ → ℕ → Next → Step Progress Component Checked
-component_step v at Nothing = stop Accepted
-component_step v at (Another kind next) = more (component kind (between v (at + 1) next)) (record { at = next; previous = kind })
-component_step v at (RefusedNext number place) = stop (Refused number place)
+abbrev pub component_step : List ℕ → ℕ → Result (Option Located) Refusal → Step Progress Component (Result Unit Refusal)
+component_step v at (Ok None) = stop (Ok tt)
+component_step v at (Ok (Some found)) = more (component found.kind (between v (at + 1) found.next)) (record { at = found.next; previous = found.kind })
+component_step v at (Err refusal) = stop (Err refusal)
 
 -- The components of a value from a place on, and whether all of it is accepted.
-unfoldable pub components_from : Family → List ℕ → Progress → Walk Component Checked
+unfoldable pub components_from : Family → List ℕ → Progress → Walk Component (Result Unit Refusal)
 components_from family v p =
-    through v (Refused 6 (length v)) (λ (q : Progress). component_step v q.at (component_at family v q.at q.previous)) p
+    through v (Err (CutShort (length v))) (λ (q : Progress). component_step v q.at (component_at family v q.at q.previous)) p
 
 -- The components of a value, in the order in which they stand.
 unfoldable pub components : Family → List ℕ → List Component
@@ -61,9 +61,9 @@ components family v = (components_from family v (at_start family)).items
 
 -- Refusals 1 to 7 of a value: over 4,095 octets is 1, no octet, or exactly those of the head, 2, fewer than those of the head 6 at the
 -- value's end, then 3 to 7 as met.
-unfoldable pub check_value : Family → List ℕ → Checked
+unfoldable pub check_value : Family → List ℕ → Result Unit Refusal
 check_value family v =
-    cond (ltb most_value (length v)) (Refused 1 0)
-    (cond (eqb (length v) 0 || eqb (length v) family.head) (Refused 2 0)
-    (cond (ltb (length v) family.head) (Refused 6 (length v))
+    cond (ltb most_value (length v)) (Err Overlong)
+    (cond (eqb (length v) 0 || eqb (length v) family.head) (Err Empty)
+    (cond (ltb (length v) family.head) (Err (CutShort (length v)))
     (components_from family v (at_start family)).ending))

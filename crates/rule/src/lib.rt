@@ -6,6 +6,7 @@
 
 ghost use Rattle.std.specs.Prelude.{◌≡◌, ◌<◌, ◌≤◌, length};
 ghost use Rattle.rule.specs.Family.{ipv4, ipv6, family_of};
+ghost use Rattle.rule.specs.Refusal.{number_of, place_of, told_number};
 ghost use Rattle.rule.specs.Shape.{shape_of};
 ghost use Rattle.rule.specs.Operator.{ends_list, size_of};
 ghost use Rattle.rule.specs.Component.{pair_at, pairs_from, lead_of, offset_at, prefix_end, body_end, component_at};
@@ -52,27 +53,115 @@ pub struct Shape {
     pub ignored: u8,
 }
 
-// A pair at a place in a list: the place behind it, or a refusal.
+// Why a call is refused: a row of 01's table. Those of the rows 3 to 7 carry a place in the value.
+#[derive(Clone, Copy, PartialEq, Eq)]
+pub enum Refusal {
+    // 1: a length field or a value runs past the octets, or a value is over 4,095.
+    Overlong,
+    // 2: a value of length 0.
+    Empty,
+    // 3: a component type that the family does not have.
+    UnknownType(usize),
+    // 4: a type that is not above the one before.
+    TypeOrder(usize),
+    // 5: a prefix length that no prefix may have.
+    PrefixLength(usize),
+    // 6: a value that ends inside a component.
+    CutShort(usize),
+    // 7: a size that is not allowed for the type.
+    ValueSize(usize),
+    // 8: an infeasible rule.
+    Infeasible,
+    // 9: an unsound list of routes.
+    UnsoundRoutes,
+    // 10: an unsound table.
+    UnsoundTable,
+    // 11: a table that has no room.
+    NoRoom,
+    // 12: an unusable packet.
+    UnusablePacket,
+    // 13: unsound actions.
+    UnsoundActions,
+    // 14: a rule to withdraw that is not held.
+    NotHeld,
+    // 15: octets after the one rule.
+    OctetsBehind,
+    // 16: a buffer for what is to be written that is too short.
+    ShortBuffer,
+    // 19: an attribute that is not taken (2026-01).
+    UntakenAttribute,
+}
+
+impl Refusal {
+    // The refusal's number in 01's table.
+    pub fn number(self) -> u8
+        ensures { (result ≡ number_of self) × (result ≤ 19) }
+    {
+        match self {
+            Refusal::Overlong => 1,
+            Refusal::Empty => 2,
+            Refusal::UnknownType(_) => 3,
+            Refusal::TypeOrder(_) => 4,
+            Refusal::PrefixLength(_) => 5,
+            Refusal::CutShort(_) => 6,
+            Refusal::ValueSize(_) => 7,
+            Refusal::Infeasible => 8,
+            Refusal::UnsoundRoutes => 9,
+            Refusal::UnsoundTable => 10,
+            Refusal::NoRoom => 11,
+            Refusal::UnusablePacket => 12,
+            Refusal::UnsoundActions => 13,
+            Refusal::NotHeld => 14,
+            Refusal::OctetsBehind => 15,
+            Refusal::ShortBuffer => 16,
+            Refusal::UntakenAttribute => 19,
+        }
+    }
+
+    // The place in the value that the refusal carries, and 0 where it carries none.
+    pub fn place(self) -> usize
+        ensures { result ≡ place_of self }
+    {
+        match self {
+            Refusal::UnknownType(place) => place,
+            Refusal::TypeOrder(place) => place,
+            Refusal::PrefixLength(place) => place,
+            Refusal::CutShort(place) => place,
+            Refusal::ValueSize(place) => place,
+            _ => 0,
+        }
+    }
+}
+
+// The number that an outcome is told with: 0 where it is done, else its refusal's.
+pub fn told_number(outcome: Result<(), Refusal>) -> u8
+    ensures { (result ≡ told_number outcome) × (result ≤ 19) }
+{
+    match outcome {
+        Ok(()) => 0,
+        Err(refusal) => refusal.number(),
+    }
+}
+
+// The place behind a pair of a list, which goes on behind it or ends with it.
 #[derive(Clone, Copy)]
 pub enum NextPair {
     More(usize),
     Last(usize),
-    Refused { number: u8, place: usize },
 }
 
-// The place behind a component's body, or a refusal.
+// A component that stands at a place of a value: its type, and the place behind it.
 #[derive(Clone, Copy)]
-pub enum BodyEnd {
-    At(usize),
-    Refused { number: u8, place: usize },
+pub struct Located {
+    pub kind: u8,
+    pub next: usize,
 }
 
-// What stands at a place of a value: nothing more, another component with the place behind it, or a refusal.
+// Where a rule's value stands: its first place, and its size.
 #[derive(Clone, Copy)]
-pub enum Next {
-    Nothing,
-    Another { kind: u8, next: usize },
-    Refused { number: u8, place: usize },
+pub struct Span {
+    pub start: usize,
+    pub size: usize,
 }
 
 // A value and how far it has been read: where the next component begins, and the type of the one before it (0 at the start).
@@ -82,20 +171,6 @@ pub struct Reader<'a> {
     pub value: &'a [u8],
     pub at: usize,
     pub previous: u8,
-}
-
-// Whether a value is accepted.
-#[derive(Clone, Copy)]
-pub enum Checked {
-    Accepted,
-    Refused { number: u8, place: usize },
-}
-
-// Where a rule's value stands, or a refusal.
-#[derive(Clone, Copy)]
-pub enum Reading {
-    Rule { start: usize, size: usize },
-    Refused { number: u8, place: usize },
 }
 
 // ---- Families, types and operators (sections 4.2.1 and 4.2.2) ----
@@ -198,53 +273,40 @@ pub fn size_of(operator: u8) -> usize
 // ---- Components (section 4.2.2) ----
 
 // The pair at a place of a list whose values have at most `largest` octets: 7 where its size is not allowed, 6 where it is cut short.
-pub fn pair_at(largest: usize, value: &[u8], at: usize) -> NextPair
+pub fn pair_at(largest: usize, value: &[u8], at: usize) -> Result<NextPair, Refusal>
     ensures { result ≡ pair_at largest value.now at }
 {
     let end = value.len();
     if end <= at {
-        return NextPair::Refused {
-            number: 6,
-            place: end,
-        };
+        return Err(Refusal::CutShort(end));
     }
     let operator = value[at];
     let size = size_of(operator);
     if largest < size {
-        return NextPair::Refused {
-            number: 7,
-            place: at,
-        };
+        return Err(Refusal::ValueSize(at));
     }
     let start = at + 1;
     if end - start < size {
-        return NextPair::Refused {
-            number: 6,
-            place: end,
-        };
+        return Err(Refusal::CutShort(end));
     }
     if ends_list(operator) {
-        return NextPair::Last(start + size);
+        return Ok(NextPair::Last(start + size));
     }
-    NextPair::More(start + size)
+    Ok(NextPair::More(start + size))
 }
 
 // The place behind a list that begins at a place.
-pub fn list_end(largest: usize, value: &[u8], start: usize) -> BodyEnd
+pub fn list_end(largest: usize, value: &[u8], start: usize) -> Result<usize, Refusal>
     ensures { result ≡ (pairs_from largest value.now start).ending }
 {
     let mut at = start;
     loop {
-        let pair = pair_at(largest, value, at);
-        match pair {
+        match pair_at(largest, value, at)? {
             NextPair::More(next) => {
                 at = next;
             }
             NextPair::Last(next) => {
-                return BodyEnd::At(next);
-            }
-            NextPair::Refused { number, place } => {
-                return BodyEnd::Refused { number, place };
+                return Ok(next);
             }
         }
     }
@@ -271,49 +333,34 @@ pub fn offset_at(family: Family, value: &[u8], place: usize) -> u8
 }
 
 // The place behind a prefix that begins at a place: 5 where its length is above the width or not above its offset, 6 where it is cut short.
-pub fn prefix_end(family: Family, value: &[u8], at: usize) -> BodyEnd
+pub fn prefix_end(family: Family, value: &[u8], at: usize) -> Result<usize, Refusal>
     ensures { result ≡ prefix_end family value.now at }
 {
     let end = value.len();
     if end <= at {
-        return BodyEnd::Refused {
-            number: 6,
-            place: end,
-        };
+        return Err(Refusal::CutShort(end));
     }
     let bits = value[at];
     if family.width < bits {
-        return BodyEnd::Refused {
-            number: 5,
-            place: at,
-        };
+        return Err(Refusal::PrefixLength(at));
     }
     let start = at + lead_of(family);
     if end < start {
-        return BodyEnd::Refused {
-            number: 6,
-            place: end,
-        };
+        return Err(Refusal::CutShort(end));
     }
     let offset = offset_at(family, value, at + 1);
     if (0 < offset) & (bits <= offset) {
-        return BodyEnd::Refused {
-            number: 5,
-            place: at,
-        };
+        return Err(Refusal::PrefixLength(at));
     }
     let octets = ((bits - offset) as usize + 7) / 8;
     if end - start < octets {
-        return BodyEnd::Refused {
-            number: 6,
-            place: end,
-        };
+        return Err(Refusal::CutShort(end));
     }
-    BodyEnd::At(start + octets)
+    Ok(start + octets)
 }
 
 // The place behind a body that begins at a place.
-pub fn body_end(family: Family, kind: u8, value: &[u8], at: usize) -> BodyEnd
+pub fn body_end(family: Family, kind: u8, value: &[u8], at: usize) -> Result<usize, Refusal>
     ensures { result ≡ body_end family kind value.now at }
 {
     let shape = shape_of(family, kind);
@@ -324,29 +371,26 @@ pub fn body_end(family: Family, kind: u8, value: &[u8], at: usize) -> BodyEnd
 }
 
 // The cursor: the component at a place, behind one of the type `previous`.
-pub fn component_at(family: Family, value: &[u8], at: usize, previous: u8) -> Next
+pub fn component_at(
+    family: Family,
+    value: &[u8],
+    at: usize,
+    previous: u8,
+) -> Result<Option<Located>, Refusal>
     ensures { result ≡ component_at family value.now at previous }
 {
     if value.len() <= at {
-        return Next::Nothing;
+        return Ok(None);
     }
     let kind = value[at];
     if (kind == 0) | (family.highest < kind) {
-        return Next::Refused {
-            number: 3,
-            place: at,
-        };
+        return Err(Refusal::UnknownType(at));
     }
     if kind <= previous {
-        return Next::Refused {
-            number: 4,
-            place: at,
-        };
+        return Err(Refusal::TypeOrder(at));
     }
-    match body_end(family, kind, value, at + 1) {
-        BodyEnd::At(next) => Next::Another { kind, next },
-        BodyEnd::Refused { number, place } => Next::Refused { number, place },
-    }
+    let next = body_end(family, kind, value, at + 1)?;
+    Ok(Some(Located { kind, next }))
 }
 
 // The body of the component at a place, which ends at `next`: the octets behind its type octet, as a part of the value.
@@ -384,7 +428,7 @@ impl<'a> Reader<'a> {
     }
 
     // What stands at the reader's place.
-    pub fn next(self) -> Next
+    pub fn next(self) -> Result<Option<Located>, Refusal>
         ensures { result ≡ next_of self.entry }
     {
         component_at(self.family, self.value, self.at, self.previous)
@@ -407,7 +451,12 @@ pub fn reader_at<'a>(family: Family, value: &'a [u8], at: usize, previous: u8) -
 }
 
 // What a reader at a place of a value finds there.
-pub fn next_component(family: Family, value: &[u8], at: usize, previous: u8) -> Next
+pub fn next_component(
+    family: Family,
+    value: &[u8],
+    at: usize,
+    previous: u8,
+) -> Result<Option<Located>, Refusal>
     ensures { result ≡ component_at family value.now at previous }
 {
     reader_at(family, value, at, previous).next()
@@ -422,44 +471,25 @@ pub fn component_body(family: Family, value: &[u8], at: usize, previous: u8, nex
 }
 
 // Refusals 1 to 7 of a value.
-pub fn check_value(family: Family, value: &[u8]) -> Checked
+pub fn check_value(family: Family, value: &[u8]) -> Result<(), Refusal>
     ensures { result ≡ check_value family value.now }
 {
     if MOST_VALUE < value.len() {
-        return Checked::Refused {
-            number: 1,
-            place: 0,
-        };
+        return Err(Refusal::Overlong);
     }
     if (value.len() == 0) | (value.len() == family.head) {
-        return Checked::Refused {
-            number: 2,
-            place: 0,
-        };
+        return Err(Refusal::Empty);
     }
     if value.len() < family.head {
-        return Checked::Refused {
-            number: 6,
-            place: value.len(),
-        };
+        return Err(Refusal::CutShort(value.len()));
     }
     let mut at = family.head;
     let mut previous = 0;
-    loop {
-        let next = next_component(family, value, at, previous);
-        match next {
-            Next::Nothing => {
-                return Checked::Accepted;
-            }
-            Next::Another { kind, next } => {
-                at = next;
-                previous = kind;
-            }
-            Next::Refused { number, place } => {
-                return Checked::Refused { number, place };
-            }
-        }
+    while let Some(component) = next_component(family, value, at, previous)? {
+        at = component.next;
+        previous = component.kind;
     }
+    Ok(())
 }
 
 // ---- Reading (section 4.1) ----
@@ -488,39 +518,27 @@ pub fn field_length(s: &[u8]) -> usize
 }
 
 // The rule that octets begin with.
-pub fn first_rule(family: Family, s: &[u8]) -> Reading
+pub fn first_rule(family: Family, s: &[u8]) -> Result<Span, Refusal>
     ensures { result ≡ first_rule family s.now }
 {
     let start = field_size(s);
     let size = field_length(s);
     let end = start + size;
     if s.len() < end {
-        return Reading::Refused {
-            number: 1,
-            place: 0,
-        };
+        return Err(Refusal::Overlong);
     }
-    match check_value(family, &s[start..end]) {
-        Checked::Accepted => Reading::Rule { start, size },
-        Checked::Refused { number, place } => Reading::Refused { number, place },
-    }
+    check_value(family, &s[start..end])?;
+    Ok(Span { start, size })
 }
 
 // The one rule that octets are.
-pub fn one_rule(family: Family, s: &[u8]) -> Reading
+pub fn one_rule(family: Family, s: &[u8]) -> Result<Span, Refusal>
     ensures { result ≡ one_rule family s.now }
 {
-    match first_rule(family, s) {
-        Reading::Rule { start, size } => {
-            let end = start + size;
-            if end == s.len() {
-                return Reading::Rule { start, size };
-            }
-            Reading::Refused {
-                number: 15,
-                place: 0,
-            }
-        }
-        Reading::Refused { number, place } => Reading::Refused { number, place },
+    let rule = first_rule(family, s)?;
+    let end = rule.start + rule.size;
+    if end == s.len() {
+        return Ok(rule);
     }
+    Err(Refusal::OctetsBehind)
 }

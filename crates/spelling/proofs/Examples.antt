@@ -5,9 +5,10 @@ use mathlib.Core.Bool.{true}
 use mathlib.Core.List.{List, [], ◌∷◌, map}
 use Prim.Native.Nat.{ℕ}
 use native.Mathlib.Omega.{arith}
+use Rattle.std.proofs.Common.{Ok, Err}
 use Rattle.octets.specs.Walk.{walk}
 use Rattle.rule.specs.declared.Family.{Family}
-use Rattle.rule.specs.declared.Checked.TheVariants.{Accepted, Refused}
+use Rattle.rule.specs.declared.Refusal.TheVariants.{Empty, UnknownType, TypeOrder, PrefixLength, CutShort, ValueSize}
 use Rattle.rule.specs.Family.{ipv4, ipv6, Fits}
 use Rattle.rule.specs.Shape.{shape_of}
 use Rattle.rule.specs.Operator.{ends_list, size_of}
@@ -37,7 +38,7 @@ pub ipv4-values : map (check_value ipv4)
     ∷ (11 ∷ 0x91 ∷ [])
     ∷ (4 ∷ 0x91 ∷ 1 ∷ [])
     ∷ [])
-    ≡ Refused 2 0 ∷ Accepted ∷ Refused 5 1 ∷ Refused 6 4 ∷ Refused 3 0 ∷ Refused 4 3 ∷ Refused 7 1 ∷ Refused 6 3 ∷ []
+    ≡ Err Empty ∷ Ok tt ∷ Err (PrefixLength 1) ∷ Err (CutShort 4) ∷ Err (UnknownType 0) ∷ Err (TypeOrder 3) ∷ Err (ValueSize 1) ∷ Err (CutShort 3) ∷ []
 unfolding walk ends_list size_of shape_of pair_at pairs_from lead_of offset_at prefix_end body_end component_at components_from check_value
 ipv4-values = refl
 
@@ -66,8 +67,8 @@ pub ipv6-values : map (check_value ipv6)
     ∷ (14 ∷ 0x81 ∷ 1 ∷ [])
     ∷ (12 ∷ 0x91 ∷ 0 ∷ 2 ∷ [])
     ∷ [])
-    ≡ Accepted ∷ Accepted ∷ Accepted ∷ Accepted ∷ Accepted ∷ Refused 5 1 ∷ Refused 5 1 ∷ Refused 5 1 ∷ Refused 5 1 ∷ Refused 5 1 ∷ Refused 5 1 ∷ Refused 6 1
-    ∷ Refused 6 2 ∷ Refused 6 4 ∷ Accepted ∷ Accepted ∷ Refused 3 0 ∷ Refused 3 0 ∷ Refused 7 1 ∷ []
+    ≡ Ok tt ∷ Ok tt ∷ Ok tt ∷ Ok tt ∷ Ok tt ∷ Err (PrefixLength 1) ∷ Err (PrefixLength 1) ∷ Err (PrefixLength 1) ∷ Err (PrefixLength 1) ∷ Err (PrefixLength 1) ∷ Err (PrefixLength 1) ∷ Err (CutShort 1)
+    ∷ Err (CutShort 2) ∷ Err (CutShort 4) ∷ Ok tt ∷ Ok tt ∷ Err (UnknownType 0) ∷ Err (UnknownType 0) ∷ Err (ValueSize 1) ∷ []
 unfolding walk ends_list size_of shape_of pair_at pairs_from lead_of offset_at prefix_end body_end component_at components_from check_value
 ipv6-values = refl
 
@@ -89,8 +90,8 @@ pub tried-values : map (check_value tried)
     ∷ headed (14 ∷ [])
     ∷ headed (12 ∷ 0x91 ∷ [])
     ∷ [])
-    ≡ Refused 2 0 ∷ Refused 2 0 ∷ Refused 6 7 ∷ Accepted ∷ Accepted ∷ Refused 5 9 ∷ Refused 5 9 ∷ Refused 5 9 ∷ Refused 6 9 ∷ Refused 6 10 ∷ Refused 6 14
-    ∷ Accepted ∷ Refused 3 8 ∷ Refused 7 9 ∷ []
+    ≡ Err Empty ∷ Err Empty ∷ Err (CutShort 7) ∷ Ok tt ∷ Ok tt ∷ Err (PrefixLength 9) ∷ Err (PrefixLength 9) ∷ Err (PrefixLength 9) ∷ Err (CutShort 9) ∷ Err (CutShort 10) ∷ Err (CutShort 14)
+    ∷ Ok tt ∷ Err (UnknownType 8) ∷ Err (ValueSize 9) ∷ []
 unfolding walk ends_list size_of shape_of pair_at pairs_from lead_of offset_at prefix_end body_end component_at components_from check_value
 tried-values = refl
 

@@ -12,6 +12,7 @@ use native.Mathlib.Numerals.{add-one}
 use lib.ListN.{length, get_or, take, drop, set, length-set, length-append, length-drop, take-append-drop, drop_of_length-le}
 use lib.Seq.{drop-cons, drop-drop, drop-set-lt, drop-append-le, drop-append_seam, take-append-le, take_at, take-suc, length-take-le, append_snoc, get_or-drop, get_or-set_other, set-get_or}
 use borrow.Rule.Slice.PartMut.{put_mid, same_len_mid, drop_put}
+use Rattle.std.proofs.Common.{Result, Ok, Err, Option, Some, None}
 use Rattle.octets.specs.Store.{stored}
 use Rattle.octets.specs.Walk.{Walk}
 use Rattle.octets.proofs.Cases.{apart}
@@ -19,15 +20,12 @@ use Rattle.octets.proofs.Facts.{Octets}
 use Rattle.octets.proofs.StoreLaws.{length-stored}
 use Rattle.rule.specs.declared.Family.{Family}
 use Rattle.rule.specs.declared.Shape.{Shape}
+use Rattle.rule.specs.declared.Refusal.{Refusal}
+use Rattle.rule.specs.declared.Located.{Located}
 use Rattle.spelling.specs.Plain.{Kind, Length, Operator, Operand, body_of, operand_after, after, plain_operator, plain_operand, plain_pattern, cleared_octet, plain_from, plain}
-use Rattle.rule.specs.declared.BodyEnd.TheVariants.{At}
-use Rattle.rule.specs.declared.Next.{Next}
-use Rattle.rule.specs.declared.Next.TheVariants.{Nothing, Another, Refused as RefusedNext}
-use Rattle.rule.specs.declared.Checked.{Checked}
-use Rattle.rule.specs.declared.Checked.TheVariants.{Accepted, Refused}
 use Rattle.rule.specs.Shape.{shape_of}
 use Rattle.rule.specs.Operator.{ends_list, size_of}
-use Rattle.rule.specs.Component.{pairs_from, offset_at, prefix_end, body_end, component_at}
+use Rattle.rule.specs.Component.{pairs_from, offset_at, prefix_end, body_end, component_at, located}
 use Rattle.rule.specs.Value.{Component, spelled, between, components_from, components, check_value}
 use Rattle.spelling.specs.PlainComponent.{plain_component}
 use Rattle.rule.proofs.ShapeLaws.{one-octet-or-whole}
@@ -40,7 +38,7 @@ use Rattle.spelling.proofs.PassingLaws.{plain_behind, all_plain, octet-cleared, 
 use Rattle.spelling.proofs.PlainWalkLaws.{body-alone, PairThere, pair-there, prefix-there, as-list}
 
 -- how `clear_prefix` comes to what it leaves
-module _ (family : Family) (body : List ℕ) (alone : prefix_end family body 0 ≡ At (length body)) (offset : ℕ) (is : offset ≡ offset_at family body 1) where
+module _ (family : Family) (body : List ℕ) (alone : prefix_end family body 0 ≡ Ok (length body)) (offset : ℕ) (is : offset ≡ offset_at family body 1) where
   pub prefix-kept : (get_or body 0 0 - offset) % 8 ≡ 0 → body ≡ plain_from family Length body
   prefix-kept h = sym (prefix-passed family body (prefix-there family body alone) (rw is at h))
 
@@ -92,7 +90,7 @@ pub record Clearing (kind : ℕ) (shape : Shape) (body work : List ℕ) (first :
   pub completes : (family : Family) → shape ≡ shape_of family kind → plain_behind family (Operator kind first) at work ≡ plain_from family (Operator kind true) body
   pub long : length work ≡ length body
   pub rest : drop at work ≡ drop at body
-  pub ends : at < length body → (pairs_from shape.largest body at).ending ≡ At (length body)
+  pub ends : at < length body → (pairs_from shape.largest body at).ending ≡ Ok (length body)
 
 -- what `clear_body` leaves of a prefix
 pub cleared-prefix : (family : Family) (kind : ℕ) (body work : List ℕ) (shape : Shape) → shape ≡ shape_of family kind → shape.prefix ≡ true
@@ -105,7 +103,7 @@ pub list-nearer : (work : List ℕ) (at size x y : ℕ) → at < length work →
 list-nearer work at size x y h = simp length-set (omega arith)
 
 module _ (kind : ℕ) (shape : Shape) (body : List ℕ) where
-  pub list-starts : (family : Family) → shape ≡ shape_of family kind → shape.prefix ≡ false → body_end family kind body 0 ≡ At (length body) → Clearing kind shape body body true 0
+  pub list-starts : (family : Family) → shape ≡ shape_of family kind → shape.prefix ≡ false → body_end family kind body 0 ≡ Ok (length body) → Clearing kind shape body body true 0
   list-starts family is t alone =
       record { completes = λ f same. refl; long = refl; rest = refl; ends = λ h. rw is (as-list family kind body shape is alone t) }
 
@@ -162,7 +160,7 @@ pub record Filling (family : Family) (v held work : List ℕ) (at previous : ℕ
   pub within : at ≤ length v
   pub long : length work ≡ length held
   pub completes : take at work ++ spelled (map (plain_component family) (components_from family v (record { at = at; previous = previous })).items) ≡ plain family v
-  pub accepted : accepts family v at previous ≡ Accepted
+  pub accepted : accepts family v at previous ≡ Ok tt
   pub rest : drop at work ≡ drop at v ++ drop (length v) held
 
 -- how `fill_plain` goes on and comes to what it leaves
@@ -180,7 +178,7 @@ module _ (family : Family) (v start held : List ℕ) (stands : held ≡ stored s
   held-long : length held ≡ length start
   held-long = ap length stands ∙ length-stored start 0 v (omega arith)
 
-  pub fill-starts : Octets v → check_value family v ≡ Accepted → Filling family v held held family.head 0
+  pub fill-starts : Octets v → check_value family v ≡ Ok tt → Filling family v held held family.head 0
   unfolding components
   fill-starts o ok =
       let h = accepted-head family v ok in
@@ -199,27 +197,27 @@ module _ (family : Family) (v start held : List ℕ) (stands : held ≡ stored s
     pub fill-long : length work ≡ length start
     fill-long = so_far.long ∙ held-long
 
-    module _ (next : Next) (is : next ≡ component_at family v at previous) where
-      pub fill_done : next ≡ Nothing → work ≡ plain family v ++ drop (length v) start
+    module _ (next : Result (Option Located) Refusal) (is : next ≡ component_at family v at previous) where
+      pub fill_done : next ≡ Ok None → work ≡ plain family v ++ drop (length v) start
       unfolding spelled
       fill_done e =
           let none = sym is ∙ e in
           let all : at ≡ length v = let w = so_far.within in let l = none_left family v at previous none in omega arith in
           let front : take at work ≡ plain family v
           = sym (append-nil (take at work))
-          ∙ ap (λ (w : Walk Component Checked). take at work ++ spelled (map (plain_component family) w.items)) (sym (components-none family v at previous none))
+          ∙ ap (λ (w : Walk Component (Result Unit Refusal)). take at work ++ spelled (map (plain_component family) w.items)) (sym (components-none family v at previous none))
           ∙ so_far.completes in
           let back : drop at work ≡ behind_value
           = so_far.rest ∙ rw (drop_of_length-le v {i = at} (omega arith)) held-behind in
           sym (take-append-drop at work) ∙ ap₂ (λ (a b : List ℕ). a ++ b) front back
 
-      pub fill-never : (number place : ℕ) → next ≡ RefusedNext number place → work ≡ plain family v ++ drop (length v) start
-      fill-never number place e =
-          let z : Refused number place ≡ Accepted
-          = sym (ap (λ (w : Walk Component Checked). w.ending) (components-refused family v at previous number place (sym is ∙ e))) ∙ so_far.accepted in
+      pub fill-never : (refusal : Refusal) → next ≡ Err refusal → work ≡ plain family v ++ drop (length v) start
+      fill-never refusal e =
+          let z : Err refusal ≡ Ok tt
+          = sym (ap (λ (w : Walk Component (Result Unit Refusal)). w.ending) (components-refused family v at previous refusal (sym is ∙ e))) ∙ so_far.accepted in
           apart (cc)
 
-      module _ (kind behind : ℕ) (another : next ≡ Another kind behind) where
+      module _ (kind behind : ℕ) (another : next ≡ Ok (Some (located kind behind))) where
         here : Found family v at previous kind behind
         here = was-found family v at previous kind behind (sym is ∙ another)
 
@@ -242,7 +240,7 @@ module _ (family : Family) (v start held : List ℕ) (stands : held ≡ stored s
             let l = length-drop (at + 1) v in
             ap (take (behind - (at + 1))) (further 1 (omega arith)) ∙ take-append-le (behind - (at + 1)) (drop (at + 1) v) (drop (length v) held) (omega arith)
 
-        pub fill-body : body_end family kind (between work (at + 1) behind) 0 ≡ At (length (between work (at + 1) behind))
+        pub fill-body : body_end family kind (between work (at + 1) behind) 0 ≡ Ok (length (between work (at + 1) behind))
         fill-body = rw same_body (body-alone family kind v (at + 1) behind here.ends)
 
         type-there : take (at + 1) work ≡ take at work ++ (kind ∷ [])
@@ -270,7 +268,7 @@ module _ (family : Family) (v start held : List ℕ) (stands : held ≡ stored s
             = ap (take behind) (sym (append_assoc (take (at + 1) work) body (drop (behind - (at + 1)) (drop (at + 1) work))))
             ∙ take_at (take (at + 1) work ++ body) (drop (behind - (at + 1)) (drop (at + 1) work)) behind (simp length-append (omega arith)) in
             let one_more : kind ∷ body ++ others ≡ spelled (map (plain_component family) (components_from family v (record { at = at; previous = previous })).items)
-            = ap (λ (s : List ℕ). kind ∷ s ++ others) spelling ∙ sym (ap (λ (w : Walk Component Checked). spelled (map (plain_component family) w.items)) more) in
+            = ap (λ (s : List ℕ). kind ∷ s ++ others) spelling ∙ sym (ap (λ (w : Walk Component (Result Unit Refusal)). spelled (map (plain_component family) w.items)) more) in
             let end : at + (behind - at) ≡ behind = omega arith in
             record {
               within = w.1;
@@ -281,6 +279,6 @@ module _ (family : Family) (v start held : List ℕ) (stands : held ≡ stored s
                   ∙ append_snoc (take at work) kind (body ++ others)
                   ∙ ap (λ (s : List ℕ). take at work ++ s) one_more
                   ∙ so_far.completes;
-              accepted = sym (ap (λ (w : Walk Component Checked). w.ending) more) ∙ so_far.accepted;
+              accepted = sym (ap (λ (w : Walk Component (Result Unit Refusal)). w.ending) more) ∙ so_far.accepted;
               rest = drop_put (at + 1) behind work body (omega arith) (omega arith) size ∙ rw end at (further (behind - at) (omega arith));
             }

@@ -12,6 +12,7 @@ use lib.Dec.{leb, ltb, eqb}
 use lib.ListN.{length, get_or, take, drop, set, take-append-drop, drop_of_length-le}
 use lib.Seq.{drop-cons}
 use borrow.Author.Tests.{lt-leb, eq-eqb}
+use Rattle.std.proofs.Common.{Result, Ok, Err}
 use Rattle.octets.specs.Test.{every, same_list}
 use Rattle.octets.specs.Walk.{Walk}
 use Rattle.octets.proofs.Cases.{by-test, apart}
@@ -20,11 +21,6 @@ use Rattle.octets.proofs.TestLaws.{list_same}
 use Rattle.rule.specs.declared.Family.{Family}
 use Rattle.rule.specs.declared.Shape.{Shape}
 use Rattle.spelling.specs.Plain.{Expected, Kind, Length, Operator, Operand, body_of, operand_after, after, plain_operator, plain_operand, plain_pattern, cleared_octet, plain_from, plain}
-use Rattle.rule.specs.declared.NextPair.{NextPair}
-use Rattle.rule.specs.declared.NextPair.TheVariants.{More, Last, Refused as RefusedPair}
-use Rattle.rule.specs.declared.BodyEnd.{BodyEnd}
-use Rattle.rule.specs.declared.BodyEnd.TheVariants.{At, Refused as RefusedBody}
-use Rattle.rule.specs.declared.Checked.TheVariants.{Accepted}
 use Rattle.rule.specs.Shape.{shape_of}
 use Rattle.rule.specs.Operator.{ends_list, size_of}
 use Rattle.rule.specs.Component.{pair_at, Pair, pairs_from, lead_of, offset_at, prefix_end, body_end}
@@ -37,6 +33,10 @@ use Rattle.rule.proofs.ComponentsLaws.{between-octet, between-length, PrefixBody
 use Rattle.spelling.proofs.PlainLaws.{length-plain-from, whole-operand}
 use Rattle.spelling.proofs.SpellingLaws.{plain-whole}
 use Rattle.spelling.proofs.PassingLaws.{plain_behind, value-passed, left, last_octet, prefix-passed, prefix-cleared}
+use Rattle.rule.specs.declared.NextPair.{NextPair}
+use Rattle.rule.specs.declared.NextPair.TheVariants.{More, Last}
+use Rattle.rule.specs.declared.Refusal.{Refusal}
+use Rattle.rule.specs.declared.Refusal.TheVariants.{CutShort, ValueSize}
 
 -- whether octets, the first of which is as expected, are their own plain spelling
 abbrev pub plain_from_here : Family → Expected → List ℕ → Bool
@@ -64,7 +64,7 @@ module _ (family : Family) where
       (ap (λ (t : Bool). plain_body p && t) (spelled_same ps))
 
   -- an accepted value is plain exactly where each of its bodies is
-  pub plain-each : (v : List ℕ) → Octets v → check_value family v ≡ Accepted → same_list (plain family v) v ≡ every plain_body (components family v)
+  pub plain-each : (v : List ℕ) → Octets v → check_value family v ≡ Ok tt → same_list (plain family v) v ≡ every plain_body (components family v)
   plain-each v o ok =
       let ps = components family v in
       ap₂ same_list (sym (plain-whole family v o ok)) (sym (spelled-whole family v ok))
@@ -73,10 +73,10 @@ module _ (family : Family) where
 
 module _ (largest : ℕ) (v : List ℕ) (from to : ℕ) (inside : to ≤ length v) where
   -- a pair that ends in a part of the octets is found there
-  PairCut : ℕ → NextPair → Type 0
-  PairCut i (More next) = next ≤ to → pair_at largest (between v from to) i ≡ More (next - from)
-  PairCut i (Last next) = next ≤ to → pair_at largest (between v from to) i ≡ Last (next - from)
-  PairCut i (RefusedPair number place) = Unit {0}
+  PairCut : ℕ → Result NextPair Refusal → Type 0
+  PairCut i (Ok (More next)) = next ≤ to → pair_at largest (between v from to) i ≡ Ok (More (next - from))
+  PairCut i (Ok (Last next)) = next ≤ to → pair_at largest (between v from to) i ≡ Ok (Last (next - from))
+  PairCut i (Err refusal) = Unit {0}
 
   pair-cut : (i : ℕ) → PairCut i (pair_at largest v (from + i))
   unfolding PairCut
@@ -87,34 +87,34 @@ module _ (largest : ℕ) (v : List ℕ) (from to : ℕ) (inside : to ≤ length 
       let l = between-length v from to (omega arith) inside in
       let is : operator ≡ get_or (between v from to) i 0 = sym (between-octet v from to i (omega arith)) in
       sym (pair-last largest (between v from to) i (size_of operator) (ap size_of is) (omega arith) allowed (ends_list operator) (ap ends_list is) (omega arith) ends)
-      ∙ ap Last (omega arith))
+      ∙ ap (λ n. Ok (Last n)) (omega arith))
       (λ h allowed goes k.
       let l = between-length v from to (omega arith) inside in
       let is : operator ≡ get_or (between v from to) i 0 = sym (between-octet v from to i (omega arith)) in
       sym (pair-more largest (between v from to) i (size_of operator) (ap size_of is) (omega arith) allowed (ends_list operator) (ap ends_list is) (omega arith) goes)
-      ∙ ap More (omega arith))
+      ∙ ap (λ n. Ok (More n)) (omega arith))
 
   -- so is a list
-  ListCut : ℕ → Walk Pair BodyEnd → Type 0
-  ListCut at w = (i : ℕ) → at ≡ from + i → w.ending ≡ At to → (at < to) × ((pairs_from largest (between v from to) i).ending ≡ At (to - from))
+  ListCut : ℕ → Walk Pair (Result ℕ Refusal) → Type 0
+  ListCut at w = (i : ℕ) → at ≡ from + i → w.ending ≡ Ok to → (at < to) × ((pairs_from largest (between v from to) i).ending ≡ Ok (to - from))
 
   list-cut : (at : ℕ) → ListCut at (pairs_from largest v at)
   unfolding ListCut PairCut
   list-cut =
-      pairs-ind largest v ListCut (λ at number place e i is ends. apart (cc))
+      pairs-ind largest v ListCut (λ at refusal e i is ends. apart (cc))
       (λ at next e i is ends.
       let end : next ≡ to = cc in
       let within = last_within largest v at next e in
-      let cut = at_cut at i (Last next) is e (omega arith) in
-      (omega arith, ap (λ (w : Walk Pair BodyEnd). w.ending) (pairs-last largest (between v from to) i (next - from) cut) ∙ ap (λ n. At (n - from)) end))
+      let cut = at_cut at i (Ok (Last next)) is e (omega arith) in
+      (omega arith, ap (λ (w : Walk Pair (Result ℕ Refusal)). w.ending) (pairs-last largest (between v from to) i (next - from) cut) ∙ ap (λ n. Ok (n - from)) end))
       (λ at next w e rest i is ends.
       let within = more_within largest v at next e in
       let behind = rest (next - from) (omega arith) ends in
       let nearer = behind.0 in
-      let cut = at_cut at i (More next) is e (omega arith) in
-      (omega arith, ap (λ (w : Walk Pair BodyEnd). w.ending) (pairs-more largest (between v from to) i (next - from) cut) ∙ behind.1))
+      let cut = at_cut at i (Ok (More next)) is e (omega arith) in
+      (omega arith, ap (λ (w : Walk Pair (Result ℕ Refusal)). w.ending) (pairs-more largest (between v from to) i (next - from) cut) ∙ behind.1))
     where
-      at_cut : (at i : ℕ) (pair : NextPair) → at ≡ from + i → pair_at largest v at ≡ pair → PairCut i pair
+      at_cut : (at i : ℕ) (pair : Result NextPair Refusal) → at ≡ from + i → pair_at largest v at ≡ pair → PairCut i pair
       at_cut at i pair is e = subst (PairCut i) (ap (pair_at largest v) (sym is) ∙ e) (pair-cut i)
 
 -- a prefix's body passes the test of its length against its offset
@@ -126,14 +126,14 @@ not-refused family body p =
     ]
 
 -- a body is a body where it stands alone
-module _ (family : Family) (kind : ℕ) (v : List ℕ) (at next : ℕ) (ends : body_end family kind v at ≡ At next) where
+module _ (family : Family) (kind : ℕ) (v : List ℕ) (at next : ℕ) (ends : body_end family kind v at ≡ Ok next) where
   within : (at < next) × (next ≤ length v)
   within = subst (EndWithin v at) ends (body-within v family kind at)
 
   alone-length : length (between v at next) ≡ next - at
   alone-length = let w = within in between-length v at next (omega arith) w.1
 
-  prefix-alone : (shape_of family kind).prefix ≡ true → prefix_end family (between v at next) 0 ≡ At (length (between v at next))
+  prefix-alone : (shape_of family kind).prefix ≡ true → prefix_end family (between v at next) 0 ≡ Ok (length (between v at next))
   prefix-alone t =
       let w = within in
       let body = between v at next in
@@ -141,15 +141,15 @@ module _ (family : Family) (kind : ℕ) (v : List ℕ) (at next : ℕ) (ends : b
       let whole = p.whole in
       let lead = lead-some family in
       sym (prefix-whole family body 0 (lead_of family) refl (omega arith) p.within (offset_at family body 1) refl (omega arith) (not-refused family body p) (omega arith))
-      ∙ ap At (omega arith)
+      ∙ ap (λ n. Ok n) (omega arith)
 
-  list-alone : (shape_of family kind).prefix ≡ false → (pairs_from (shape_of family kind).largest (between v at next) 0).ending ≡ At (length (between v at next))
+  list-alone : (shape_of family kind).prefix ≡ false → (pairs_from (shape_of family kind).largest (between v at next) 0).ending ≡ Ok (length (between v at next))
   unfolding body_end ListCut
   list-alone t =
       let w = within in
-      (list-cut (shape_of family kind).largest v at next w.1 at 0 (omega arith) (rw t at ends)).1 ∙ ap At (sym alone-length)
+      (list-cut (shape_of family kind).largest v at next w.1 at 0 (omega arith) (rw t at ends)).1 ∙ ap (λ n. Ok n) (sym alone-length)
 
-  pub body-alone : body_end family kind (between v at next) 0 ≡ At (length (between v at next))
+  pub body-alone : body_end family kind (between v at next) 0 ≡ Ok (length (between v at next))
   unfolding body_end
   body-alone = by-test (shape_of family kind).prefix (λ t. rw t (prefix-alone t)) (λ t. rw t (list-alone t))
 
@@ -158,25 +158,25 @@ pub record PairThere (largest : ℕ) (body : List ℕ) (at : ℕ) : Type 0 where
   pub fits : at + 1 + size_of (get_or body at 0) ≤ length body
   pub allowed : size_of (get_or body at 0) ≤ largest
   pub onward : at + 1 + size_of (get_or body at 0) < length body
-      → (ends_list (get_or body at 0) ≡ false) × ((pairs_from largest body (at + 1 + size_of (get_or body at 0))).ending ≡ At (length body))
+      → (ends_list (get_or body at 0) ≡ false) × ((pairs_from largest body (at + 1 + size_of (get_or body at 0))).ending ≡ Ok (length body))
 
-pub pair-there : (largest : ℕ) (body : List ℕ) (at : ℕ) → (pairs_from largest body at).ending ≡ At (length body) → PairThere largest body at
+pub pair-there : (largest : ℕ) (body : List ℕ) (at : ℕ) → (pairs_from largest body at).ending ≡ Ok (length body) → PairThere largest body at
 pair-there largest body at ends =
-    pair-cases largest body at (λ pair. pair_at largest body at ≡ pair → PairThere largest body at) (λ e. none 6 (length body) e) (λ h e. none 7 at e)
+    pair-cases largest body at (λ pair. pair_at largest body at ≡ pair → PairThere largest body at) (λ e. none (CutShort (length body)) e) (λ h e. none (ValueSize at) e)
     (λ h u t e.
-    let last : At (at + 1 + size_of (get_or body at 0)) ≡ At (length body) = sym (how (pairs-last largest body at (at + 1 + size_of (get_or body at 0)) e)) ∙ ends in
+    let last : Ok (at + 1 + size_of (get_or body at 0)) ≡ Ok (length body) = sym (how (pairs-last largest body at (at + 1 + size_of (get_or body at 0)) e)) ∙ ends in
     let end : at + 1 + size_of (get_or body at 0) ≡ length body = cc in
     record { fits = h; allowed = u; onward = λ l. absurd (omega arith) })
     (λ h u t e.
     record { fits = h; allowed = u; onward = λ l. (t, sym (how (pairs-more largest body at (at + 1 + size_of (get_or body at 0)) e)) ∙ ends) })
     refl
   where
-    how : {a b : Walk Pair BodyEnd} → a ≡ b → a.ending ≡ b.ending
-    how e = ap (λ (w : Walk Pair BodyEnd). w.ending) e
+    how : {a b : Walk Pair (Result ℕ Refusal)} → a ≡ b → a.ending ≡ b.ending
+    how e = ap (λ (w : Walk Pair (Result ℕ Refusal)). w.ending) e
 
-    none : (number place : ℕ) → pair_at largest body at ≡ RefusedPair number place → PairThere largest body at
-    none number place e =
-        let z : RefusedBody number place ≡ At (length body) = sym (how (pairs-refused largest body at number place e)) ∙ ends in
+    none : (refusal : Refusal) → pair_at largest body at ≡ Err refusal → PairThere largest body at
+    none refusal e =
+        let z : Err refusal ≡ Ok (length body) = sym (how (pairs-refused largest body at refusal e)) ∙ ends in
         apart (cc)
 
 -- octets are plain where the first one is and those behind it are
@@ -219,7 +219,7 @@ module _ (family : Family) (kind : ℕ) where
       (one-octet-or-whole family kind)
 
   -- from a pair on a list is plain where the pair's operator and the first octet of its value are, and the list behind the pair
-  pub pair-plain : (body : List ℕ) (at : ℕ) (first : Bool) → (pairs_from shape.largest body at).ending ≡ At (length body)
+  pub pair-plain : (body : List ℕ) (at : ℕ) (first : Bool) → (pairs_from shape.largest body at).ending ≡ Ok (length body)
       → let operator = get_or body at 0 in let octet = get_or body (at + 1) 0 in
       plain_from_here family (Operator kind first) (drop at body)
       ≡ (plain_from_here family (Operator kind first) (operator ∷ octet ∷ []) && plain_from_here family (Operator kind false) (drop (at + 1 + size_of operator) body))
@@ -252,15 +252,15 @@ module _ (family : Family) (kind : ℕ) where
           ]
 
 -- octets that are just one prefix
-pub prefix-there : (family : Family) (body : List ℕ) → prefix_end family body 0 ≡ At (length body) → PrefixBody family body
+pub prefix-there : (family : Family) (body : List ℕ) → prefix_end family body 0 ≡ Ok (length body) → PrefixBody family body
 prefix-there family body e =
-    prefix_cases family body 0 (λ end. end ≡ At (length body) → PrefixBody family body) (λ z. apart (cc)) (λ h z. apart (cc))
+    prefix_cases family body 0 (λ end. end ≡ Ok (length body) → PrefixBody family body) (λ z. apart (cc)) (λ h z. apart (cc))
     (λ h k l z.
     let end : 0 + lead_of family + (get_or body 0 0 - offset_at family body 1 + 7) / 8 ≡ length body = cc in
     record { within = k; below = l; begins = prefix-begins family body 0 (length body) e; whole = omega arith })
     e
 
-module _ (family : Family) (body : List ℕ) (alone : prefix_end family body 0 ≡ At (length body)) where
+module _ (family : Family) (body : List ℕ) (alone : prefix_end family body 0 ≡ Ok (length body)) where
   pub prefix-some : 0 < length body
   prefix-some = let whole = (prefix-there family body alone).whole in let lead = lead-some family in omega arith
 
@@ -271,12 +271,12 @@ module _ (family : Family) (body : List ℕ) (alone : prefix_end family body 0 �
   offset-below offset is = rw is (prefix-there family body alone).below
 
 -- a body of a type is a prefix or a list
-module _ (family : Family) (kind : ℕ) (body : List ℕ) (shape : Shape) (is : shape ≡ shape_of family kind) (alone : body_end family kind body 0 ≡ At (length body)) where
-  pub as-prefix : shape.prefix ≡ true → prefix_end family body 0 ≡ At (length body)
+module _ (family : Family) (kind : ℕ) (body : List ℕ) (shape : Shape) (is : shape ≡ shape_of family kind) (alone : body_end family kind body 0 ≡ Ok (length body)) where
+  pub as-prefix : shape.prefix ≡ true → prefix_end family body 0 ≡ Ok (length body)
   unfolding body_end
   as-prefix h = rw (← is, h) at alone
 
-  pub as-list : shape.prefix ≡ false → (pairs_from (shape_of family kind).largest body 0).ending ≡ At (length body)
+  pub as-list : shape.prefix ≡ false → (pairs_from (shape_of family kind).largest body 0).ending ≡ Ok (length body)
   unfolding body_end
   as-list h = let p : (shape_of family kind).prefix ≡ false = ap (λ (s : Shape). s.prefix) (sym is) ∙ h in rw p at alone
 

@@ -12,16 +12,16 @@ use lib.Dec.{eqb}
 use lib.ListN.{length, take, drop}
 use lib.Seq.{take_all, drop_at}
 use borrow.Author.Tests.{le-ltb, eqb-true}
+use Rattle.std.proofs.Common.{Result, Ok, Err}
 use Rattle.octets.proofs.Cases.{by-test, apart}
 use Rattle.octets.proofs.Facts.{Octets, below}
 use Rattle.rule.specs.declared.Family.{Family}
-use Rattle.rule.specs.declared.Checked.TheVariants.{Accepted}
-use Rattle.rule.specs.declared.Reading.{Reading}
-use Rattle.rule.specs.declared.Reading.TheVariants.{Rule, Refused}
-use Rattle.spelling.specs.declared.Writing.TheVariants.{Written}
+use Rattle.rule.specs.declared.Refusal.{Refusal}
+use Rattle.rule.specs.declared.Refusal.TheVariants.{OctetsBehind}
+use Rattle.rule.specs.declared.Span.{Span}
 use Rattle.rule.specs.Value.{most_value, check_value}
 use Rattle.spelling.specs.Plain.{plain}
-use Rattle.rule.specs.Reading.{field_size, field_length, alone, first_rule, one_rule}
+use Rattle.rule.specs.Reading.{field_size, field_length, alone, first_rule, one_rule, span}
 use Rattle.spelling.specs.Writing.{length_field, rule_for, writing, after_writing}
 use Rattle.rule.proofs.ValueLaws.{accepted-small}
 use Rattle.spelling.proofs.PlainLaws.{length-plain}
@@ -66,8 +66,8 @@ value-back family v =
     rw (drop_at (length_field (length v)) (plain family v) (length (length_field (length v))) refl) (take_all (length v) (plain family v) (omega arith))
 
 -- Reading what was written gives the plain value back.
-pub read-written : (family : Family) (v : List ℕ) → check_value family v ≡ Accepted → Octets v
-    → (one_rule family (rule_for family v) ≡ Rule (length (length_field (length v))) (length v))
+pub read-written : (family : Family) (v : List ℕ) → check_value family v ≡ Ok tt → Octets v
+    → (one_rule family (rule_for family v) ≡ Ok (span (length (length_field (length v))) (length v)))
     × (take (length v) (drop (length (length_field (length v))) (rule_for family v)) ≡ plain family v)
 unfolding rule_for
 read-written family v ok o =
@@ -75,56 +75,57 @@ read-written family v ok o =
     let start = length (length_field (length v)) in
     let size = length v in
     let whole = length-rule family v in
-    let value : check_value family (take (start + size - start) (drop start s)) ≡ Accepted
+    let value : check_value family (take (start + size - start) (drop start s)) ≡ Ok tt
     = rw (add-sub_cancel_left start size, value-back family v, check-plain family v o) ok in
-    let read : Rule start size ≡ first_rule family s
+    let read : Ok (span start size) ≡ first_rule family s
     = read-accepted family s start size (sym (field-size-back size (plain family v))) (sym (field-length-back size (plain family v) (accepted-small family v ok)))
     (check_value family (take (start + size - start) (drop start s))) refl (omega arith) value in
     (sym (alone-whole family s (first_rule family s) refl start size (sym read) (sym whole)), value-back family v)
 
 -- the one rule that octets are is all of them
-pub one-whole : (family : Family) (s : List ℕ) (start size : ℕ) → one_rule family s ≡ Rule start size → start + size ≡ length s
+pub one-whole : (family : Family) (s : List ℕ) (start size : ℕ) → one_rule family s ≡ Ok (span start size) → start + size ≡ length s
 unfolding one_rule
 one-whole family s start size e = go (first_rule family s) e
   where
-    go : (r : Reading) → alone (length s) r ≡ Rule start size → start + size ≡ length s
-    go (Rule a b) q =
-        by-test (eqb (a + b) (length s))
+    go : (r : Result Span Refusal) → alone (length s) r ≡ Ok (span start size) → start + size ≡ length s
+    go (Ok read) q =
+        by-test (eqb (read.start + read.size) (length s))
         (λ t.
-        let same : Rule a b ≡ Rule start size = rw t at q in
-        let p : a ≡ start = cc in
-        let r : b ≡ size = cc in
-        rw (← p, ← r) (eqb-true (a + b) (length s) t))
-        (λ t. let other : Refused 15 0 ≡ Rule start size = rw t at q in apart (cc))
-    go (Refused number place) q = apart (cc)
+        let same : Ok (span read.start read.size) ≡ Ok (span start size) = rw t at q in
+        let p : read.start ≡ start = cc in
+        let r : read.size ≡ size = cc in
+        rw (← p, ← r) (eqb-true (read.start + read.size) (length s) t))
+        (λ t. let other : Err OctetsBehind ≡ Ok (span start size) = rw t at q in apart (cc))
+    go (Err refusal) q = apart (cc)
 
 -- an accepted value is written wherever there is room
-pub accepted-written : (family : Family) (v b : List ℕ) → check_value family v ≡ Accepted → length (rule_for family v) ≤ length b
-    → (writing family v (length b) ≡ Written (length (rule_for family v))) × (after_writing family v b ≡ rule_for family v ++ drop (length (rule_for family v)) b)
+pub accepted-written : (family : Family) (v b : List ℕ) → check_value family v ≡ Ok tt → length (rule_for family v) ≤ length b
+    → (writing family v (length b) ≡ Ok (length (rule_for family v))) × (after_writing family v b ≡ rule_for family v ++ drop (length (rule_for family v)) b)
 unfolding writing after_writing
 accepted-written family v b ok room =
     let fits = le-ltb (length b) (length (rule_for family v)) room in
     (rw (ok, fits), rw (ok, fits))
 
-module _ (family : Family) (s : List ℕ) (start size : ℕ) (read : one_rule family s ≡ Rule start size) where
+module _ (family : Family) (s : List ℕ) (start size : ℕ) (read : one_rule family s ≡ Ok (span start size)) where
   -- Writing what was read gives the plain rule, in every buffer that has room.
   pub write_read : (b : List ℕ) → length (rule_for family (take size (drop start s))) ≤ length b
-      → (writing family (take size (drop start s)) (length b) ≡ Written (length (rule_for family (take size (drop start s)))))
+      → (writing family (take size (drop start s)) (length b) ≡ Ok (length (rule_for family (take size (drop start s)))))
       × (after_writing family (take size (drop start s)) b
       ≡ rule_for family (take size (drop start s)) ++ drop (length (rule_for family (take size (drop start s)))) b)
   write_read b room = accepted-written family (take size (drop start s)) b (one-read family s start size read).accepted room
 
   -- What was written is written again as it was.
-  pub write_again : (v : List ℕ) → check_value family v ≡ Accepted → Octets v → s ≡ rule_for family v → rule_for family (take size (drop start s)) ≡ s
+  pub write_again : (v : List ℕ) → check_value family v ≡ Ok tt → Octets v → s ≡ rule_for family v → rule_for family (take size (drop start s)) ≡ s
   write_again v ok o e =
       let back = read-written family v ok o in
-      let same : Rule (length (length_field (length v))) (length v) ≡ Rule start size = sym back.0 ∙ rw e at read in
-      let p : start ≡ length (length_field (length v)) = cc in
-      let q : size ≡ length v = cc in
+      let same : Ok (span (length (length_field (length v))) (length v)) ≡ Ok (span start size) = sym back.0 ∙ rw e at read in
+      let found : span start size ≡ span (length (length_field (length v))) (length v) = cc in
+      let p : start ≡ length (length_field (length v)) = ap (λ (r : Span). r.start) found in
+      let q : size ≡ length v = ap (λ (r : Span). r.size) found in
       rw (p, q, e) (ap (rule_for family) back.1 ∙ rule-for-plain family v o)
 
 -- Two accepted values that are written alike have one plain spelling.
-pub rule-only : (family : Family) (v w : List ℕ) → check_value family v ≡ Accepted → check_value family w ≡ Accepted → rule_for family v ≡ rule_for family w
+pub rule-only : (family : Family) (v w : List ℕ) → check_value family v ≡ Ok tt → check_value family w ≡ Ok tt → rule_for family v ≡ rule_for family w
     → plain family v ≡ plain family w
 unfolding rule_for
 rule-only family v w ok also e =

@@ -13,6 +13,7 @@ use lib.Dec.{leb, ltb}
 use lib.ListN.{length, get_or, take, drop, drop_of_length-le, get_or-eq_default}
 use lib.Seq.{drop-cons, drop-drop, get_or-drop}
 use borrow.Author.Tests.{lt-ltb, lt-leb, leb-false, leb-true, ltb-true, ltb-false}
+use Rattle.std.proofs.Common.{Result, Ok, Err, Option, Some, None}
 use Rattle.octets.specs.Number.{number_at}
 use Rattle.octets.specs.Walk.{Walk, before}
 use Rattle.octets.proofs.Cases.{by-test}
@@ -21,17 +22,9 @@ use Rattle.octets.proofs.NumberLaws.{number-alike, one-octet}
 use Rattle.rule.specs.declared.Family.{Family}
 use Rattle.rule.specs.declared.Shape.{Shape}
 use Rattle.spelling.specs.Plain.{Expected, Head, Kind, Length, Offset, PatternOctet, Operator, Operand, expected_at_start, body_of, pattern_after, operand_after, after, plain_operand, cleared_octet, plain_from, plain}
-use Rattle.rule.specs.declared.NextPair.{NextPair}
-use Rattle.rule.specs.declared.NextPair.TheVariants.{More, Last, Refused as RefusedPair}
-use Rattle.rule.specs.declared.BodyEnd.{BodyEnd}
-use Rattle.rule.specs.declared.BodyEnd.TheVariants.{At, Refused as RefusedBody}
-use Rattle.rule.specs.declared.Next.{Next}
-use Rattle.rule.specs.declared.Next.TheVariants.{Nothing, Another, Refused as RefusedNext}
-use Rattle.rule.specs.declared.Checked.{Checked}
-use Rattle.rule.specs.declared.Checked.TheVariants.{Accepted}
 use Rattle.rule.specs.Shape.{shape_of}
 use Rattle.rule.specs.Operator.{ends_list, size_of}
-use Rattle.rule.specs.Component.{pair_at, Pair, pair_of, pairs_from, lead_of, offset_at, prefix_end, body_end, found, component_at}
+use Rattle.rule.specs.Component.{pair_at, Pair, pair_of, pairs_from, lead_of, offset_at, prefix_end, body_end, found, component_at, located}
 use Rattle.rule.specs.Value.{Component, spelled, between, head_of, at_start, components_from, components, check_value}
 use Rattle.spelling.specs.PlainComponent.{plain_pair, plain_pairs, plain_component}
 use Rattle.rule.proofs.ShapeLaws.{one-octet-or-whole}
@@ -41,6 +34,10 @@ use Rattle.rule.proofs.ValueLaws.{was-found, components-more, components-none, c
 use Rattle.rule.proofs.ComponentsLaws.{spelled-whole}
 use Rattle.spelling.proofs.PlainLaws.{length-plain-from, length-plain, starts-with-kind, starts-with-head, pattern-none, pattern-some, whole-operand, after-length-offset, after-length, after-offset}
 use Rattle.spelling.proofs.ClearedLaws.{size-kept, end_kept}
+use Rattle.rule.specs.declared.NextPair.{NextPair}
+use Rattle.rule.specs.declared.NextPair.TheVariants.{More, Last}
+use Rattle.rule.specs.declared.Refusal.{Refusal}
+use Rattle.rule.specs.declared.Located.{Located}
 
 -- the octet at a place is as expected, where the first is as `start` says: from there on the spelling is that of what is left
 Expects : Family → Expected → List ℕ → ℕ → Expected → Type 0
@@ -109,21 +106,21 @@ module _ (family : Family) (start : Expected) (v : List ℕ) where
       (number-alike n (plain_from family start v) v i (λ j k. octets j k ∙ whole-operand shape.ignored (get_or v (i + j) 0) none)))
       (one-octet-or-whole family kind)
 
-abbrev plain_list : Shape → Bool → Walk Pair BodyEnd → Walk Pair BodyEnd
+abbrev plain_list : Shape → Bool → Walk Pair (Result ℕ Refusal) → Walk Pair (Result ℕ Refusal)
 plain_list shape first w = record { items = plain_pairs shape first w.items; ending = w.ending }
 
 -- what a pair is in the plain spelling, and what is expected behind it
-PairExpects : Family → Expected → List ℕ → ℕ → Bool → ℕ → NextPair → Type 0
-PairExpects family start v kind first at (More next) =
+PairExpects : Family → Expected → List ℕ → ℕ → Bool → ℕ → Result NextPair Refusal → Type 0
+PairExpects family start v kind first at (Ok (More next)) =
     (pair_of (plain_from family start v) at next ≡ plain_pair (shape_of family kind) first (pair_of v at next)) × Expects family start v next (Operator kind false)
-PairExpects family start v kind first at (Last next) =
+PairExpects family start v kind first at (Ok (Last next)) =
     (pair_of (plain_from family start v) at next ≡ plain_pair (shape_of family kind) first (pair_of v at next)) × Expects family start v next Kind
-PairExpects family start v kind first at (RefusedPair number place) = Unit {0}
+PairExpects family start v kind first at (Err refusal) = Unit {0}
 
 -- what is expected at the end of a body
-EndExpects : Family → Expected → List ℕ → BodyEnd → Type 0
-EndExpects family start v (At next) = Expects family start v next Kind
-EndExpects family start v (RefusedBody number place) = Unit {0}
+EndExpects : Family → Expected → List ℕ → Result ℕ Refusal → Type 0
+EndExpects family start v (Ok next) = Expects family start v next Kind
+EndExpects family start v (Err refusal) = Unit {0}
 
 module _ (family : Family) (start : Expected) (v : List ℕ) (o : Octets v) (kind : ℕ) where
   abbrev shape : Shape
@@ -160,7 +157,7 @@ module _ (family : Family) (start : Expected) (v : List ℕ) (o : Octets v) (kin
     pair_then = pair-cases shape.largest v at (PairExpects family start v kind first at) tt (λ h. tt) (λ h u e. (same-pair h u, rw e at (passed h))) (λ h u e. (same-pair h u, rw e at (passed h)))
 
   -- a list in the plain spelling is the list of its pairs in the plain spelling, and a type is expected behind it
-  ListSame : ℕ → Walk Pair BodyEnd → Type 0
+  ListSame : ℕ → Walk Pair (Result ℕ Refusal) → Type 0
   ListSame at w = (first : Bool) → Expects family start v at (Operator kind first)
       → (pairs_from shape.largest (plain_from family start v) at ≡ plain_list shape first w) × EndExpects family start v w.ending
 
@@ -168,16 +165,16 @@ module _ (family : Family) (start : Expected) (v : List ℕ) (o : Octets v) (kin
   unfolding ListSame EndExpects PairExpects
   list_same =
       pairs-ind shape.largest v ListSame
-      (λ at number place e first x. (pairs-refused shape.largest (plain_from family start v) at number place (pair_same at first x ∙ e), tt))
+      (λ at refusal e first x. (pairs-refused shape.largest (plain_from family start v) at refusal (pair_same at first x ∙ e), tt))
       (λ at next e first x.
-      let here = at_pair at first (Last next) e x in
-      (pairs-last shape.largest (plain_from family start v) at next (pair_same at first x ∙ e) ∙ ap (λ (p : Pair). record { items = p ∷ []; ending = At next }) here.0, here.1))
+      let here = at_pair at first (Ok (Last next)) e x in
+      (pairs-last shape.largest (plain_from family start v) at next (pair_same at first x ∙ e) ∙ ap (λ (p : Pair). record { items = p ∷ []; ending = Ok next }) here.0, here.1))
       (λ at next w e h first x.
-      let here = at_pair at first (More next) e x in
+      let here = at_pair at first (Ok (More next)) e x in
       let rest = h false here.1 in
       (pairs-more shape.largest (plain_from family start v) at next (pair_same at first x ∙ e) ∙ ap₂ before here.0 rest.0, rest.1))
     where
-      at_pair : (at : ℕ) (first : Bool) (pair : NextPair) → pair_at shape.largest v at ≡ pair → Expects family start v at (Operator kind first)
+      at_pair : (at : ℕ) (first : Bool) (pair : Result NextPair Refusal) → pair_at shape.largest v at ≡ pair → Expects family start v at (Operator kind first)
           → PairExpects family start v kind first at pair
       at_pair at first pair e x = subst (PairExpects family start v kind first at) e (pair_then at first x)
 
@@ -269,10 +266,10 @@ module _ (family : Family) (start : Expected) (v : List ℕ) where
       ]
 
 -- what is expected behind a component
-NextExpects : Family → Expected → List ℕ → Next → Type 0
-NextExpects family start v Nothing = Unit {0}
-NextExpects family start v (Another kind next) = Expects family start v next Kind
-NextExpects family start v (RefusedNext number place) = Unit {0}
+NextExpects : Family → Expected → List ℕ → Result (Option Located) Refusal → Type 0
+NextExpects family start v (Ok None) = Unit {0}
+NextExpects family start v (Ok (Some found)) = Expects family start v found.next Kind
+NextExpects family start v (Err refusal) = Unit {0}
 
 module _ (family : Family) (start : Expected) (v : List ℕ) (o : Octets v) where
   body_same : (kind at : ℕ) → Expects family start v at (body_of family kind) → (body_end family kind (plain_from family start v) at ≡ body_end family kind v at) × EndExpects family start v (body_end family kind v at)
@@ -280,7 +277,7 @@ module _ (family : Family) (start : Expected) (v : List ℕ) (o : Octets v) wher
   body_same kind at x =
       by-test (shape_of family kind).prefix
       (λ t. let same = prefix_same family start v at (rw t at x) in rw t (same.0, same.1))
-      (λ t. let same = list_same family start v o kind at true (rw t at x) in rw t (ap (λ (w : Walk Pair BodyEnd). w.ending) same.0, same.1))
+      (λ t. let same = list_same family start v o kind at true (rw t at x) in rw t (ap (λ (w : Walk Pair (Result ℕ Refusal)). w.ending) same.0, same.1))
 
   component-same : (at previous : ℕ) → Expects family start v at Kind
       → (component_at family (plain_from family start v) at previous ≡ component_at family v at previous) × NextExpects family start v (component_at family v at previous)
@@ -296,9 +293,9 @@ module _ (family : Family) (start : Expected) (v : List ℕ) (o : Octets v) wher
           by-test (leb (length v) at) (λ t. rw (length-plain-from family start v, t))
           (λ t. let h = leb-false (length v) at t in rw (length-plain-from family start v, t, octet-there family start v at Kind x h, (body h).0))
 
-      then : (e : BodyEnd) → EndExpects family start v e → NextExpects family start v (found (get_or v at 0) e)
-      then (At next) y = y
-      then (RefusedBody number place) y = tt
+      then : (e : Result ℕ Refusal) → EndExpects family start v e → NextExpects family start v (found (get_or v at 0) e)
+      then (Ok next) y = y
+      then (Err refusal) y = tt
 
 -- the offset of a prefix is kept, and its pattern is the pattern in the plain spelling
 module _ (family : Family) (body : List ℕ) (some : 0 < length body) where
@@ -315,7 +312,7 @@ pub pairs-plain : (family : Family) (kind : ℕ) (v : List ℕ) → Octets v →
     (pairs_from shape.largest (plain_from family (Operator kind true) v) 0).items ≡ plain_pairs shape true (pairs_from shape.largest v 0).items
 unfolding ListSame
 pairs-plain family kind v o =
-    ap (λ (w : Walk Pair BodyEnd). w.items) (list_same family (Operator kind true) v o kind 0 true (starts family (Operator kind true) v)).0
+    ap (λ (w : Walk Pair (Result ℕ Refusal)). w.items) (list_same family (Operator kind true) v o kind 0 true (starts family (Operator kind true) v)).0
 
 take-plain : (family : Family) (e : Expected) (n : ℕ) (v : List ℕ) → take n (plain_from family e v) ≡ plain_from family e (take n v)
 unfolding plain_from
@@ -323,11 +320,11 @@ take-plain family e zero v = refl
 take-plain family e (suc n) [] = refl
 take-plain family e (suc n) (x ∷ xs) = ap (λ (l : List ℕ). cleared_octet family e x ∷ l) (take-plain family (after family e x) n xs)
 
-abbrev plain_walk : Family → Walk Component Checked → Walk Component Checked
+abbrev plain_walk : Family → Walk Component (Result Unit Refusal) → Walk Component (Result Unit Refusal)
 plain_walk family w = record { items = map (plain_component family) w.items; ending = w.ending }
 
 module _ (family : Family) (start : Expected) (v : List ℕ) (o : Octets v) where
-  WalkSame : ℕ → ℕ → Walk Component Checked → Type 0
+  WalkSame : ℕ → ℕ → Walk Component (Result Unit Refusal) → Type 0
   WalkSame at previous w = Expects family start v at Kind → components_from family (plain_from family start v) (record { at = at; previous = previous }) ≡ plain_walk family w
 
   walk_same : (at previous : ℕ) → WalkSame at previous (components_from family v (record { at = at; previous = previous }))
@@ -335,15 +332,15 @@ module _ (family : Family) (start : Expected) (v : List ℕ) (o : Octets v) wher
   walk_same =
       components-ind family v WalkSame
       (λ at previous e x. components-none family (plain_from family start v) at previous ((component-same family start v o at previous x).0 ∙ e))
-      (λ at previous number place e x. components-refused family (plain_from family start v) at previous number place ((component-same family start v o at previous x).0 ∙ e))
+      (λ at previous refusal e x. components-refused family (plain_from family start v) at previous refusal ((component-same family start v o at previous x).0 ∙ e))
       (λ at previous kind next w e h x.
       components-more family (plain_from family start v) at previous kind next ((component-same family start v o at previous x).0 ∙ e)
       ∙ ap₂ before (one at previous kind next e x) (h (behind at previous kind next e (component-same family start v o at previous x).1)))
     where
-      behind : (at previous kind next : ℕ) → component_at family v at previous ≡ Another kind next → NextExpects family start v (component_at family v at previous) → Expects family start v next Kind
+      behind : (at previous kind next : ℕ) → component_at family v at previous ≡ Ok (Some (located kind next)) → NextExpects family start v (component_at family v at previous) → Expects family start v next Kind
       behind at previous kind next e x = subst (NextExpects family start v) e x
 
-      one : (at previous kind next : ℕ) → component_at family v at previous ≡ Another kind next → Expects family start v at Kind
+      one : (at previous kind next : ℕ) → component_at family v at previous ≡ Ok (Some (located kind next)) → Expects family start v at Kind
           → record { kind = kind; body = between (plain_from family start v) (at + 1) next } ≡ plain_component family (record { kind = kind; body = between v (at + 1) next })
       one at previous kind next e x =
           let f = was-found family v at previous kind next e in
@@ -421,7 +418,7 @@ module _ (family : Family) (v : List ℕ) (o : Octets v) where
   -- the components of the plain spelling are the components in the plain spelling
   pub components-plain : components family (plain family v) ≡ map (plain_component family) (components family v)
   unfolding components
-  components-plain = ap (λ (w : Walk Component Checked). w.items) same-walk
+  components-plain = ap (λ (w : Walk Component (Result Unit Refusal)). w.items) same-walk
 
   -- a value is accepted exactly when its plain spelling is, and refused with the same number and place
   pub check-plain : check_value family (plain family v) ≡ check_value family v
@@ -429,5 +426,5 @@ module _ (family : Family) (v : List ℕ) (o : Octets v) where
   check-plain = rw (length-plain family v, same-walk)
 
   -- the plain spelling of an accepted value is its head and its components in the plain spelling, one after the other
-  pub plain-whole : check_value family v ≡ Accepted → head_of family v ++ spelled (map (plain_component family) (components family v)) ≡ plain family v
+  pub plain-whole : check_value family v ≡ Ok tt → head_of family v ++ spelled (map (plain_component family) (components family v)) ≡ plain family v
   plain-whole ok = rw (← head-kept family v, ← components-plain) (spelled-whole family (plain family v) (check-plain ∙ ok))

@@ -8,18 +8,17 @@ use lib.Dec.{ltb}
 use lib.ListN.{length, take, drop, set, length-append}
 use lib.Seq.{take_at, drop-drop, drop-append-add}
 use borrow.Author.Tests.{lt-ltb, le-ltb}
+use Rattle.std.proofs.Common.{Result, Ok, Err}
 use Rattle.octets.specs.Store.{stored}
 use Rattle.octets.proofs.Cases.{by-test}
 use Rattle.rule.specs.declared.Family.{Family}
-use Rattle.rule.specs.declared.Checked.{Checked}
-use Rattle.rule.specs.declared.Checked.TheVariants.{Accepted, Refused as RefusedValue}
-use Rattle.spelling.specs.declared.Writing.{Writing}
-use Rattle.spelling.specs.declared.Writing.TheVariants.{Written, Refused}
+use Rattle.rule.specs.declared.Refusal.{Refusal}
+use Rattle.rule.specs.declared.Refusal.TheVariants.{ShortBuffer}
 use Rattle.rule.specs.Value.{check_value}
 use Rattle.spelling.specs.Plain.{plain}
 use Rattle.spelling.specs.Writing.{length_field, rule_for, into_room, filled, writing, after_writing}
-use Rattle.rule.proofs.Refusal.{Refusal, placeless}
 use Rattle.rule.proofs.ValueLaws.{Checks, value-checks}
+use Rattle.rule.proofs.Near.{Near, placeless}
 use Rattle.spelling.proofs.PlainLaws.{length-plain}
 
 -- the length field
@@ -77,46 +76,46 @@ pub front_length : (family : Family) (v zeros work : List ℕ) → work ≡ plai
 front_length family v zeros work w = sym (ap length (front-plain family v zeros work w) ∙ length-plain family v)
 
 module _ (family : Family) (v b : List ℕ) where
-  pub no_room : (field : ℕ) → field ≡ length (length_field (length v)) → length b < field + length v → Refused 16 0 ≡ into_room family v (length b) Accepted
+  pub no_room : (field : ℕ) → field ≡ length (length_field (length v)) → length b < field + length v → Err ShortBuffer ≡ into_room family v (length b) (Ok tt)
   no_room field is h =
       let e = length-rule family v in
       rw (lt-ltb (length b) (length (rule_for family v)) (omega arith))
 
   module _ (field : ℕ) (is : field ≡ length (length_field (length v))) (room : field + length v ≤ length b) where
-    pub room-left : Written (field + length v) ≡ into_room family v (length b) Accepted
+    pub room-left : Ok (field + length v) ≡ into_room family v (length b) (Ok tt)
     room-left =
         let e = length-rule family v in
         let n : length (rule_for family v) ≡ field + length v = omega arith in
         rw (le-ltb (length b) (length (rule_for family v)) (omega arith), n)
 
     pub write-in-a-row : (zeros work first last : List ℕ) → work ≡ plain family v ++ drop (length v) zeros → first ≡ stored b 0 (length_field (length v))
-        → last ≡ stored first field (take (length v) work) → last ≡ filled family v b (Written (field + length v))
+        → last ≡ stored first field (take (length v) work) → last ≡ filled family v b (Ok (field + length v))
     unfolding rule_for
     write-in-a-row zeros work first last w f l =
         l ∙ rw (front-plain family v zeros work w, f, stored-twice b (length_field (length v)) (plain family v) field is (rw (length-plain family v) room), length-plain family v)
 
 -- the writer's answers
-module _ (family : Family) (v b : List ℕ) (checked : Checked) (is : checked ≡ check_value family v) where
-  pub write-accepted : (answer : Writing) (after : List ℕ) → checked ≡ Accepted → answer ≡ into_room family v (length b) Accepted → after ≡ filled family v b answer
+module _ (family : Family) (v b : List ℕ) (checked : Result Unit Refusal) (is : checked ≡ check_value family v) where
+  pub write-accepted : (answer : Result ℕ Refusal) (after : List ℕ) → checked ≡ Ok tt → answer ≡ into_room family v (length b) (Ok tt) → after ≡ filled family v b answer
       → (answer ≡ writing family v (length b)) × (after ≡ after_writing family v b)
   unfolding writing after_writing
   write-accepted answer after e f g = (rw (← is, e) f, rw (← is, e, ← f) g)
 
-  pub write-refused : (number place : ℕ) → checked ≡ RefusedValue number place
-      → (Refused number place ≡ writing family v (length b)) × (b ≡ after_writing family v b)
+  pub write-refused : (refusal : Refusal) → checked ≡ Err refusal
+      → (Err refusal ≡ writing family v (length b)) × (b ≡ after_writing family v b)
   unfolding writing after_writing
-  write-refused number place e = (rw (← is, e), rw (← is, e))
+  write-refused refusal e = (rw (← is, e), rw (← is, e))
 
 -- a writer that refuses has a refusal of 01's table
-abbrev Writes : Writing → Type 0
-Writes (Written octets) = Unit {0}
-Writes (Refused number place) = Refusal number place
+abbrev Writes : Result ℕ Refusal → Type 0
+Writes (Ok octets) = Unit {0}
+Writes (Err refusal) = Near refusal
 
 module _ (family : Family) (v : List ℕ) (room : ℕ) where
-  pub not_written : (number place : ℕ) → writing family v room ≡ Refused number place → Refusal number place
+  pub not_written : (refusal : Refusal) → writing family v room ≡ Err refusal → Near refusal
   unfolding writing
-  not_written number place e = subst Writes e (go (check_value family v) (value-checks family v))
+  not_written refusal e = subst Writes e (go (check_value family v) (value-checks family v))
     where
-      go : (c : Checked) → Checks c → Writes (into_room family v room c)
-      go Accepted h = by-test (ltb room (length (rule_for family v))) (λ t. rw t (placeless 16 (omega arith) (omega arith))) (λ t. rw t tt)
-      go (RefusedValue number place) h = h
+      go : (c : Result Unit Refusal) → Checks c → Writes (into_room family v room c)
+      go (Ok tt) h = by-test (ltb room (length (rule_for family v))) (λ t. rw t (placeless ShortBuffer refl)) (λ t. rw t tt)
+      go (Err refusal) h = h

@@ -1,10 +1,8 @@
 -- Writing one rule from its value (RFC 8955 section 4.1): the length field, then the plain spelling.
-use Rattle.std.specs.Prelude.{ℕ, ◌+◌, ◌/◌, ◌%◌, cond, List, [], ◌∷◌, ◌++◌, ltb, length, drop}
+use Rattle.std.specs.Prelude.{ℕ, ◌+◌, ◌/◌, ◌%◌, cond, List, [], ◌∷◌, ◌++◌, ltb, length, drop, Result, Ok, Err}
 use Rattle.rule.specs.declared.Family.{Family}
-use Rattle.rule.specs.declared.Checked.{Checked}
-use Rattle.rule.specs.declared.Checked.TheVariants.{Accepted, Refused as RefusedValue}
-use Rattle.spelling.specs.declared.Writing.{Writing}
-use Rattle.spelling.specs.declared.Writing.TheVariants.{Written, Refused}
+use Rattle.rule.specs.declared.Refusal.{Refusal}
+use Rattle.rule.specs.declared.Refusal.TheVariants.{ShortBuffer}
 use Rattle.rule.specs.Value.{check_value}
 use Rattle.spelling.specs.Plain.{plain}
 
@@ -17,18 +15,18 @@ unfoldable pub rule_for : Family → List ℕ → List ℕ
 rule_for family v = length_field (length v) ++ plain family v
 
 -- What the writer answers once the value is checked: the rule's size, 16 where that is above `room`, or the value's refusal.
-abbrev pub into_room : Family → List ℕ → ℕ → Checked → Writing
-into_room family v room Accepted = cond (ltb room (length (rule_for family v))) (Refused 16 0) (Written (length (rule_for family v)))
-into_room family v room (RefusedValue number place) = Refused number place
+abbrev pub into_room : Family → List ℕ → ℕ → Result Unit Refusal → Result ℕ Refusal
+into_room family v room (Ok _) = cond (ltb room (length (rule_for family v))) (Err ShortBuffer) (Ok (length (rule_for family v)))
+into_room family v room (Err refusal) = Err refusal
 
 -- What the writer answers for a buffer of `room` octets: 1 to 7, then 16 where the buffer is too short, or how many were written.
-unfoldable pub writing : Family → List ℕ → ℕ → Writing
+unfoldable pub writing : Family → List ℕ → ℕ → Result ℕ Refusal
 writing family v room = into_room family v room (check_value family v)
 
 -- What the buffer holds after an answer: the rule and the rest of the buffer, or all that it held where the writer refused.
-abbrev pub filled : Family → List ℕ → List ℕ → Writing → List ℕ
-filled family v buffer (Written n) = rule_for family v ++ drop n buffer
-filled family v buffer (Refused number place) = buffer
+abbrev pub filled : Family → List ℕ → List ℕ → Result ℕ Refusal → List ℕ
+filled family v buffer (Ok n) = rule_for family v ++ drop n buffer
+filled family v buffer (Err refusal) = buffer
 
 -- What the buffer holds after the writer's call for a value.
 unfoldable pub after_writing : Family → List ℕ → List ℕ → List ℕ

@@ -11,19 +11,11 @@ ghost use Rattle.octets.specs.Store.{stored};
 
 use octets::store;
 use rule::{
-    BodyEnd, Checked, Family, MOST_VALUE, Next, check_value, next_component, offset_at, shape_of,
-    size_of,
+    Family, MOST_VALUE, Refusal, check_value, next_component, offset_at, shape_of, size_of,
 };
 
 // The octets of a working array, in which a plain spelling is built.
 pub const WORKING: usize = MOST_VALUE + 1;
-
-// How many octets were written, or a refusal.
-#[derive(Clone, Copy)]
-pub enum Writing {
-    Written(usize),
-    Refused { number: u8, place: usize },
-}
 
 // ---- Plain spelling ----
 
@@ -70,7 +62,7 @@ pub fn plain_pattern(left: u8, x: u8) -> u8
 
 // Clears the bits past the length of a prefix's body, which only its last octet can have.
 fn clear_prefix(family: Family, body: &mut [u8])
-    requires { prefix_end family body.old 0 ≡ BodyEnd.At (length body.old) }
+    requires { prefix_end family body.old 0 ≡ Ok (length body.old) }
     ensures { body.new ≡ plain_from family Length body.old }
 {
     let bits = body[0] - offset_at(family, body, 1);
@@ -86,7 +78,7 @@ fn clear_prefix(family: Family, body: &mut [u8])
 // Clears the bits of a body of a type that are to be ignored: in a list those of each operator and of the first octet of its value, since
 // a value that loses bits has no other.
 fn clear_body(family: Family, kind: u8, body: &mut [u8])
-    requires { body_end family kind body.old 0 ≡ BodyEnd.At (length body.old) }
+    requires { body_end family kind body.old 0 ≡ Ok (length body.old) }
     ensures { body.new ≡ plain_from family (body_of family kind) body.old }
 {
     let shape = shape_of(family, kind);
@@ -109,30 +101,17 @@ fn clear_body(family: Family, kind: u8, body: &mut [u8])
 
 // Fills the front of a working array with the plain spelling of an accepted value: stores the value there and clears its bodies.
 pub fn fill_plain(family: Family, value: &[u8], work: &mut [u8])
-    requires { (check_value family value.now ≡ Checked.Accepted) × (length value.now ≤ length work.old) }
+    requires { (check_value family value.now ≡ Ok tt) × (length value.now ≤ length work.old) }
     ensures { work.new ≡ plain family value.now ++ drop (length value.now) work.old }
 {
     store(work, 0, value);
     let mut at = family.head;
     let mut previous = 0;
-    loop {
-        match next_component(family, value, at, previous) {
-            Next::Another { kind, next } => {
-                let start = at + 1;
-                clear_body(family, kind, &mut work[start..next]);
-                at = next;
-                previous = kind;
-            }
-            Next::Nothing => {
-                return;
-            }
-            Next::Refused {
-                number: _,
-                place: _,
-            } => {
-                return;
-            }
-        }
+    while let Ok(Some(component)) = next_component(family, value, at, previous) {
+        let start = at + 1;
+        clear_body(family, component.kind, &mut work[start..component.next]);
+        at = component.next;
+        previous = component.kind;
     }
 }
 
@@ -163,32 +142,27 @@ pub fn write_length(size: usize, buffer: &mut [u8])
 }
 
 // Writes an accepted value as a rule in its plain spelling where there is room.
-pub fn write_accepted(family: Family, value: &[u8], buffer: &mut [u8]) -> Writing
-    requires { check_value family value.now ≡ Checked.Accepted }
-    ensures { (result ≡ into_room family value.now (length buffer.old) Checked.Accepted) × (buffer.new ≡ filled family value.now buffer.old result) }
+pub fn write_accepted(family: Family, value: &[u8], buffer: &mut [u8]) -> Result<usize, Refusal>
+    requires { check_value family value.now ≡ Ok tt }
+    ensures { (result ≡ into_room family value.now (length buffer.old) (Ok tt)) × (buffer.new ≡ filled family value.now buffer.old result) }
 {
     let size = value.len();
     let field = field_size_for(size);
     let total = field + size;
     if buffer.len() < total {
-        return Writing::Refused {
-            number: 16,
-            place: 0,
-        };
+        return Err(Refusal::ShortBuffer);
     }
     let mut work = [0u8; WORKING];
     fill_plain(family, value, &mut work);
     write_length(size, buffer);
     store(buffer, field, &work[..size]);
-    Writing::Written(total)
+    Ok(total)
 }
 
 // Writes a value as a rule in its plain spelling, and keeps the rest of the buffer; refused, it changes nothing.
-pub fn write_rule(family: Family, value: &[u8], buffer: &mut [u8]) -> Writing
+pub fn write_rule(family: Family, value: &[u8], buffer: &mut [u8]) -> Result<usize, Refusal>
     ensures { (result ≡ writing family value.now (length buffer.old)) × (buffer.new ≡ after_writing family value.now buffer.old) }
 {
-    match check_value(family, value) {
-        Checked::Accepted => write_accepted(family, value, buffer),
-        Checked::Refused { number, place } => Writing::Refused { number, place },
-    }
+    check_value(family, value)?;
+    write_accepted(family, value, buffer)
 }

@@ -38,6 +38,8 @@ use Rattle.table.proofs.SpliceLaws.{cut-front, gap-front, table-rest, table-reco
 use Rattle.table.proofs.FindLaws.{place-start, place-held, place-absent}
 use Rattle.table.proofs.SoundLaws.{sound-encodes}
 use Rattle.table.proofs.CaseLaws.{entries_without, inserted, removed, changed-room, changed-no-room, changed-held, changed-not-held}
+use Rattle.std.proofs.Common.{Ok, Err}
+use Rattle.rule.specs.declared.Refusal.TheVariants.{NotHeld, NoRoom}
 
 -- cutting out nothing changes nothing
 cut-nothing : (b : List ℕ) (at : ℕ) → cut_out b at 0 ≡ b
@@ -203,8 +205,8 @@ module _ (family : Family) where
 
       -- how `remove_rule` comes to its answers
       module _ (used : ℕ) (all : used ≡ costs cost (entries t)) where
-        pub removes-none : p.end - p.start ≡ 0 → Leaves (changed family t (withdraw k)) (record { number = 14; used = used }) t
-        removes-none h = rw (changed-not-held family t k (not-held h)) (record { number = refl; used = all; table = encoded.is })
+        pub removes-none : p.end - p.start ≡ 0 → Leaves (changed family t (withdraw k)) (record { outcome = Err NotHeld; used = used }) t
+        removes-none h = rw (changed-not-held family t k (not-held h)) (record { outcome = refl; used = all; table = encoded.is })
 
         costs-without : used - (p.end - p.start) ≡ costs cost (entries_without family t k)
         costs-without =
@@ -214,10 +216,10 @@ module _ (family : Family) where
             omega arith
 
         pub removes-held : (exit : List ℕ) → (p.end - p.start ≡ 0 → ⊥) → exit ≡ cut_out t p.start (p.end - p.start)
-            → Leaves (changed family t (withdraw k)) (record { number = 0; used = used - (p.end - p.start) }) exit
+            → Leaves (changed family t (withdraw k)) (record { outcome = Ok tt; used = used - (p.end - p.start) }) exit
         removes-held exit h e =
             let w = was-held exit h e in
-            rw (changed-held family t k w.0) (record { number = refl; used = costs-without; table = w.1 })
+            rw (changed-held family t k w.0) (record { outcome = refl; used = costs-without; table = w.1 })
 
     -- a rule that is not held leaves the table as it was
     pub removed-none : (k : RuleKey) → holds family t k ≡ false → removed family t k ≡ t
@@ -285,11 +287,12 @@ module _ (family : Family) where
               let held = entry_place.held in
               omega arith
 
-          pub no_room : length t < used - (p.end - p.start) + cost x → Leaves (changed family t (announce x true)) (record { number = 11; used = used }) t
+          pub no_room : length t < used - (p.end - p.start) + cost x
+              → Leaves (changed family t (announce x true)) (record { outcome = Err NoRoom; used = used }) t
           unfolding has_room
           no_room h =
               let r = lt-leb (costs cost (insert key_order (entry_key family) x (entries t))) (length t) (rw costs-with h) in
-              rw (changed-no-room family t x r) (record { number = refl; used = all; table = encoded.is })
+              rw (changed-no-room family t x r) (record { outcome = refl; used = all; table = encoded.is })
 
           -- a new rule's record is put into a gap
           added : p.end - p.start ≡ 0 → used - (p.end - p.start) + cost x ≤ length t
@@ -307,9 +310,9 @@ module _ (family : Family) where
 
           pub room_kept : (ready exit : List ℕ) → Fits family → Octets x.value → plain_value family x.value ≡ true → used - (p.end - p.start) + cost x ≤ length t
               → Readied p x ready → exit ≡ stored ready p.start (record_of x)
-              → Leaves (changed family t (announce x true)) (record { number = 0; used = used - (p.end - p.start) + cost x }) exit
+              → Leaves (changed family t (announce x true)) (record { outcome = Ok tt; used = used - (p.end - p.start) + cost x }) exit
           room_kept ready exit fits octets plain h way e =
               ⊎_elim
-              (λ new. let a = added new.0 h in rw (changed-room family t x a.0) (record { number = refl; used = sym costs-with; table = e ∙ rw new.1 a.1 }))
-              (λ old. let a = replaced fits octets plain old.0 in rw (changed-room family t x a.0) (record { number = refl; used = sym costs-with; table = e ∙ rw old.1 a.1 }))
+              (λ new. let a = added new.0 h in rw (changed-room family t x a.0) (record { outcome = refl; used = sym costs-with; table = e ∙ rw new.1 a.1 }))
+              (λ old. let a = replaced fits octets plain old.0 in rw (changed-room family t x a.0) (record { outcome = refl; used = sym costs-with; table = e ∙ rw old.1 a.1 }))
               way

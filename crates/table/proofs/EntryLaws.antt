@@ -18,7 +18,6 @@ use Rattle.rule.specs.Value.{between}
 use Rattle.order.specs.Precedence.{plain_order, precedence}
 use Rattle.order.specs.Key.{keys_of, key_order}
 use Rattle.order.proofs.KeyLaws.{one-order}
-use Rattle.table.specs.declared.NextRecord.TheVariants.{Record}
 use Rattle.action.specs.Possible.{could_be}
 use Rattle.entry.specs.Entry.{Entry, plain_value, possible}
 use Rattle.entry.specs.Record.{length_width, head_cost, entry_of, Measured, good_record}
@@ -27,6 +26,7 @@ use Rattle.table.specs.Sound.{cost}
 use Rattle.entry.proofs.CodecLaws.{good-possible}
 use Rattle.entry.proofs.ValueLaws.{held}
 use Rattle.table.proofs.WalkLaws.{was-found}
+use Rattle.std.proofs.Common.{Ok, Some}
 
 -- the entries from a place on
 abbrev pub entries_from : List ℕ → ℕ → List Entry
@@ -38,7 +38,7 @@ drop-take (suc m) zero l = let z : 0 - suc m ≡ 0 = omega arith in rw z
 drop-take (suc m) (suc n) [] = sym (take-nil (suc n - suc m))
 drop-take (suc m) (suc n) (x ∷ l) = let e : suc n - suc m ≡ n - m = omega arith in rw e (drop-take m n l)
 
-module _ (t : List ℕ) (at next : ℕ) (found : record_at t at ≡ Record next) where
+module _ (t : List ℕ) (at next : ℕ) (found : record_at t at ≡ Ok (Some next)) where
   bounds : (at + head_cost ≤ next) × (next ≤ length t) × (at ≤ length t)
   bounds =
       let f = was-found t at next found in

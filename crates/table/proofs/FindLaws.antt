@@ -12,8 +12,6 @@ use lib.ListN.{length}
 use Rattle.octets.specs.Test.{every}
 use Rattle.octets.specs.Order.{ordered}
 use Rattle.octets.specs.Walk.{Walk}
-use Rattle.octets.specs.declared.Order.{Order}
-use Rattle.octets.specs.declared.Order.TheVariants.{First, Second, Same}
 use Rattle.octets.proofs.Cases.{apart, both}
 use Rattle.octets.proofs.Facts.{Octets}
 use Rattle.octets.proofs.TestLaws.{every-both}
@@ -27,8 +25,6 @@ use Rattle.rule.specs.Value.{between}
 use Rattle.rule.proofs.ComponentsLaws.{octets-between}
 use Rattle.order.specs.Precedence.{plain_order}
 use Rattle.order.specs.Key.{RuleKey, keys_of, key_order}
-use Rattle.table.specs.declared.NextRecord.{NextRecord}
-use Rattle.table.specs.declared.NextRecord.TheVariants.{Nothing, Record, Unsound}
 use Rattle.entry.specs.Entry.{Entry, entry_key, plain_value}
 use Rattle.entry.specs.Record.{head_cost, entry_of, good_record}
 use Rattle.table.specs.Walk.{record_at, records_from, records, entries}
@@ -36,23 +32,27 @@ use Rattle.table.specs.Sound.{most_octets, cost, sound_table}
 use Rattle.table.specs.Place.{place_in}
 use Rattle.table.proofs.WalkLaws.{was-found, records-more, records-end, records-unsound}
 use Rattle.table.proofs.EntryLaws.{entries_from, value_there, cost-there, plain-order, good-value}
+use Rattle.std.proofs.Common.{Result, Ok, Err, Option, Some, None}
+use Rattle.rule.specs.declared.Refusal.{Refusal}
+use Rattle.std.specs.declared.cmp.Ordering.{Ordering as Order}
+use Rattle.std.specs.declared.cmp.Ordering.TheVariants.{Less, Equal, Greater}
 
 items : Walk (List ℕ) Bool → List (List ℕ)
 items w = w.items
 
 -- what is left of a table from a place on
 module _ (t : List ℕ) (at : ℕ) where
-  pub left-more : (next : ℕ) → record_at t at ≡ Record next → entries_from t at ≡ entry_of (between t at next) ∷ entries_from t next
+  pub left-more : (next : ℕ) → record_at t at ≡ Ok (Some next) → entries_from t at ≡ entry_of (between t at next) ∷ entries_from t next
   unfolding items
   left-more next e = ap (map entry_of) (ap items (records-more t at next e))
 
-  pub left_end : record_at t at ≡ Nothing → entries_from t at ≡ []
+  pub left_end : record_at t at ≡ Ok None → entries_from t at ≡ []
   unfolding items
   left_end e = ap (map entry_of) (ap items (records-end t at e))
 
-  pub left-unsound : record_at t at ≡ Unsound → entries_from t at ≡ []
+  pub left-unsound : (refusal : Refusal) → record_at t at ≡ Err refusal → entries_from t at ≡ []
   unfolding items
-  left-unsound e = ap (map entry_of) (ap items (records-unsound t at e))
+  left-unsound refusal e = ap (map entry_of) (ap items (records-unsound t at refusal e))
 
 module _ (family : Family) where
   module _ (t : List ℕ) (at : ℕ) where
@@ -60,7 +60,7 @@ module _ (family : Family) where
     pub Good : Type 0
     Good = every (good_record family) (records_from t at).items ≡ true
 
-    pub good_more : (next : ℕ) → record_at t at ≡ Record next → Good
+    pub good_more : (next : ℕ) → record_at t at ≡ Ok (Some next) → Good
         → (good_record family (between t at next) ≡ true) × (every (good_record family) (records_from t next).items ≡ true)
     unfolding Good items
     good_more next e g =
@@ -89,13 +89,15 @@ module _ (family : Family) where
     unfolding place_in
     nothing_left e = sym (s.so_far ∙ rw e)
 
-    pub search-end : (next : NextRecord) → next ≡ record_at t at → next ≡ Nothing → record { start = at; end = at } ≡ place_in family (keys_of family value) 0 (entries t)
+    pub search-end : (next : Result (Option ℕ) Refusal) → next ≡ record_at t at → next ≡ Ok None
+        → record { start = at; end = at } ≡ place_in family (keys_of family value) 0 (entries t)
     search-end next is e = nothing_left (left_end t at (sym is ∙ e))
 
-    pub search-unsound : (next : NextRecord) → next ≡ record_at t at → next ≡ Unsound → record { start = at; end = at } ≡ place_in family (keys_of family value) 0 (entries t)
-    search-unsound next is e = nothing_left (left-unsound t at (sym is ∙ e))
+    pub search-unsound : (next : Result (Option ℕ) Refusal) → next ≡ record_at t at → (refusal : Refusal) → next ≡ Err refusal
+        → record { start = at; end = at } ≡ place_in family (keys_of family value) 0 (entries t)
+    search-unsound next is refusal e = nothing_left (left-unsound t at refusal (sym is ∙ e))
 
-    module _ (fits : Fits family) (next : ℕ) (found : record_at t at ≡ Record next) (o : Octets t) (p : Octets value) (plain : plain_value family value ≡ true) (order : Order)
+    module _ (fits : Fits family) (next : ℕ) (found : record_at t at ≡ Ok (Some next)) (o : Octets t) (p : Octets value) (plain : plain_value family value ≡ true) (order : Order)
         (is : order ≡ ordered (plain_order family value (between t (at + head_cost) next))) where
       -- the code's order of the values is that of the keys
       by-keys : order ≡ ordered (key_order (keys_of family value) (entry_key family (entry_of (between t at next))))
@@ -115,17 +117,17 @@ module _ (family : Family) where
       decide : (x : Ordering) → key_order (keys_of family value) (entry_key family (entry_of (between t at next))) ≡ x → order ≡ ordered x
       decide x e = by-keys ∙ ap ordered e
 
-      pub search-first : order ≡ First → record { start = at; end = at } ≡ place_in family (keys_of family value) 0 (entries t)
+      pub search-first : order ≡ Less → record { start = at; end = at } ≡ place_in family (keys_of family value) 0 (entries t)
       search-first e =
           by-order (key_order (keys_of family value) (entry_key family (entry_of (between t at next)))) (λ f. sym (here ∙ rw f))
           (λ f. let d = decide Ordering.eq f in apart (cc)) (λ f. let d = decide Ordering.gt f in apart (cc))
 
-      pub search-same : order ≡ Same → record { start = at; end = next } ≡ place_in family (keys_of family value) 0 (entries t)
+      pub search-same : order ≡ Equal → record { start = at; end = next } ≡ place_in family (keys_of family value) 0 (entries t)
       search-same e =
           by-order (key_order (keys_of family value) (entry_key family (entry_of (between t at next)))) (λ f. let d = decide Ordering.lt f in apart (cc))
           (λ f. sym (here ∙ rw f)) (λ f. let d = decide Ordering.gt f in apart (cc))
 
-      pub search-on : order ≡ Second → Searching t value next
+      pub search-on : order ≡ Greater → Searching t value next
       unfolding Good
       search-on e =
           by-order (key_order (keys_of family value) (entry_key family (entry_of (between t at next)))) (λ f. let d = decide Ordering.lt f in apart (cc))

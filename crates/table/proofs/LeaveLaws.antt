@@ -15,30 +15,32 @@ use Rattle.order.specs.Key.{RuleKey, key_order}
 use Rattle.order.proofs.KeyLaws.{key-order}
 use Rattle.entry.specs.Entry.{Entry, entry_key, possible}
 use Rattle.table.specs.declared.Answer.{Answer}
-use Rattle.table.specs.declared.Soundness.{Soundness}
-use Rattle.table.specs.declared.Soundness.TheVariants.{Sound, Unsound}
 use Rattle.table.specs.Walk.{entries}
 use Rattle.table.specs.Sound.{cost, table_of, Encodes, sound_table, soundness}
 use Rattle.table.specs.Change.{Changed, changed, Ready, Leaves}
 use Rattle.table.proofs.SpliceLaws.{length-table}
 use Rattle.table.proofs.SoundLaws.{sound-encodes, encodes-sound, encodes-entries}
+use Rattle.std.proofs.Common.{Result, Ok, Err}
+use Rattle.rule.specs.declared.Refusal.{Refusal}
+use Rattle.rule.specs.declared.Refusal.TheVariants.{UnsoundTable}
 
 -- what the answer on soundness says of a table
-module _ (family : Family) (t : List ℕ) (s : Soundness) (is : s ≡ soundness family t) where
-  pub was-sound : (used : ℕ) → s ≡ Sound used → (sound_table family t ≡ true) × (used ≡ costs cost (entries t))
+module _ (family : Family) (t : List ℕ) (s : Result ℕ Refusal) (is : s ≡ soundness family t) where
+  pub was-sound : (used : ℕ) → s ≡ Ok used → (sound_table family t ≡ true) × (used ≡ costs cost (entries t))
   unfolding soundness
   was-sound used e =
       by-test (sound_table family t)
-      (λ h. let z : Sound used ≡ Sound (costs cost (entries t)) = sym e ∙ is ∙ rw h in (h, cc))
-      (λ h. let z : Sound used ≡ Unsound = sym e ∙ is ∙ rw h in apart (cc))
+      (λ h. let z : Ok used ≡ Ok (costs cost (entries t)) = sym e ∙ is ∙ rw h in (h, cc))
+      (λ h. let z : Ok used ≡ (Err UnsoundTable) = sym e ∙ is ∙ rw h in apart (cc))
 
-  pub was-ready : Fits family → (used : ℕ) → s ≡ Sound used → Ready family t used
+  pub was-ready : Fits family → (used : ℕ) → s ≡ Ok used → Ready family t used
   was-ready fits used e = let h = was-sound used e in record { fits = fits; sound = h.0; all = h.1 }
 
-  pub was-unsound : s ≡ Unsound → sound_table family t ≡ false
+  pub was-unsound : (refusal : Refusal) → s ≡ Err refusal → (sound_table family t ≡ false) × (refusal ≡ UnsoundTable)
   unfolding soundness
-  was-unsound e =
-      by-test (sound_table family t) (λ h. let z : Unsound ≡ Sound (costs cost (entries t)) = sym e ∙ is ∙ rw h in apart (cc)) (λ h. h)
+  was-unsound refusal e =
+      by-test (sound_table family t) (λ h. let z : Err refusal ≡ Ok (costs cost (entries t)) = sym e ∙ is ∙ rw h in apart (cc))
+      (λ h. let z : Err refusal ≡ Err UnsoundTable = sym e ∙ is ∙ rw h in (h, cc))
 
 module _ (family : Family) (t : List ℕ) (es : List Entry) (c : Encodes family t es) (op : Op RuleKey Entry) where
   -- what the call leaves of the entries, for which there is room

@@ -25,11 +25,11 @@ use Rattle.entry.specs.Entry.{Entry, entry_key, possible}
 use Rattle.entry.specs.Record.{length_width, head_cost, record_of, entry_of, good_record}
 use Rattle.entry.proofs.ValueLaws.{is-possible}
 use Rattle.entry.proofs.CodecLaws.{length-record, size_back, read-written, good-written, written_read, good-possible}
-use Rattle.table.specs.declared.NextRecord.TheVariants.{Nothing, Record}
 use Rattle.table.specs.Walk.{record_at, records_from, records, entries}
 use Rattle.table.specs.Sound.{most_octets, cost, records_of, table_of, Encodes, sound_table}
 use Rattle.table.proofs.WalkLaws.{was-found, rest-zero, records-more, records-end, records-ind, at-end, at-record}
 use Rattle.table.proofs.EntryLaws.{length-there, cost-there}
+use Rattle.std.proofs.Common.{Ok, Some, None}
 
 number-zeros : (n m : ℕ) → number_at n (replicate m 0) 0 ≡ 0
 unfolding number_at
@@ -54,10 +54,10 @@ module _ (family : Family) (t : List ℕ) where
   unfolding Laid records_of
   laid = records-ind t Laid ends (λ at e h z g. apart (cc)) more
     where
-      ends : (at : ℕ) → record_at t at ≡ Nothing → Laid at (record { items = []; ending = true })
+      ends : (at : ℕ) → record_at t at ≡ Ok None → Laid at (record { items = []; ending = true })
       ends at e h z g = (all-zero (drop at t) (rest-zero t at e) ∙ rw (length-drop at t, sub-zero (length t - at)), omega arith)
 
-      more : (at next : ℕ) (w : Walk (List ℕ) Bool) → record_at t at ≡ Record next → Laid next w → Laid at (before (between t at next) w)
+      more : (at next : ℕ) (w : Walk (List ℕ) Bool) → record_at t at ≡ Ok (Some next) → Laid next w → Laid at (before (between t at next) w)
       more at next w e rest h z g =
           let f = was-found t at next e in
           let size = f.size in

@@ -10,8 +10,6 @@ use lib.ListN.{length}
 use borrow.Author.Tests.{eq-eqb, ne_eqb, le-leb, lt-leb, eqb-false, not-true, not-false}
 use Rattle.octets.specs.Test.{every}
 use Rattle.octets.specs.Order.{ordered}
-use Rattle.octets.specs.declared.Order.{Order}
-use Rattle.octets.specs.declared.Order.TheVariants.{First}
 use Rattle.octets.proofs.Cases.{by-test, apart}
 use Rattle.octets.proofs.Facts.{Octets}
 use Rattle.sorted.specs.Table.{by_order, below, sorted}
@@ -23,17 +21,18 @@ use Rattle.rule.specs.Value.{between}
 use Rattle.rule.proofs.ComponentsLaws.{octets-between}
 use Rattle.order.specs.Precedence.{plain_order}
 use Rattle.order.specs.Key.{key_order}
-use Rattle.table.specs.declared.NextRecord.{NextRecord}
-use Rattle.table.specs.declared.NextRecord.TheVariants.{Nothing, Record, Unsound}
-use Rattle.table.specs.declared.Soundness.{Soundness}
-use Rattle.table.specs.declared.Soundness.TheVariants.{Sound, Unsound as NotSound}
 use Rattle.entry.specs.Entry.{Entry, entry_key}
 use Rattle.entry.specs.Record.{head_cost, entry_of, good_record}
 use Rattle.table.specs.Walk.{record_at, records_from, records, entries}
 use Rattle.table.specs.Sound.{most_octets, cost, sound_table, soundness}
 use Rattle.table.specs.Follow.{Adjacent, follows_at}
-use Rattle.table.proofs.WalkLaws.{was-found, records-more, records-end, records-unsound}
+use Rattle.table.proofs.WalkLaws.{was-found, one-refusal, records-more, records-end, records-unsound}
 use Rattle.table.proofs.EntryLaws.{entries_from, value_there, cost-there, plain-order, good-value}
+use Rattle.std.proofs.Common.{Result, Ok, Err, Option, Some, None}
+use Rattle.rule.specs.declared.Refusal.{Refusal}
+use Rattle.rule.specs.declared.Refusal.TheVariants.{UnsoundTable}
+use Rattle.std.specs.declared.cmp.Ordering.{Ordering as Order}
+use Rattle.std.specs.declared.cmp.Ordering.TheVariants.{Less}
 
 module _ (family : Family) where
   -- how `follows` comes to its answers
@@ -48,13 +47,13 @@ module _ (family : Family) where
           → order ≡ ordered x
       answer x e = is ∙ ap ordered e
 
-      pub follows-yes : order ≡ First → true ≡ follows_at family t previous at next
+      pub follows-yes : order ≡ Less → true ≡ follows_at family t previous at next
       unfolding follows_at
       follows-yes e =
           by-order (plain_order family (between t (previous + head_cost) at) (between t (at + head_cost) next))
           (λ f. rw (ne_eqb at 0 later, f)) (λ f. let d = answer Ordering.eq f in apart (cc)) (λ f. let d = answer Ordering.gt f in apart (cc))
 
-      pub follows-not : (order ≡ First → ⊥) → false ≡ follows_at family t previous at next
+      pub follows-not : (order ≡ Less → ⊥) → false ≡ follows_at family t previous at next
       unfolding follows_at
       follows-not n =
           by-order (plain_order family (between t (previous + head_cost) at) (between t (at + head_cost) next))
@@ -70,13 +69,13 @@ module _ (family : Family) where
       (records_from t at).ending
       && (every (good_record family) (records_from t at).items && (linked t previous at (entries_from t at) && sorted key_order (entry_key family) (entries_from t at)))
 
-  abbrev answer_at : List ℕ → ℕ → ℕ → Soundness
-  answer_at t previous at = cond (tested t previous at) (Sound (at + costs cost (entries_from t at))) NotSound
+  abbrev answer_at : List ℕ → ℕ → ℕ → Result ℕ Refusal
+  answer_at t previous at = cond (tested t previous at) (Ok (at + costs cost (entries_from t at))) (Err UnsoundTable)
 
   -- the test has come to a place
   pub record Testing (t : List ℕ) (previous at : ℕ) : Type 0 where
     pub within : at ≤ length t
-    pub found : (at ≡ 0 → ⊥) → record_at t previous ≡ Record at
+    pub found : (at ≡ 0 → ⊥) → record_at t previous ≡ Ok (Some at)
     pub good : (at ≡ 0 → ⊥) → good_record family (between t previous at) ≡ true
     pub so_far : soundness family t ≡ answer_at t previous at
 
@@ -90,25 +89,27 @@ module _ (family : Family) where
         so_far = rw (le-leb (length t) most_octets h, zero-add (costs cost (entries_from t 0)));
       }
 
-  pub test-long : (t : List ℕ) → most_octets < length t → NotSound ≡ soundness family t
+  pub test-long : (t : List ℕ) → most_octets < length t → Err UnsoundTable ≡ soundness family t
   unfolding soundness sound_table
   test-long t h = rw (lt-leb (length t) most_octets h)
 
   module _ (t : List ℕ) (previous at : ℕ) (s : Testing t previous at) where
-    pub test-end : (next : NextRecord) → next ≡ record_at t at → next ≡ Nothing → Sound at ≡ soundness family t
+    pub test-end : (next : Result (Option ℕ) Refusal) → next ≡ record_at t at → next ≡ Ok None → Ok at ≡ soundness family t
     unfolding every
     test-end next is e =
         let w = records-end t at (sym is ∙ e) in
         sym (s.so_far ∙ rw w (go (eqb at 0)))
       where
-        go : (b : Bool) → cond (cond b true true && true) (Sound (at + 0)) NotSound ≡ Sound at
-        go true = ap Sound (add-zero at)
-        go false = ap Sound (add-zero at)
+        go : (b : Bool) → cond (cond b true true && true) (Ok (at + 0)) (Err UnsoundTable) ≡ Ok at
+        go true = ap (λ n. Ok n) (add-zero at)
+        go false = ap (λ n. Ok n) (add-zero at)
 
-    pub test-unsound : (next : NextRecord) → next ≡ record_at t at → next ≡ Unsound → NotSound ≡ soundness family t
-    test-unsound next is e = sym (s.so_far ∙ rw (records-unsound t at (sym is ∙ e)))
+    pub test-unsound : (next : Result (Option ℕ) Refusal) → next ≡ record_at t at → (refusal : Refusal) → next ≡ Err refusal
+        → Err refusal ≡ soundness family t
+    test-unsound next is refusal e =
+        ap (λ r. Err r) (one-refusal t at refusal (sym is ∙ e)) ∙ sym (s.so_far ∙ rw (records-unsound t at refusal (sym is ∙ e)))
 
-    module _ (next : ℕ) (here : record_at t at ≡ Record next) where
+    module _ (next : ℕ) (here : record_at t at ≡ Ok (Some next)) where
       bounds : (at + head_cost ≤ next) × (next ≤ length t)
       bounds =
           let f = was-found t at next here in
@@ -131,14 +132,14 @@ module _ (family : Family) where
           → soundness family t ≡ cond ((records_from t next).ending
           && ((good && every (good_record family) (records_from t next).items)
           && (link && (below key_order (entry_key family) (entry_key family (entry_of (between t at next))) (entries_from t next) && sorted key_order (entry_key family) (entries_from t next)))))
-          (Sound (next + costs cost (entries_from t next))) NotSound
+          (Ok (next + costs cost (entries_from t next))) (Err UnsoundTable)
       unfolding every
       taken good link g l =
           let n : at + (cost (entry_of (between t at next)) + costs cost (entries_from t next)) ≡ next + costs cost (entries_from t next)
           = omega (arith, cost-there t at next here) in
           s.so_far ∙ rw (records-more t at next here, g, l, n)
 
-      pub test-bad : (says : Bool) → says ≡ good_record family (between t at next) → not says ≡ true → NotSound ≡ soundness family t
+      pub test-bad : (says : Bool) → says ≡ good_record family (between t at next) → not says ≡ true → Err UnsoundTable ≡ soundness family t
       test-bad says is e =
           sym (taken false _ (sym is ∙ not-true says e) refl ∙ rw (and-false (records_from t next).ending))
 
@@ -162,7 +163,7 @@ module _ (family : Family) where
                 ∙ plain-order family fits (entry_of (between t previous at)).value (entry_of (between t at next)).value (rw a (octets-between t (previous + head_cost) at o))
                 (rw b (octets-between t (at + head_cost) next o)) (good-value family (between t previous at) (s.good n)) (good-value family (between t at next) ok))
 
-        pub test-disorder : (says : Bool) → says ≡ follows_at family t previous at next → not says ≡ true → NotSound ≡ soundness family t
+        pub test-disorder : (says : Bool) → says ≡ follows_at family t previous at next → not says ≡ true → Err UnsoundTable ≡ soundness family t
         test-disorder says is e =
             sym (taken true false ok (sym link-is ∙ sym is ∙ not-true says e)
             ∙ rw (and-false (every (good_record family) (records_from t next).items), and-false (records_from t next).ending))

@@ -1,10 +1,12 @@
 -- What a call does to a sound table. That is said once, of lists of records (`apply` in sorted/specs/History.antt): on octets it is decode,
 -- apply, encode.
-use Rattle.std.specs.Prelude.{ℕ, ◌≡◌, Bool, true, List, leb, length}
+use Rattle.std.specs.Prelude.{ℕ, ◌≡◌, Bool, true, cond, List, leb, eqb, length, Result, Ok}
 use Rattle.sorted.specs.Table.{lookup, insert}
 use Rattle.sorted.specs.History.{Op, costs, is_held, apply}
 use Rattle.rule.specs.declared.Family.{Family}
 use Rattle.rule.specs.Family.{Fits}
+use Rattle.rule.specs.declared.Refusal.{Refusal}
+use Rattle.rule.specs.Refusal.{refused_with}
 use Rattle.order.specs.Key.{RuleKey, key_order}
 use Rattle.entry.specs.Entry.{Entry, entry_key}
 use Rattle.table.specs.declared.Answer.{Answer}
@@ -39,8 +41,12 @@ pub record Ready (family : Family) (t : List ℕ) (used : ℕ) : Type 0 where
   pub sound : sound_table family t ≡ true
   pub all : used ≡ costs cost (entries t)
 
+-- The outcome of a change, by its number; the refusals 8, 11 and 14 carry place 0.
+abbrev pub outcome_of : ℕ → Result Unit Refusal
+outcome_of number = cond (eqb number 0) (Ok tt) (refused_with number 0)
+
 -- What the code answers of a change, and the table that it leaves.
 pub record Leaves (changed : Changed) (answer : Answer) (exit : List ℕ) : Type 0 where
-  pub number : answer.number ≡ changed.number
+  pub outcome : answer.outcome ≡ outcome_of changed.number
   pub used : answer.used ≡ changed.used
   pub table : exit ≡ changed.table

@@ -6,11 +6,12 @@ use Rattle.sorted.specs.Table.{Sorted, sorted}
 use Rattle.sorted.specs.History.{costs}
 use Rattle.rule.specs.declared.Family.{Family}
 use Rattle.order.specs.Key.{key_order}
-use Rattle.table.specs.declared.Soundness.{Soundness}
-use Rattle.table.specs.declared.Soundness.TheVariants.{Sound, Unsound}
 use Rattle.entry.specs.Entry.{Entry, entry_key, possible}
 use Rattle.entry.specs.Record.{head_cost, record_of, good_record}
 use Rattle.table.specs.Walk.{records_from, records, entries}
+use Rattle.std.specs.Prelude.{Result, Ok, Err}
+use Rattle.rule.specs.declared.Refusal.{Refusal}
+use Rattle.rule.specs.declared.Refusal.TheVariants.{UnsoundTable}
 
 -- 01: "A lent buffer of 0 to 65,536 octets."
 abbrev pub most_octets : ℕ
@@ -45,5 +46,5 @@ sound_table family t =
     && ((records_from t 0).ending && (every (good_record family) (records t) && sorted key_order (entry_key family) (entries t)))
 
 -- What the code answers: sound, with the octets that the records take, or not.
-unfoldable pub soundness : Family → List ℕ → Soundness
-soundness family t = cond (sound_table family t) (Sound (costs cost (entries t))) Unsound
+unfoldable pub soundness : Family → List ℕ → Result ℕ Refusal
+soundness family t = cond (sound_table family t) (Ok (costs cost (entries t))) (Err UnsoundTable)

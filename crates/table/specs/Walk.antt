@@ -5,24 +5,25 @@ use Rattle.octets.specs.Number.{number_at}
 use Rattle.octets.specs.Test.{all_zero}
 use Rattle.octets.specs.Walk.{Step, more, stop, Walk, walk}
 use Rattle.rule.specs.Value.{between}
-use Rattle.table.specs.declared.NextRecord.{NextRecord}
-use Rattle.table.specs.declared.NextRecord.TheVariants.{Nothing, Record, Unsound}
 use Rattle.entry.specs.Entry.{Entry}
 use Rattle.entry.specs.Record.{length_width, head_cost, entry_of}
+use Rattle.std.specs.Prelude.{Result, Ok, Err, Option, Some, None}
+use Rattle.rule.specs.declared.Refusal.{Refusal}
+use Rattle.rule.specs.declared.Refusal.TheVariants.{UnsoundTable}
 
 -- What stands at a place: nothing more, where all octets from there on are zero; a record, with the place behind it; or octets that are
 -- neither a record nor all zero.
-unfoldable pub record_at : List ℕ → ℕ → NextRecord
+unfoldable pub record_at : List ℕ → ℕ → Result (Option ℕ) Refusal
 record_at t at =
     let size = number_at length_width t at in
-    cond (eqb size 0) (cond (all_zero (drop at t)) Nothing Unsound)
-    (cond (ltb (length t - at) (head_cost + size)) Unsound (Record (at + (head_cost + size))))
+    cond (eqb size 0) (cond (all_zero (drop at t)) (Ok None) (Err UnsoundTable))
+    (cond (ltb (length t - at) (head_cost + size)) (Err UnsoundTable) (Ok (Some (at + (head_cost + size)))))
 
 -- A step along a table.
-abbrev pub record_step : List ℕ → ℕ → NextRecord → Step ℕ (List ℕ) Bool
-record_step t at Nothing = stop true
-record_step t at (Record next) = more (between t at next) next
-record_step t at Unsound = stop false
+abbrev pub record_step : List ℕ → ℕ → Result (Option ℕ) Refusal → Step ℕ (List ℕ) Bool
+record_step t at (Ok None) = stop true
+record_step t at (Ok (Some next)) = more (between t at next) next
+record_step t at (Err refusal) = stop false
 
 -- The records from a place on, each as its octets, and whether nothing but records and zeros stands there.
 unfoldable pub records_from : List ℕ → ℕ → Walk (List ℕ) Bool

@@ -15,37 +15,29 @@ ghost use Rattle.table.specs.Place.{place_in};
 ghost use Rattle.table.specs.Change.{changed, Ready, Leaves};
 
 use entry::Head;
-use octets::Order;
-use rule::{Checked, Family};
+use rule::{Family, Refusal};
+use std::cmp::Ordering;
 
 // The octets a table's buffer has at most.
 pub const MOST_OCTETS: usize = 65536;
 
-// What stands at a place of a table: nothing more, a record with the place behind it, or neither.
-#[derive(Clone, Copy)]
-pub enum NextRecord {
-    Nothing,
-    Record(usize),
-    Unsound,
-}
-
-// What stands at a place of a table.
-pub fn record_at(table: &[u8], at: usize) -> NextRecord
+// What stands at a place of a table: nothing more, or a record by the place behind it; a table where neither stands is unsound.
+pub fn record_at(table: &[u8], at: usize) -> Result<Option<usize>, Refusal>
     requires { at ≤ length table.now }
     ensures { result ≡ record_at table.now at }
 {
     let size = octets::number_at(entry::LENGTH_WIDTH, table, at) as usize;
     if size == 0 {
         if octets::is_zero(table, at) {
-            return NextRecord::Nothing;
+            return Ok(None);
         }
-        return NextRecord::Unsound;
+        return Err(Refusal::UnsoundTable);
     }
     let cost = entry::HEAD_COST + size;
     if table.len() - at < cost {
-        return NextRecord::Unsound;
+        return Err(Refusal::UnsoundTable);
     }
-    NextRecord::Record(at + cost)
+    Ok(Some(at + cost))
 }
 
 // Where a rule stands in a table: its record's start and the place behind it, equal where the rule is not held.
@@ -55,47 +47,30 @@ pub struct Place {
     pub end: usize,
 }
 
-// Whether a table is sound, and how many octets its records take.
-#[derive(Clone, Copy)]
-pub enum Soundness {
-    Sound(usize),
-    Unsound,
-}
-
 // The place of a rule, by its plain value, in a sound table.
 pub fn find(family: Family, table: &[u8], value: &[u8]) -> Place
     requires { Fits family × ((sound_table family table.now ≡ true) × (plain_value family value.now ≡ true)) }
     ensures { result ≡ place_in family (keys_of family value.now) 0 (entries table.now) }
 {
     let mut at: usize = 0;
-    loop {
-        let next = record_at(table, at);
-        match next {
-            NextRecord::Nothing => {
+    while let Ok(Some(behind)) = record_at(table, at) {
+        let start = at + entry::HEAD_COST;
+        match order::compare_plain(family, value, &table[start..behind]) {
+            Ordering::Less => {
                 return Place { start: at, end: at };
             }
-            NextRecord::Unsound => {
-                return Place { start: at, end: at };
+            Ordering::Equal => {
+                return Place {
+                    start: at,
+                    end: behind,
+                };
             }
-            NextRecord::Record(behind) => {
-                let start = at + entry::HEAD_COST;
-                match order::compare_plain(family, value, &table[start..behind]) {
-                    Order::First => {
-                        return Place { start: at, end: at };
-                    }
-                    Order::Same => {
-                        return Place {
-                            start: at,
-                            end: behind,
-                        };
-                    }
-                    Order::Second => {
-                        at = behind;
-                    }
-                }
+            Ordering::Greater => {
+                at = behind;
             }
         }
     }
+    Place { start: at, end: at }
 }
 
 // Whether the record at a place comes after the one before it; the first record comes after none.
@@ -109,48 +84,39 @@ fn follows(family: Family, table: &[u8], previous: usize, at: usize, next: usize
     let start = previous + entry::HEAD_COST;
     let begin = at + entry::HEAD_COST;
     match order::compare_plain(family, &table[start..at], &table[begin..next]) {
-        Order::First => true,
-        Order::Second => false,
-        Order::Same => false,
+        Ordering::Less => true,
+        Ordering::Greater => false,
+        Ordering::Equal => false,
     }
 }
 
-// Whether a buffer is a sound table: each record is looked at once, beside the one before it, and then the zeros.
-pub fn sound_table(family: Family, table: &[u8]) -> Soundness
+// How many octets the records of a sound table take: each record is looked at once, beside the one before it, and then the zeros.
+pub fn sound_table(family: Family, table: &[u8]) -> Result<usize, Refusal>
     requires { Fits family }
     ensures { result ≡ soundness family table.now }
 {
     if MOST_OCTETS < table.len() {
-        return Soundness::Unsound;
+        return Err(Refusal::UnsoundTable);
     }
     let mut previous: usize = 0;
     let mut at: usize = 0;
-    loop {
-        match record_at(table, at) {
-            NextRecord::Nothing => {
-                return Soundness::Sound(at);
-            }
-            NextRecord::Unsound => {
-                return Soundness::Unsound;
-            }
-            NextRecord::Record(next) => {
-                if !entry::is_good_record(family, &table[at..next]) {
-                    return Soundness::Unsound;
-                }
-                if !follows(family, table, previous, at, next) {
-                    return Soundness::Unsound;
-                }
-                previous = at;
-                at = next;
-            }
+    while let Some(next) = record_at(table, at)? {
+        if !entry::is_good_record(family, &table[at..next]) {
+            return Err(Refusal::UnsoundTable);
         }
+        if !follows(family, table, previous, at, next) {
+            return Err(Refusal::UnsoundTable);
+        }
+        previous = at;
+        at = next;
     }
+    Ok(at)
 }
 
-// What a change of a table answers: the refusal's number, 0 where it is done, and how many octets the records take then.
+// What a change of a table answers: that it is done, or its refusal, and how many octets the records take then.
 #[derive(Clone, Copy)]
 pub struct Answer {
-    pub number: u8,
+    pub outcome: Result<(), Refusal>,
     pub used: usize,
 }
 
@@ -163,11 +129,14 @@ pub fn remove_rule(family: Family, table: &mut [u8], used: usize, value: &[u8]) 
     let start = place.start;
     let size = place.end - start;
     if size == 0 {
-        return Answer { number: 14, used };
+        return Answer {
+            outcome: Err(Refusal::NotHeld),
+            used,
+        };
     }
     octets::cut_out(&mut table[..used], start, size);
     Answer {
-        number: 0,
+        outcome: Ok(()),
         used: used - size,
     }
 }
@@ -190,14 +159,17 @@ pub fn insert_rule(
     let size = entry::HEAD_COST + value.len();
     let after = used - held + size;
     if table.len() < after {
-        return Answer { number: 11, used };
+        return Answer {
+            outcome: Err(Refusal::NoRoom),
+            used,
+        };
     }
     if held == 0 {
         octets::open_gap(&mut table[..after], start, size);
     }
     entry::write_record(table, start, head, value);
     Answer {
-        number: 0,
+        outcome: Ok(()),
         used: after,
     }
 }
@@ -211,7 +183,7 @@ pub fn announce_value(
     feasible: bool,
     value: &[u8],
 ) -> Answer
-    requires { Ready family table.old used × (check_value family value.now ≡ Checked.Accepted) }
+    requires { Ready family table.old used × (check_value family value.now ≡ Ok tt) }
     ensures { Leaves (changed family table.old (announce (entry_for head (plain family value.now)) feasible)) result table.new }
 {
     let size = value.len();
@@ -222,14 +194,14 @@ pub fn announce_value(
     }
     let removed = remove_rule(family, table, used, &work[..size]);
     Answer {
-        number: 8,
+        outcome: Err(Refusal::Infeasible),
         used: removed.used,
     }
 }
 
 // Withdraws an accepted value from a sound table whose records take `used` octets.
 pub fn withdraw_value(family: Family, table: &mut [u8], used: usize, value: &[u8]) -> Answer
-    requires { Ready family table.old used × (check_value family value.now ≡ Checked.Accepted) }
+    requires { Ready family table.old used × (check_value family value.now ≡ Ok tt) }
     ensures { Leaves (changed family table.old (withdraw (keys_of family (plain family value.now)))) result table.new }
 {
     let size = value.len();

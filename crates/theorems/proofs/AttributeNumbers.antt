@@ -9,10 +9,10 @@ use Prim.Native.Nat.{ℕ, ◌<◌, ◌≤◌}
 use native.Mathlib.Omega.{arith}
 use lib.Dec.{leb, eqb}
 use borrow.Author.Tests.{leb-false, lt-leb}
+use Rattle.std.proofs.Common.{Result, Ok, Err}
 use Rattle.octets.specs.Test.{Each}
 use Rattle.rule.specs.declared.Family.{Family}
-use Rattle.rule.specs.declared.Checked.{Checked}
-use Rattle.rule.specs.declared.Checked.TheVariants.{Accepted, Refused}
+use Rattle.rule.specs.declared.Refusal.{Refusal}
 use Rattle.rule.proofs.RefusalsLaws.{Numbered}
 use Rattle.request.specs.Input.{Policy}
 use Rattle.flowspec.specs.Told.{Told, done}
@@ -25,7 +25,6 @@ use Rattle.attribute.specs.Rules.{rules_from}
 use Rattle.attribute.specs.Refusals.{RulesAccepted}
 use Rattle.attribute.proofs.RefusalsLaws.{refused-rules, accepted-rules, rules-numbered}
 use Rattle.update.specs.declared.Reached.{Reached}
-use Rattle.update.specs.declared.Unreached.{Unreached}
 use Rattle.update.specs.Singles.{Reach}
 use Rattle.update.specs.Checks.{reach_checks, unreach_checks}
 use Rattle.update.specs.Apply.{reached_told, unreached_told}
@@ -47,9 +46,9 @@ told-only P cs values none each =
     subst (λ (t : Told). P t.number) (told_of cs (done values)) (decided-ind (λ (t : Told). P t.number) cs _ _ (λ h. none) each)
 
 -- a refusal of 1 to 7 has no number above them
-up-to-seven : (c : Checked) → Numbered c → (one_to_seven c).number ≤ 7
-up-to-seven Accepted h = omega arith
-up-to-seven (Refused number place) h = h.1
+up-to-seven : (c : Result Unit Refusal) → Numbered c → (one_to_seven c).number ≤ 7
+up-to-seven (Ok _) h = omega arith
+up-to-seven (Err refusal) h = h.1
 
 -- what the check of an attribute's rules says: its number is none of the others, and at most 7, and it holds where all rules are accepted
 module _ (family : Family) (a : List ℕ) (head : ℕ) where
@@ -67,7 +66,7 @@ module _ (family : Family) (a : List ℕ) (head : ℕ) where
 
 -- ---- announcing ----
 
-pub reach-numbers : {family : Family} {policy : Policy} {reach : Reach} {table answers : List ℕ} {answer : Reached} {exit words : List ℕ} {kept : List (List ℕ)}
+pub reach-numbers : {family : Family} {policy : Policy} {reach : Reach} {table answers : List ℕ} {answer : Result Reached Refusal} {exit words : List ℕ} {kept : List (List ℕ)}
     → Reaches family policy reach table answers answer exit words kept → ReachNumbers family policy reach table answers (reached_told answer)
 reach-numbers {family} {policy} {reach} {table} {answers} p =
     let a = reach.attribute in
@@ -107,7 +106,7 @@ reach-numbers {family} {policy} {reach} {table} {answers} p =
 
 -- ---- withdrawing ----
 
-pub unreach-numbers : {family : Family} {attribute table answers : List ℕ} {answer : Unreached} {exit words : List ℕ} {kept : List (List ℕ)}
+pub unreach-numbers : {family : Family} {attribute table answers : List ℕ} {answer : Result ℕ Refusal} {exit words : List ℕ} {kept : List (List ℕ)}
     → Unreaches family attribute table answers answer exit words kept → UnreachNumbers family attribute table answers (unreached_told answer)
 unreach-numbers {family} {attribute} {table} {answers} p =
     let cs = unreach_checks family attribute table answers in

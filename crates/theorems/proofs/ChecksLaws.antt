@@ -2,16 +2,18 @@
 -- first that does not hold, and 0 exactly where all hold. Assumes nothing.
 use mathlib.Core.Path.{◌≡◌, refl}
 use mathlib.Core.Bool.{true, false}
+use mathlib.Core.Logic.Iff
 use mathlib.Core.Logic.{◌↔◌}
 use mathlib.Core.List.{List, [], ◌∷◌}
 use Prim.Native.Nat.{ℕ, zero, suc, ◌≤◌}
 use native.Mathlib.Omega.{arith}
 use lib.Dec.{eqb}
 use borrow.Author.Tests.{eqb-false}
+use Rattle.std.proofs.Common.{Result, Ok, Err}
 use Rattle.octets.specs.Test.{Each}
 use Rattle.octets.proofs.Cases.{by-test, apart}
-use Rattle.rule.specs.declared.Checked.{Checked}
-use Rattle.rule.specs.declared.Checked.TheVariants.{Accepted, Refused}
+use Rattle.rule.specs.declared.Refusal.{Refusal}
+use Rattle.rule.specs.Refusal.{RefusedWith}
 use Rattle.flowspec.specs.Told.{Told, done}
 use Rattle.flowspec.specs.Checks.{Check, one_to_seven, AllHold, told}
 
@@ -34,7 +36,7 @@ Only n [] i = ⊥
 Only n (c ∷ cs) zero = (c.number ≡ n) × Without n cs
 Only n (c ∷ cs) (suc i) = (eqb c.number n ≡ false) × Only n cs i
 
-abbrev pub OnlyValue : Checked → ℕ → List Check → ℕ → Type 0
+abbrev pub OnlyValue : Result Unit Refusal → ℕ → List Check → ℕ → Type 0
 OnlyValue v n [] i = ⊥
 OnlyValue v n (c ∷ cs) zero = (c ≡ one_to_seven v) × Without n cs
 OnlyValue v n (c ∷ cs) (suc i) = (eqb c.number n ≡ false) × OnlyValue v n cs i
@@ -59,14 +61,15 @@ module _ (grant : Told) (n : ℕ) (other : grant.number ≡ n → ⊥) where
       (λ h. rw h ((λ e. absurd (eqb-false c.number n a.0 e)), (λ b. let z : false ≡ true = b.0 in apart (cc))))
 
   -- **a refusal of a value is told, with its place, exactly where the value's check refuses so**
-  pub value-at : (v : Checked) (place : ℕ) (cs : List Check) (i : ℕ) → OnlyValue v n cs i
-      → (((told cs grant).number ≡ n) × ((told cs grant).place ≡ place)) ↔ Until cs i (λ c. v ≡ Refused n place)
+  pub value-at : (v : Result Unit Refusal) (place : ℕ) (cs : List Check) (i : ℕ) → OnlyValue v n cs i
+      → (((told cs grant).number ≡ n) × ((told cs grant).place ≡ place)) ↔ Until cs i (λ c. RefusedWith v n place)
   value-at v place [] i a = absurd a
   value-at v place (c ∷ cs) zero a = rw a.0 (go v)
     where
-      go : (w : Checked) → (((told (one_to_seven w ∷ cs) grant).number ≡ n) × ((told (one_to_seven w ∷ cs) grant).place ≡ place)) ↔ (w ≡ Refused n place)
-      go Accepted = ((λ e. absurd (not-told cs a.1 e.0)), (λ b. apart (cc)))
-      go (Refused m p) = ((λ e. rw (e.0, e.1)), (λ b. (cc, cc)))
+      go : (w : Result Unit Refusal)
+          → (((told (one_to_seven w ∷ cs) grant).number ≡ n) × ((told (one_to_seven w ∷ cs) grant).place ≡ place)) ↔ RefusedWith w n place
+      go (Ok _) = ((λ e. absurd (not-told cs a.1 e.0)), (λ b. absurd b))
+      go (Err refusal) = Iff.rfl
   value-at v place (c ∷ cs) (suc i) a =
       by-test c.holds
       (λ h. let rest = value-at v place cs i a.1 in rw h ((λ e. (refl, rest.0 e)), (λ b. rest.1 b.1)))

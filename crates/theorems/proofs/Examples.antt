@@ -2,6 +2,7 @@
 -- nothing.
 use mathlib.Core.Path.{◌≡◌, refl}
 use mathlib.Core.List.{[], ◌∷◌, map}
+use Rattle.std.proofs.Common.{Ok}
 use Rattle.octets.specs.Test.{every, one_holds, same_list}
 use Rattle.octets.specs.Number.{number_at}
 use Rattle.octets.specs.Walk.{walk}
@@ -11,9 +12,8 @@ use Rattle.rule.specs.Shape.{shape_of}
 use Rattle.rule.specs.Component.{pair_at, pairs_from, lead_of, offset_at, prefix_end, body_end, component_at}
 use Rattle.rule.specs.Value.{components_from, components, check_value}
 use Rattle.spelling.specs.Plain.{expected_at_start, body_of, pattern_after, operand_after, after, without_reserved, plain_operator, plain_operand, plain_pattern, cleared_octet, plain_from, plain}
-use Rattle.rule.specs.declared.Reading.TheVariants.{Rule}
 use Rattle.rule.specs.Family.{ipv4}
-use Rattle.rule.specs.Reading.{field_size, field_length, first_rule, one_rule}
+use Rattle.rule.specs.Reading.{field_size, field_length, first_rule, one_rule, span}
 use Rattle.spelling.specs.Writing.{length_field}
 use Rattle.order.specs.Precedence.{body_order, component_order, components_order, plain_order, precedence}
 use Rattle.rate.specs.Rate.{scaled, value_rate, rate_of_parts, rate_of}
@@ -39,7 +39,7 @@ unfolding answer_to scaled value_rate rate_of_parts rate_of
 noted = refl
 
 -- **A rule that is accepted**: the announcement of 01's program, a rule of eleven octets behind a length field of one.
-pub accepted : one_rule ipv4 (0x0b ∷ 0x01 ∷ 0x18 ∷ 0xc0 ∷ 0x00 ∷ 0x02 ∷ 0x03 ∷ 0x81 ∷ 0x06 ∷ 0x04 ∷ 0x81 ∷ 0x19 ∷ []) ≡ Rule 1 11
+pub accepted : one_rule ipv4 (0x0b ∷ 0x01 ∷ 0x18 ∷ 0xc0 ∷ 0x00 ∷ 0x02 ∷ 0x03 ∷ 0x81 ∷ 0x06 ∷ 0x04 ∷ 0x81 ∷ 0x19 ∷ []) ≡ Ok (span 1 11)
 unfolding
     one_rule first_rule field_size field_length check_value components_from component_at body_end prefix_end pairs_from pair_at ends_list size_of shape_of lead_of offset_at walk
 accepted = refl

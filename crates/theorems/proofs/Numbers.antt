@@ -8,25 +8,21 @@ use Prim.Native.Nat.{ℕ, ◌<◌, ◌≤◌}
 use native.Mathlib.Omega.{arith}
 use lib.Dec.{eqb}
 use borrow.Author.Tests.{ne_eqb, not-false}
-use Rattle.std.proofs.Common.{Option}
+use Rattle.std.proofs.Common.{Result, Ok, Err, Option}
+use Rattle.std.specs.declared.cmp.Ordering.{Ordering as Order}
 use Rattle.octets.proofs.Cases.{apart}
 use Rattle.rule.specs.declared.Family.{Family}
-use Rattle.rule.specs.declared.Checked.{Checked}
-use Rattle.rule.specs.declared.Checked.TheVariants.{Accepted, Refused}
-use Rattle.rule.specs.declared.Reading.{Reading}
-use Rattle.spelling.specs.declared.Writing.{Writing}
+use Rattle.rule.specs.declared.Refusal.{Refusal}
+use Rattle.rule.specs.declared.Span.{Span}
+use Rattle.rule.specs.Refusal.{number_of, RefusedWith}
 use Rattle.rule.specs.Value.{check_value}
 use Rattle.rule.specs.Reading.{check_rule}
 use Rattle.rule.proofs.RefusalsLaws.{Numbered, value-numbered, rule-numbered}
 use Rattle.action.specs.declared.Actions.{Actions}
 use Rattle.packet.specs.Packet.{is_unusable}
+use Rattle.table.specs.declared.Place.{Place}
 use Rattle.route.specs.declared.Origin.{Origin}
-use Rattle.order.specs.declared.Comparison.{Comparison}
-use Rattle.flowspec.specs.declared.Feasibility.{Feasibility}
-use Rattle.flowspec.specs.declared.Announced.{Announced}
-use Rattle.flowspec.specs.declared.Withdrawn.{Withdrawn}
-use Rattle.flowspec.specs.declared.Looked.{Looked}
-use Rattle.flowspec.specs.declared.MatchPlace.{MatchPlace}
+use Rattle.lookup.specs.declared.Matched.{Matched}
 use Rattle.request.specs.Input.{Announcement, Policy}
 use Rattle.flowspec.specs.Told.{done, reading_told, writing_told, comparison_told, feasibility_told, actions_told, announced_told, withdrawn_told, lookup_told, match_place_told}
 use Rattle.flowspec.specs.Checks.{Check, check, one_to_seven, told, ends_there, read_checks, write_checks, compare_checks, compare_values, judge_checks, actions_checks, announce_checks, withdraw_checks, lookup_checks, lookup_values, first_match_values}
@@ -35,13 +31,13 @@ use Rattle.flowspec.specs.Promise.{ReadsOne, WritesOne, ComparesTwo, JudgesOne, 
 use Rattle.theorems.proofs.ChecksLaws.{number_at, value-at, all_hold}
 
 -- a refusal of 1 to 7 has no other check's number, and not 0
-pub other : (c : Checked) → Numbered c → (n : ℕ) → 7 < n → eqb (one_to_seven c).number n ≡ false
-other Accepted h n k = ne_eqb 0 n (λ e. omega arith)
-other (Refused number place) h n k = ne_eqb number n (λ e. omega arith)
+pub other : (c : Result Unit Refusal) → Numbered c → (n : ℕ) → 7 < n → eqb (one_to_seven c).number n ≡ false
+other (Ok _) h n k = ne_eqb 0 n (λ e. omega arith)
+other (Err refusal) h n k = ne_eqb (number_of refusal) n (λ e. omega arith)
 
-pub given : (c : Checked) → Numbered c → (one_to_seven c).holds ≡ false → 1 ≤ (one_to_seven c).number
-given Accepted h e = apart (cc)
-given (Refused number place) h e = h.0
+pub given : (c : Result Unit Refusal) → Numbered c → (one_to_seven c).holds ≡ false → 1 ≤ (one_to_seven c).number
+given (Ok _) h e = apart (cc)
+given (Err refusal) h e = h.0
 
 -- a number from 1 to 7 is none of the others
 pub far : (m n : ℕ) → n ≤ 7 → 7 < m → eqb m n ≡ false
@@ -66,7 +62,7 @@ actions-numbers {communities} p =
 
 -- ---- reading ----
 
-pub read-numbers : {family : Family} {rule : List ℕ} {answer : Reading} {kept : List (List ℕ)} → ReadsOne family rule answer kept → ReadNumbers family rule (reading_told answer)
+pub read-numbers : {family : Family} {rule : List ℕ} {answer : Result Span Refusal} {kept : List (List ℕ)} → ReadsOne family rule answer kept → ReadNumbers family rule (reading_told answer)
 read-numbers {family} {rule} p =
     rw p.tells (record {
       one-to-seven = λ number place h k. value-at (done _) number (λ e. omega arith) (check_rule family rule) place (read_checks family rule) 0 (refl, (far 15 number k (omega arith), tt));
@@ -76,7 +72,7 @@ read-numbers {family} {rule} p =
 
 -- ---- writing ----
 
-pub write-numbers : {family : Family} {value buffer : List ℕ} {answer : Writing} {exit : List ℕ} {kept : List (List ℕ)} → WritesOne family value buffer answer exit kept
+pub write-numbers : {family : Family} {value buffer : List ℕ} {answer : Result ℕ Refusal} {exit : List ℕ} {kept : List (List ℕ)} → WritesOne family value buffer answer exit kept
     → WriteNumbers family value buffer (writing_told answer)
 write-numbers {family} {value} {buffer} p =
     let n = value-numbered family value in
@@ -89,30 +85,30 @@ write-numbers {family} {value} {buffer} p =
 -- ---- comparing ----
 
 -- the checks of two rules, by what each comes to
-module _ (values : List ℕ) (d : Checked) (y : Bool) (right : Numbered d) where
-  abbrev both : Checked → Bool → List Check
+module _ (values : List ℕ) (d : Result Unit Refusal) (y : Bool) (right : Numbered d) where
+  abbrev both : Result Unit Refusal → Bool → List Check
   both c x = one_to_seven c ∷ check x 15 ∷ one_to_seven d ∷ check y 15 ∷ []
 
-  both-seven : (c : Checked) (x : Bool) → Numbered c → OneToSeven (told (both c x) (done values)) (λ number place. (c ≡ Refused number place)
-      ⊎ (Accepts c × (Yes x × (d ≡ Refused number place))))
-  both-seven Accepted true left number place h k =
+  both-seven : (c : Result Unit Refusal) (x : Bool) → Numbered c → OneToSeven (told (both c x) (done values)) (λ number place. RefusedWith c number place
+      ⊎ (Accepts c × (Yes x × RefusedWith d number place)))
+  both-seven (Ok _) true left number place h k =
       let rest = value-at (done values) number (λ e. omega arith) d place (one_to_seven d ∷ check y 15 ∷ []) 0 (refl, (far 15 number k (omega arith), tt)) in
-      ((λ e. inr (refl, (refl, rest.0 e))), ⊎_elim (λ b. apart (cc)) (λ b. rest.1 b.1.1))
-  both-seven Accepted false left number place h k =
-      ((λ e. let z = e.0 in absurd (omega arith)), ⊎_elim (λ b. apart (cc)) (λ b. let z : false ≡ true = b.1.0 in apart (cc)))
-  both-seven (Refused n p) x left number place h k =
-      ((λ e. inl (rw (e.0, e.1))), ⊎_elim (λ b. (cc, cc)) (λ b. let z : false ≡ true = b.0 in apart (cc)))
+      ((λ e. inr (refl, (refl, rest.0 e))), ⊎_elim (λ b. absurd b) (λ b. rest.1 b.1.1))
+  both-seven (Ok _) false left number place h k =
+      ((λ e. let z = e.0 in absurd (omega arith)), ⊎_elim (λ b. absurd b) (λ b. let z : false ≡ true = b.1.0 in apart (cc)))
+  both-seven (Err refusal) x left number place h k =
+      ((λ e. inl e), ⊎_elim (λ b. b) (λ b. let z : false ≡ true = b.0 in apart (cc)))
 
-  both-fifteen : (c : Checked) (x : Bool) → Numbered c
+  both-fifteen : (c : Result Unit Refusal) (x : Bool) → Numbered c
       → ((told (both c x) (done values)).number ≡ 15) ↔ ((Accepts c × No x) ⊎ (Accepts c × (Yes x × (Accepts d × No y))))
-  both-fifteen Accepted true left =
+  both-fifteen (Ok _) true left =
       let rest = number_at (done values) 15 (λ e. omega arith) (one_to_seven d ∷ check y 15 ∷ []) 1 (other d right 15 (omega arith), (refl, tt)) in
       ((λ e. inr (refl, (refl, rest.0 e))), ⊎_elim (λ b. let z : true ≡ false = b.1 in apart (cc)) (λ b. rest.1 b.1.1))
-  both-fifteen Accepted false left = ((λ e. inl (refl, refl)), (λ b. refl))
-  both-fifteen (Refused n p) x left =
+  both-fifteen (Ok _) false left = ((λ e. inl (refl, refl)), (λ b. refl))
+  both-fifteen (Err refusal) x left =
       ((λ e. absurd (omega arith)), ⊎_elim (λ b. let z : false ≡ true = b.0 in apart (cc)) (λ b. let z : false ≡ true = b.0 in apart (cc)))
 
-pub compare-numbers : {family : Family} {first second : List ℕ} {answer : Comparison} {kept : List (List ℕ)} → ComparesTwo family first second answer kept
+pub compare-numbers : {family : Family} {first second : List ℕ} {answer : Result Order Refusal} {kept : List (List ℕ)} → ComparesTwo family first second answer kept
     → CompareNumbers family first second (comparison_told answer)
 compare-numbers {family} {first} {second} p =
     let left = rule-numbered family first in
@@ -125,7 +121,7 @@ compare-numbers {family} {first} {second} p =
 
 -- ---- judging ----
 
-pub judge-numbers : {family : Family} {policy : Policy} {rule : List ℕ} {origin : Origin} {answer : Feasibility} {kept : List (List ℕ)}
+pub judge-numbers : {family : Family} {policy : Policy} {rule : List ℕ} {origin : Origin} {answer : Result Unit Refusal} {kept : List (List ℕ)}
     → JudgesOne family policy rule origin answer kept → JudgeNumbers family policy rule origin (feasibility_told answer)
 judge-numbers {family} {policy} {rule} {origin} p =
     let cs = judge_checks family policy rule origin in
@@ -141,7 +137,7 @@ judge-numbers {family} {policy} {rule} {origin} p =
 
 -- ---- announcing ----
 
-pub announce-numbers : {family : Family} {policy : Policy} {a : Announcement} {table : List ℕ} {answer : Announced} {exit : List ℕ} {kept : List (List ℕ)}
+pub announce-numbers : {family : Family} {policy : Policy} {a : Announcement} {table : List ℕ} {answer : Result ℕ Refusal} {exit : List ℕ} {kept : List (List ℕ)}
     → Announces family policy a table answer exit kept → AnnounceNumbers family policy a table (announced_told answer)
 announce-numbers {family} {policy} {a} {table} p =
     let cs = announce_checks family policy a table in
@@ -171,7 +167,7 @@ announce-numbers {family} {policy} {a} {table} p =
 
 -- ---- withdrawing ----
 
-pub withdraw-numbers : {family : Family} {rule table : List ℕ} {answer : Withdrawn} {exit : List ℕ} {kept : List (List ℕ)} → Withdraws family rule table answer exit kept
+pub withdraw-numbers : {family : Family} {rule table : List ℕ} {answer : Result Unit Refusal} {exit : List ℕ} {kept : List (List ℕ)} → Withdraws family rule table answer exit kept
     → WithdrawNumbers family rule table (withdrawn_told answer)
 withdraw-numbers {family} {rule} {table} p =
     let cs = withdraw_checks family rule table in
@@ -196,10 +192,10 @@ lookup-numbers-of family table packet values =
       zero = all_hold values cs ((λ h. omega arith), ((λ h. omega arith), tt));
     }
 
-pub lookup-numbers : {family : Family} {table packet : List ℕ} {answer : Looked} {kept : List (List ℕ)} → LooksUp family table packet answer kept
+pub lookup-numbers : {family : Family} {table packet : List ℕ} {answer : Result (Option Matched) Refusal} {kept : List (List ℕ)} → LooksUp family table packet answer kept
     → LookupNumbers family table packet (lookup_told answer)
 lookup-numbers {family} {table} {packet} p = rw p.tells (lookup-numbers-of family table packet (lookup_values family table packet))
 
-pub first-match-numbers : {family : Family} {table packet : List ℕ} {answer : MatchPlace} {kept : List (List ℕ)} → LocatesFirst family table packet answer kept
+pub first-match-numbers : {family : Family} {table packet : List ℕ} {answer : Result Place Refusal} {kept : List (List ℕ)} → LocatesFirst family table packet answer kept
     → LookupNumbers family table packet (match_place_told answer)
 first-match-numbers {family} {table} {packet} p = rw p.tells (lookup-numbers-of family table packet (first_match_values family table packet))

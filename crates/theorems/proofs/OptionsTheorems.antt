@@ -4,20 +4,22 @@ use mathlib.Core.Path.{◌≡◌}
 use mathlib.Core.Bool.{cond}
 use mathlib.Core.List.{List}
 use Prim.Native.Nat.{ℕ}
+use Rattle.std.proofs.Common.{Result, Err}
 use Rattle.rule.specs.declared.Family.{Family}
+use Rattle.rule.specs.declared.Refusal.{Refusal}
+use Rattle.rule.specs.declared.Refusal.TheVariants.{UnsoundTable}
+use Rattle.packet.specs.declared.Packet.{Packet}
 use Rattle.packet.specs.Header.{header_words, fragment_field, fragment_offset}
 use Rattle.packet.specs.Packet.{packet_of}
 use Rattle.packet.proofs.Options.{packet_before, five-words, later_same}
 use Rattle.table.specs.Sound.{sound_table}
-use Rattle.lookup.specs.declared.Opening.{Opening}
-use Rattle.lookup.specs.declared.Opening.TheVariants.{Refused as NotOpened}
 use Rattle.lookup.specs.Opening.{opening_of, opening}
 use Rattle.flowspec.specs.Look.{looked_up, looking_up, first_in, first_match}
 
 module _ (family : Family) (four : family.version ≡ 4) (t octets : List ℕ) where
   -- what a lookup began with before the request, by what octets showed then
-  abbrev opening_before : Opening
-  opening_before = cond (sound_table family t) (opening_of (packet_before family octets)) (NotOpened 10)
+  abbrev opening_before : Result Packet Refusal
+  opening_before = cond (sound_table family t) (opening_of (packet_before family octets)) (Err UnsoundTable)
 
   -- the table answers of the packet what it answered, and its first match stands where it stood
   abbrev pub JudgedAsBefore : Type 0

@@ -8,7 +8,7 @@ use mathlib.Core.Option.{Option, none, some}
 use Prim.Native.Nat.{ℕ}
 use native.Mathlib.Omega.{arith}
 use lib.ListN.{length}
-use Rattle.std.proofs.Common.{Option as OptionInCode, Some, None}
+use Rattle.std.proofs.Common.{Result, Ok, Err, Option as OptionInCode, Some, None}
 use Rattle.octets.proofs.Cases.{by-test, apart}
 use Rattle.octets.proofs.Facts.{Octets}
 use Rattle.sorted.specs.Table.{lookup}
@@ -16,16 +16,18 @@ use Rattle.sorted.specs.History.{announce, withdraw}
 use Rattle.sorted.proofs.SplitLaws.{front, rear, skip, front-rear, held-split, remove-split}
 use Rattle.sorted.proofs.MemberLaws.{every_in, found_in, in-found}
 use Rattle.rule.specs.declared.Family.{Family}
-use Rattle.rule.specs.declared.Checked.TheVariants.{Accepted}
-use Rattle.rule.specs.declared.Reading.{Reading}
-use Rattle.rule.specs.declared.Reading.TheVariants.{Rule, Refused as NotRead}
+use Rattle.rule.specs.declared.Refusal.{Refusal}
+use Rattle.rule.specs.declared.Refusal.TheVariants.{Infeasible}
+use Rattle.rule.specs.declared.Span.{Span}
 use Rattle.rule.specs.Family.{Fits}
 use Rattle.spelling.specs.Plain.{plain}
+use Rattle.rule.specs.Refusal.{number_of}
 use Rattle.rule.specs.Value.{check_value}
-use Rattle.rule.specs.Reading.{field_size, field_length, value_of, value_in, check_rule, one_rule}
+use Rattle.rule.specs.Reading.{field_size, field_length, value_of, value_in, check_rule, one_rule, span}
 use Rattle.spelling.proofs.ClearedLaws.{octets-plain, plain-again}
 use Rattle.spelling.proofs.SpellingLaws.{check-plain}
-use Rattle.rule.proofs.ReadingLaws.{one-read, one-refused}
+use Rattle.rule.proofs.ReadingLaws.{one-read}
+use Rattle.rule.proofs.Near.{number-given}
 use Rattle.order.specs.Key.{RuleKey, keys_of, key_order}
 use Rattle.order.proofs.KeyLaws.{key-order, keys-only}
 use Rattle.action.specs.declared.Actions.{Actions}
@@ -39,16 +41,11 @@ use Rattle.table.proofs.SoundLaws.{sound-encodes}
 use Rattle.table.proofs.CaseLaws.{removed, changed-room, changed-no-room, changed-infeasible, changed-held, changed-not-held}
 use Rattle.table.proofs.ChangeLaws.{removed-none, value-octets}
 use Rattle.request.specs.declared.Request.{Request}
-use Rattle.request.specs.declared.Request.TheVariants.{Announce, Refused as NoRequest}
-use Rattle.flowspec.specs.declared.Announced.{Announced}
-use Rattle.flowspec.specs.declared.Announced.TheVariants.{Held, Refused as NotAnnounced}
-use Rattle.flowspec.specs.declared.Withdrawn.{Withdrawn}
-use Rattle.flowspec.specs.declared.Withdrawn.TheVariants.{Done, Refused as NotWithdrawn}
 use Rattle.request.specs.Input.{Announcement, Policy}
 use Rattle.request.specs.Judging.{read_with_routes, is_feasible}
 use Rattle.request.specs.Request.{announced_entry, request_for, request_of}
-use Rattle.flowspec.specs.Announce.{Outcome, outcome, announced_of, announced_by, announcing, withdrawn_of, withdrawn_by, withdrawing}
-use Rattle.flowspec.specs.Told.{Told, done, refused, announced_told}
+use Rattle.flowspec.specs.Announce.{Outcome, outcome, announced_of, announced_by, announcing, withdrawn_by, withdrawing}
+use Rattle.flowspec.specs.Told.{Told, done, refusal_told, announced_told}
 use Rattle.flowspec.specs.Checks.{ends_there, is_sound}
 use Rattle.theorems.specs.Numbers.{Yes, No, Accepts, SoundBoth, OneRule}
 use Rattle.flowspec.specs.Promise.{Announces, Withdraws}
@@ -57,55 +54,53 @@ use Rattle.theorems.proofs.Numbers.{announce-numbers}
 use Rattle.request.proofs.RequestLaws.{octets-value}
 
 -- a withdrawal's outcome leaves the table as it was where it is refused; an announcement's where it is refused with another number than 8
-abbrev Keeps : List ℕ → Outcome Withdrawn → Type 0
-Keeps t o = (number place : ℕ) → o.answer ≡ NotWithdrawn number place → o.table ≡ t
+abbrev Keeps : List ℕ → Outcome (Result Unit Refusal) → Type 0
+Keeps t o = (refusal : Refusal) → o.answer ≡ Err refusal → o.table ≡ t
 
-abbrev KeepsButAt8 : List ℕ → Outcome Announced → Type 0
-KeepsButAt8 t o = (number place : ℕ) → o.answer ≡ NotAnnounced number place → (number ≡ 8 → ⊥) → o.table ≡ t
+abbrev KeepsButAt8 : List ℕ → Outcome (Result ℕ Refusal) → Type 0
+KeepsButAt8 t o = (refusal : Refusal) → o.answer ≡ Err refusal → (number_of refusal ≡ 8 → ⊥) → o.table ≡ t
 
 module _ (family : Family) (t : List ℕ) (sound : sound_table family t ≡ true) where
   announced : (actions : Actions) (e : Entry) (feasible : Bool) → KeepsButAt8 t (outcome (announced_of actions) (changed family t (announce e feasible)))
-  unfolding announced_of
-  announced actions e true number place h n =
-      by-test (has_room family t e) (λ r. let z : Held (notes_of actions) ≡ NotAnnounced number place = rw (changed-room family t e r) at h in apart (cc))
+  announced actions e true refusal h n =
+      by-test (has_room family t e) (λ r. let z : Ok (notes_of actions) ≡ Err refusal = rw (changed-room family t e r) at h in apart (cc))
       (λ r. rw (changed-no-room family t e r) (sym (sound-encodes family t sound).is))
-  announced actions e false number place h n =
-      let z : NotAnnounced 8 0 ≡ NotAnnounced number place = rw (changed-infeasible family t e) at h in
-      let eight : number ≡ 8 = cc in
-      absurd (n eight)
+  announced actions e false refusal h n =
+      let z : Err Infeasible ≡ Err refusal = rw (changed-infeasible family t e) at h in
+      let same : Infeasible ≡ refusal = cc in
+      absurd (n (sym (ap number_of same)))
 
-  withdrew : (k : RuleKey) → Keeps t (outcome withdrawn_of (changed family t (withdraw k)))
-  unfolding withdrawn_of
-  withdrew k number place h =
-      by-test (holds family t k) (λ r. let z : Done ≡ NotWithdrawn number place = rw (changed-held family t k r) at h in apart (cc))
+  withdrew : (k : RuleKey) → Keeps t (outcome (λ answer. answer) (changed family t (withdraw k)))
+  withdrew k refusal h =
+      by-test (holds family t k) (λ r. let z : Ok tt ≡ Err refusal = rw (changed-held family t k r) at h in apart (cc))
       (λ r. rw (changed-not-held family t k r) (sym (sound-encodes family t sound).is))
 
 announce-keeps : (family : Family) (policy : Policy) (a : Announcement) (t : List ℕ) → KeepsButAt8 t (announcing family policy a t)
 unfolding announcing
 announce-keeps family policy a t =
-    by-test (sound_table family t) (λ s. rw s (go s (request_of family policy a))) (λ s. rw s (λ number place h n. refl))
+    by-test (sound_table family t) (λ s. rw s (go s (request_of family policy a))) (λ s. rw s (λ refusal h n. refl))
   where
-    go : sound_table family t ≡ true → (r : Request) → KeepsButAt8 t (announced_by family a t r)
-    go s (Announce start size actions feasible) = announced family t s actions (announced_entry family a start size actions) feasible
-    go s (NoRequest number place) = λ m p h n. refl
+    go : sound_table family t ≡ true → (r : Result Request Refusal) → KeepsButAt8 t (announced_by family a t r)
+    go s (Ok asked) = announced family t s asked.actions (announced_entry family a asked.start asked.size asked.actions) asked.feasible
+    go s (Err refused) = λ refusal h n. refl
 
 withdraw-keeps : (family : Family) (rule t : List ℕ) → Keeps t (withdrawing family rule t)
 unfolding withdrawing
-withdraw-keeps family rule t = by-test (sound_table family t) (λ s. rw s (go s (one_rule family rule))) (λ s. rw s (λ number place h. refl))
+withdraw-keeps family rule t = by-test (sound_table family t) (λ s. rw s (go s (one_rule family rule))) (λ s. rw s (λ refusal h. refl))
   where
-    go : sound_table family t ≡ true → (r : Reading) → Keeps t (withdrawn_by family t rule r)
-    go s (Rule start size) = withdrew family t s (keys_of family (plain family (value_of rule start size)))
-    go s (NotRead number place) = λ m p h. refl
+    go : sound_table family t ≡ true → (r : Result Span Refusal) → Keeps t (withdrawn_by family t rule r)
+    go s (Ok read) = withdrew family t s (keys_of family (plain family (value_of rule read.start read.size)))
+    go s (Err refused) = λ refusal h. refl
 
 -- **No refusal but 8 changes an octet**, of the calls by their promises.
-pub refused-announcement : (family : Family) (policy : Policy) (a : Announcement) (t : List ℕ) (answer : Announced) (exit : List ℕ) (kept : List (List ℕ))
-    → Announces family policy a t answer exit kept → (number place : ℕ) → answer ≡ NotAnnounced number place → (number ≡ 8 → ⊥) → exit ≡ t
-refused-announcement family policy a t answer exit kept p number place e n =
-    p.leaves ∙ announce-keeps family policy a t number place (sym p.is ∙ e) n
+pub refused-announcement : (family : Family) (policy : Policy) (a : Announcement) (t : List ℕ) (answer : Result ℕ Refusal) (exit : List ℕ) (kept : List (List ℕ))
+    → Announces family policy a t answer exit kept → (refusal : Refusal) → answer ≡ Err refusal → (number_of refusal ≡ 8 → ⊥) → exit ≡ t
+refused-announcement family policy a t answer exit kept p refusal e n =
+    p.leaves ∙ announce-keeps family policy a t refusal (sym p.is ∙ e) n
 
-pub refused-withdrawal : (family : Family) (rule t : List ℕ) (answer : Withdrawn) (exit : List ℕ) (kept : List (List ℕ)) → Withdraws family rule t answer exit kept
-    → (number place : ℕ) → answer ≡ NotWithdrawn number place → exit ≡ t
-refused-withdrawal family rule t answer exit kept p number place e = p.leaves ∙ withdraw-keeps family rule t number place (sym p.is ∙ e)
+pub refused-withdrawal : (family : Family) (rule t : List ℕ) (answer : Result Unit Refusal) (exit : List ℕ) (kept : List (List ℕ)) → Withdraws family rule t answer exit kept
+    → (refusal : Refusal) → answer ≡ Err refusal → exit ≡ t
+refused-withdrawal family rule t answer exit kept p refusal e = p.leaves ∙ withdraw-keeps family rule t refusal (sym p.is ∙ e)
 
 -- ---- 8 ----
 
@@ -124,7 +119,7 @@ pub record Without (t value exit : List ℕ) : Type 0 where
   pub is : exit ≡ table_of (length t) (before ++ behind)
 
 -- what taking a value's rule out of a table leaves
-module _ (family : Family) (fits : Fits family) (t : List ℕ) (octets : Octets t) (sound : sound_table family t ≡ true) (v : List ℕ) (o : Octets v) (ok : check_value family v ≡ Accepted) where
+module _ (family : Family) (fits : Fits family) (t : List ℕ) (octets : Octets t) (sound : sound_table family t ≡ true) (v : List ℕ) (o : Octets v) (ok : check_value family v ≡ Ok tt) where
   abbrev key : RuleKey
   key = keys_of family (plain family v)
 
@@ -162,16 +157,16 @@ module _ (family : Family) (fits : Fits family) (t : List ℕ) (octets : Octets 
           })
 
 -- a rule that is accepted and ends there is read
-one-rule-is : (family : Family) (rule : List ℕ) → Accepts (check_rule family rule) → Yes (ends_there rule) → one_rule family rule ≡ Rule (field_size rule) (field_length rule)
+one-rule-is : (family : Family) (rule : List ℕ) → Accepts (check_rule family rule) → Yes (ends_there rule) → one_rule family rule ≡ Ok (span (field_size rule) (field_length rule))
 one-rule-is family rule accepts ends = go (one_rule family rule) refl
   where
-    go : (r : Reading) → one_rule family rule ≡ r → one_rule family rule ≡ Rule (field_size rule) (field_length rule)
-    go (Rule start size) e = let r = one-read family rule start size e in e ∙ rw (r.field, r.tells)
-    go (NotRead number place) e =
+    go : (r : Result Span Refusal) → one_rule family rule ≡ r → one_rule family rule ≡ Ok (span (field_size rule) (field_length rule))
+    go (Ok read) e = let r = one-read family rule read.start read.size e in e ∙ rw (r.field, r.tells)
+    go (Err refusal) e =
         let first = rw e at (read_first family rule [] (done [])) in
-        let told : done [] ≡ refused number place 0 = rw (accepts, ends) at first in
-        let z : 0 ≡ number = ap (λ (x : Told). x.number) told in
-        let listed = one-refused family rule number place e in
+        let told : done [] ≡ refusal_told refusal 0 = rw (accepts, ends) at first in
+        let z : 0 ≡ number_of refusal = ap (λ (x : Told). x.number) told in
+        let listed = number-given refusal in
         absurd (omega arith)
 
 module _ (family : Family) (policy : Policy) (a : Announcement) (t : List ℕ) where
@@ -183,13 +178,13 @@ module _ (family : Family) (policy : Policy) (a : Announcement) (t : List ℕ) w
       rw (sound, routes, one-rule-is family a.rule accepts ends) (go (actions_of a.communities) acts)
     where
       go : (c : OptionInCode Actions) → is_sound c ≡ true
-          → (announced_by family a t (request_for family policy a (Rule (field_size a.rule) (field_length a.rule)) c)).table ≡ removed family t (keys_of family (plain family (value_in a.rule)))
+          → (announced_by family a t (request_for family policy a (Ok (span (field_size a.rule) (field_length a.rule))) c)).table ≡ removed family t (keys_of family (plain family (value_in a.rule)))
       go (Some actions) e = rw (not, changed-infeasible family t (announced_entry family a (field_size a.rule) (field_length a.rule) actions))
       go None e = apart (cc)
 
   -- **8 changes nothing else.** 01: "Refusals change nothing, except that 8 removes a held equal rule": a rule that is not held leaves the table as
   -- it was, and a held one leaves it exactly without that record.
-  pub eight-removes : Fits family → Octets t → Octets a.rule → (answer : Announced) (exit : List ℕ) (kept : List (List ℕ)) → Announces family policy a t answer exit kept
+  pub eight-removes : Fits family → Octets t → Octets a.rule → (answer : Result ℕ Refusal) (exit : List ℕ) (kept : List (List ℕ)) → Announces family policy a t answer exit kept
       → (announced_told answer).number ≡ 8
       → (NotHeld t (plain family (value_in a.rule)) × (exit ≡ t)) ⊎ Without t (plain family (value_in a.rule)) exit
   eight-removes fits octets o answer exit kept p e =

@@ -2,18 +2,15 @@
 use mathlib.Core.Path.{◌≡◌, sym, ◌∙◌}
 use mathlib.Core.List.{List}
 use Prim.Native.Nat.{ℕ}
-use Rattle.std.proofs.Common.{Option}
+use Rattle.std.proofs.Common.{Result, Option}
+use Rattle.std.specs.declared.cmp.Ordering.{Ordering as Order}
 use Rattle.rule.specs.declared.Family.{Family}
-use Rattle.rule.specs.declared.Reading.{Reading}
-use Rattle.spelling.specs.declared.Writing.{Writing}
+use Rattle.rule.specs.declared.Refusal.{Refusal}
+use Rattle.rule.specs.declared.Span.{Span}
 use Rattle.action.specs.declared.Actions.{Actions}
-use Rattle.order.specs.declared.Comparison.{Comparison}
 use Rattle.route.specs.declared.Origin.{Origin}
-use Rattle.flowspec.specs.declared.Feasibility.{Feasibility}
-use Rattle.flowspec.specs.declared.Announced.{Announced}
-use Rattle.flowspec.specs.declared.Withdrawn.{Withdrawn}
-use Rattle.flowspec.specs.declared.Looked.{Looked}
-use Rattle.flowspec.specs.declared.MatchPlace.{MatchPlace}
+use Rattle.table.specs.declared.Place.{Place}
+use Rattle.lookup.specs.declared.Matched.{Matched}
 use Rattle.request.specs.Input.{Announcement, Policy}
 use Rattle.flowspec.specs.Promise.{ReadsOne, WritesOne, ComparesTwo, JudgesOne, ReadsActions, Announces, Withdraws, LooksUp, LocatesFirst, FirstMatches}
 
@@ -22,34 +19,34 @@ pub one-reading-of-actions : (k l : List (List ℕ)) (communities : List ℕ) (a
 one-reading-of-actions k l communities a b p q = (p.is ∙ sym q.is, p.keeps ∙ sym q.keeps)
 
 module _ (family : Family) (k l : List (List ℕ)) where
-  pub one-reading : (rule : List ℕ) (a b : Reading) → ReadsOne family rule a k → ReadsOne family rule b l → (a ≡ b) × (k ≡ l)
+  pub one-reading : (rule : List ℕ) (a b : Result Span Refusal) → ReadsOne family rule a k → ReadsOne family rule b l → (a ≡ b) × (k ≡ l)
   one-reading rule a b p q = (p.is ∙ sym q.is, p.keeps ∙ sym q.keeps)
 
-  pub one-writing : (value buffer : List ℕ) (a b : Writing) (x y : List ℕ) → WritesOne family value buffer a x k → WritesOne family value buffer b y l
+  pub one-writing : (value buffer : List ℕ) (a b : Result ℕ Refusal) (x y : List ℕ) → WritesOne family value buffer a x k → WritesOne family value buffer b y l
       → (a ≡ b) × ((x ≡ y) × (k ≡ l))
   one-writing value buffer a b x y p q = (p.is ∙ sym q.is, (p.leaves ∙ sym q.leaves, p.keeps ∙ sym q.keeps))
 
-  pub one-comparison : (first second : List ℕ) (a b : Comparison) → ComparesTwo family first second a k → ComparesTwo family first second b l → (a ≡ b) × (k ≡ l)
+  pub one-comparison : (first second : List ℕ) (a b : Result Order Refusal) → ComparesTwo family first second a k → ComparesTwo family first second b l → (a ≡ b) × (k ≡ l)
   one-comparison first second a b p q = (p.is ∙ sym q.is, p.keeps ∙ sym q.keeps)
 
-  pub one-judgement : (policy : Policy) (rule : List ℕ) (origin : Origin) (a b : Feasibility) → JudgesOne family policy rule origin a k
+  pub one-judgement : (policy : Policy) (rule : List ℕ) (origin : Origin) (a b : Result Unit Refusal) → JudgesOne family policy rule origin a k
       → JudgesOne family policy rule origin b l → (a ≡ b) × (k ≡ l)
   one-judgement policy rule origin a b p q = (p.is ∙ sym q.is, p.keeps ∙ sym q.keeps)
 
-  pub one-announcement : (policy : Policy) (announcement : Announcement) (table : List ℕ) (a b : Announced) (x y : List ℕ)
+  pub one-announcement : (policy : Policy) (announcement : Announcement) (table : List ℕ) (a b : Result ℕ Refusal) (x y : List ℕ)
       → Announces family policy announcement table a x k → Announces family policy announcement table b y l
       → (a ≡ b) × ((x ≡ y) × (k ≡ l))
   one-announcement policy announcement table a b x y p q =
       (p.is ∙ sym q.is, (p.leaves ∙ sym q.leaves, p.keeps ∙ sym q.keeps))
 
-  pub one-withdrawal : (rule table : List ℕ) (a b : Withdrawn) (x y : List ℕ) → Withdraws family rule table a x k → Withdraws family rule table b y l
+  pub one-withdrawal : (rule table : List ℕ) (a b : Result Unit Refusal) (x y : List ℕ) → Withdraws family rule table a x k → Withdraws family rule table b y l
       → (a ≡ b) × ((x ≡ y) × (k ≡ l))
   one-withdrawal rule table a b x y p q = (p.is ∙ sym q.is, (p.leaves ∙ sym q.leaves, p.keeps ∙ sym q.keeps))
 
-  pub one-lookup : (table packet : List ℕ) (a b : Looked) → LooksUp family table packet a k → LooksUp family table packet b l → (a ≡ b) × (k ≡ l)
+  pub one-lookup : (table packet : List ℕ) (a b : Result (Option Matched) Refusal) → LooksUp family table packet a k → LooksUp family table packet b l → (a ≡ b) × (k ≡ l)
   one-lookup table packet a b p q = (p.is ∙ sym q.is, p.keeps ∙ sym q.keeps)
 
-  pub one-match-place : (table packet : List ℕ) (a b : MatchPlace) → LocatesFirst family table packet a k → LocatesFirst family table packet b l → (a ≡ b) × (k ≡ l)
+  pub one-match-place : (table packet : List ℕ) (a b : Result Place Refusal) → LocatesFirst family table packet a k → LocatesFirst family table packet b l → (a ≡ b) × (k ≡ l)
   one-match-place table packet a b p q = (p.is ∙ sym q.is, p.keeps ∙ sym q.keeps)
 
   -- a first match is settled in its octets and in where it stands

@@ -8,10 +8,13 @@
 use mathlib.Core.Path.{◌≡◌, refl}
 use mathlib.Core.List.{[], ◌∷◌}
 use Prim.Native.Nat.{ℕ}
+use Rattle.std.proofs.Common.{Result, Ok, Err}
 use Rattle.octets.specs.Number.{number_at, octets_of}
 use Rattle.octets.specs.Test.{every, one_holds, all_zero, same_list}
 use Rattle.octets.specs.Walk.{walk}
 use Rattle.prefix.specs.Prefix.{bits, contains, pattern_in, covers_address}
+use Rattle.rule.specs.declared.Refusal.{Refusal}
+use Rattle.rule.specs.declared.Refusal.TheVariants.{Overlong, UnsoundActions, ShortBuffer, UntakenAttribute}
 use Rattle.rule.specs.Component.{pair_at, pairs_from, prefix_end, body_end, component_at, lead_of, offset_at}
 use Rattle.rule.specs.Operator.{ends_list, size_of}
 use Rattle.rule.specs.Shape.{shape_of}
@@ -34,40 +37,38 @@ use Rattle.table.specs.Change.{changed}
 use Rattle.table.specs.Sound.{records_of, table_of, sound_table}
 use Rattle.table.specs.Walk.{record_at, records_from, records, entries}
 use Rattle.request.specs.Request.{request_of}
-use Rattle.flowspec.specs.Announce.{announced_of, announcing, withdrawn_of, withdrawing}
+use Rattle.flowspec.specs.Announce.{announcing, withdrawing}
 use Rattle.request.specs.Judging.{read_with_routes, is_feasible}
 use Rattle.attribute.specs.Head.{afi_of, is_of_family, is_reach, is_unreach}
 use Rattle.attribute.specs.Rules.{rule_at, rules_from}
 use Rattle.update.specs.declared.Reached.{Reached}
-use Rattle.update.specs.declared.Reached.TheVariants.{Done as AllAnnounced, Refused as NotReached}
-use Rattle.update.specs.declared.Unreached.TheVariants.{Done as AllWithdrawn, Refused as NotUnreached}
 use Rattle.update.specs.Singles.{Reach, reach_of}
-use Rattle.update.specs.Apply.{Left, reaching, unreaching}
+use Rattle.update.specs.Apply.{Left, reaching, unreaching, reached}
 use Rattle.theorems.specs.WorkedAttributes.{routed, reach_start, unreach_start, five_rules, five_cut, elsewhere_alone, echo_twice, with_reserved, with_next_hop, of_another, of_vpn, echo_of_another, their_notes, unsound_rate, seven, from_seven, none_held, web_held, both_held, words_lent}
 
 -- a reach on the empty table, with so many words
-abbrev on_empty : Reach → ℕ → Left Reached
+abbrev on_empty : Reach → ℕ → Left (Result Reached Refusal)
 on_empty reach many = reaching ipv4 routed reach none_held (words_lent many)
 
--- a refusal there, with place 0, that leaves table and words as they were
-abbrev refused_with : ℕ → ℕ → Left Reached
-refused_with number many = record { answer = NotReached number 0; table = none_held; words = words_lent many }
+-- a refusal there, that leaves table and words as they were
+abbrev refused_there : Refusal → ℕ → Left (Result Reached Refusal)
+refused_there refusal many = record { answer = Err refusal; table = none_held; words = words_lent many }
 
 -- what each call leaves
 pub record Computed : Type 0 where
-  pub announces : on_empty (from_seven five_rules) 7 ≡ record { answer = AllAnnounced 5 their_notes; table = both_held; words = 0 ∷ 8 ∷ 0 ∷ 11 ∷ 0 ∷ 9 ∷ 9 ∷ [] }
-  pub announces_none : on_empty (from_seven elsewhere_alone) 1 ≡ record { answer = AllAnnounced 1 their_notes; table = none_held; words = 8 ∷ [] }
-  pub withdraws : unreaching ipv4 echo_twice both_held (words_lent 4) ≡ record { answer = AllWithdrawn 2; table = web_held; words = 0 ∷ 14 ∷ 9 ∷ 9 ∷ [] }
-  pub withdraws_none : unreaching ipv4 unreach_start both_held [] ≡ record { answer = AllWithdrawn 0; table = both_held; words = [] }
-  pub reserved : on_empty (from_seven with_reserved) 1 ≡ record { answer = AllAnnounced 1 their_notes; table = web_held; words = 0 ∷ [] }
-  pub next_hop : on_empty (from_seven with_next_hop) 7 ≡ refused_with 19 7
-  pub another_family : on_empty (from_seven of_another) 7 ≡ refused_with 19 7
-  pub another_safi : on_empty (from_seven of_vpn) 7 ≡ refused_with 19 7
-  pub unreach_of_another : unreaching ipv4 echo_of_another both_held (words_lent 4) ≡ record { answer = NotUnreached 19 0; table = both_held; words = words_lent 4 }
-  pub no_rule : on_empty (from_seven reach_start) 7 ≡ refused_with 19 7
-  pub cut : on_empty (from_seven five_cut) 7 ≡ refused_with 1 7
-  pub few_words : on_empty (from_seven five_rules) 4 ≡ refused_with 16 4
-  pub unsound : on_empty (reach_of five_rules seven unsound_rate) 4 ≡ refused_with 13 4
+  pub announces : on_empty (from_seven five_rules) 7 ≡ record { answer = Ok (reached 5 their_notes); table = both_held; words = 0 ∷ 8 ∷ 0 ∷ 11 ∷ 0 ∷ 9 ∷ 9 ∷ [] }
+  pub announces_none : on_empty (from_seven elsewhere_alone) 1 ≡ record { answer = Ok (reached 1 their_notes); table = none_held; words = 8 ∷ [] }
+  pub withdraws : unreaching ipv4 echo_twice both_held (words_lent 4) ≡ record { answer = Ok 2; table = web_held; words = 0 ∷ 14 ∷ 9 ∷ 9 ∷ [] }
+  pub withdraws_none : unreaching ipv4 unreach_start both_held [] ≡ record { answer = Ok 0; table = both_held; words = [] }
+  pub reserved : on_empty (from_seven with_reserved) 1 ≡ record { answer = Ok (reached 1 their_notes); table = web_held; words = 0 ∷ [] }
+  pub next_hop : on_empty (from_seven with_next_hop) 7 ≡ refused_there UntakenAttribute 7
+  pub another_family : on_empty (from_seven of_another) 7 ≡ refused_there UntakenAttribute 7
+  pub another_safi : on_empty (from_seven of_vpn) 7 ≡ refused_there UntakenAttribute 7
+  pub unreach_of_another : unreaching ipv4 echo_of_another both_held (words_lent 4) ≡ record { answer = Err UntakenAttribute; table = both_held; words = words_lent 4 }
+  pub no_rule : on_empty (from_seven reach_start) 7 ≡ refused_there UntakenAttribute 7
+  pub cut : on_empty (from_seven five_cut) 7 ≡ refused_there Overlong 7
+  pub few_words : on_empty (from_seven five_rules) 4 ≡ refused_there ShortBuffer 4
+  pub unsound : on_empty (reach_of five_rules seven unsound_rate) 4 ≡ refused_there UnsoundActions 4
 
 pub computed : Computed
 unfolding
@@ -78,7 +79,7 @@ unfolding
     feasible number_in_words route_at routes_from routes_of plain_prefix rises rising sound_routes of_type smallest first rule_actions
     communities_at actions_of flags_of notes_of first_of smaller_of allowed could_be_limit could_be plain_value possible written_fields read_fields head_numbers record_of
     actions_in entry_of good_record changed records_of table_of sound_table record_at records_from records
-    entries announced_of withdrawn_of request_of announcing withdrawing read_with_routes is_feasible shape_of scaled value_rate rate_of_parts
+    entries request_of announcing withdrawing read_with_routes is_feasible shape_of scaled value_rate rate_of_parts
     rate_of fits_significand is_single rate_given afi_of is_of_family is_reach is_unreach rule_at rules_from reaching unreaching
 computed =
     record {

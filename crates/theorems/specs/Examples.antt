@@ -1,21 +1,19 @@
 -- 01's examples marked P, in one list, and rates with the notes of 2026-05 in another: each asks a definition something and expects numbers
 -- of it. proofs/Examples.antt has one claim about each list.
-use Rattle.std.specs.Prelude.{ℕ, ◌^◌, Bool, true, false, List, [], ◌∷◌, Option, Some, None}
+use Rattle.std.specs.Prelude.{ℕ, ◌^◌, Bool, true, false, List, [], ◌∷◌, Result, Ok, Err, Option, Some, None}
 use Rattle.octets.specs.Order.{ordered}
-use Rattle.rule.specs.declared.Checked.{Checked}
-use Rattle.rule.specs.declared.Checked.TheVariants.{Accepted, Refused}
+use Rattle.rule.specs.declared.Refusal.{Refusal}
 use Rattle.rule.specs.Family.{ipv4}
 use Rattle.rule.specs.Value.{check_value}
 use Rattle.rule.specs.Reading.{field_size, field_length}
+use Rattle.rule.specs.Refusal.{number_of, place_of}
 use Rattle.spelling.specs.Writing.{length_field}
 use Rattle.order.specs.Precedence.{precedence}
 use Rattle.rate.specs.declared.Rate.{Rate}
 use Rattle.rate.specs.Rate.{note_number, rate_of}
-use Rattle.packet.specs.declared.Reading.{Reading as PacketReading}
-use Rattle.packet.specs.declared.Reading.TheVariants.{Usable, Unusable}
+use Rattle.packet.specs.declared.Packet.{Packet}
 use Rattle.packet.specs.Packet.{packet_of}
 use Rattle.matching.specs.Match.{matches}
-use Rattle.order.specs.Compare.{comparison_of}
 use Rattle.flowspec.specs.Told.{comparison_told}
 
 -- What an example asks: how a length is written; the size of a length field and the length it gives; what is said of a value; which of
@@ -29,9 +27,9 @@ pub data Question : Type 0 where
   match : List ℕ → List ℕ → Question
 
 -- A refusal's number and place, 0 and 0 for an accepted value.
-abbrev pub checked_as : Checked → List ℕ
-checked_as Accepted = 0 ∷ 0 ∷ []
-checked_as (Refused number place) = number ∷ place ∷ []
+abbrev pub checked_as : Result Unit Refusal → List ℕ
+checked_as (Ok _) = 0 ∷ 0 ∷ []
+checked_as (Err refusal) = number_of refusal ∷ place_of refusal ∷ []
 
 -- 0, the number that a rate gives and its note, or 13.
 abbrev pub rated_as : Option Rate → List ℕ
@@ -52,7 +50,7 @@ unfoldable pub answer_to : Question → List ℕ
 answer_to (length_written n) = length_field n
 answer_to (length_read s) = field_size s ∷ field_length s ∷ []
 answer_to (value v) = checked_as (check_value ipv4 v)
-answer_to (order v w) = (comparison_told (comparison_of (ordered (precedence ipv4 v w)))).values
+answer_to (order v w) = (comparison_told (Ok (ordered (precedence ipv4 v w)))).values
 answer_to (rate single) = rated_as (rate_of single)
 answer_to (match v packet) = matched_as v (packet_of ipv4 packet)
 

@@ -1,12 +1,12 @@
 -- 01's table of refusals, "given exactly when", call by call: where an answer has each number, and where it has the number 0. That the
 -- answers of the calls are such is shown in proofs/Numbers.antt, from their promises; what a value's own refusals 1 to 7 are is in rule's
 -- specs/Refusals.antt. That the others have place 0 is in each promise's `tells`.
-use Rattle.std.specs.Prelude.{ℕ, ◌≤◌, ◌≡◌, Bool, true, false, List, ◌↔◌, ◌⊎◌, leb, length}
+use Rattle.std.specs.Prelude.{ℕ, ◌≤◌, ◌≡◌, Bool, true, false, List, ◌↔◌, ◌⊎◌, leb, length, Result}
 use Rattle.rule.specs.declared.Family.{Family}
-use Rattle.rule.specs.declared.Checked.{Checked}
-use Rattle.rule.specs.declared.Checked.TheVariants.{Refused}
+use Rattle.rule.specs.declared.Refusal.{Refusal}
 use Rattle.spelling.specs.Plain.{plain}
 use Rattle.rule.specs.Value.{check_value}
+use Rattle.rule.specs.Refusal.{RefusedWith}
 use Rattle.rule.specs.Reading.{value_in, check_rule}
 use Rattle.spelling.specs.Writing.{rule_for}
 use Rattle.order.specs.Key.{keys_of}
@@ -30,7 +30,7 @@ abbrev pub No : Bool → Type 0
 No test = test ≡ false
 
 -- None of the refusals 1 to 7.
-abbrev pub Accepts : Checked → Type 0
+abbrev pub Accepts : Result Unit Refusal → Type 0
 Accepts checked = (one_to_seven checked).holds ≡ true
 
 -- Refusals 1 to 7, each with its place: told exactly where a value is refused so, and what is checked before it holds.
@@ -40,13 +40,13 @@ OneToSeven answer exactly = (number place : ℕ) → 1 ≤ number → number ≤
 
 -- Reading one rule.
 pub record ReadNumbers (family : Family) (rule : List ℕ) (answer : Told) : Type 0 where
-  pub one-to-seven : OneToSeven answer (λ number place. check_rule family rule ≡ Refused number place)
+  pub one-to-seven : OneToSeven answer (λ number place. RefusedWith (check_rule family rule) number place)
   pub fifteen : (answer.number ≡ 15) ↔ (Accepts (check_rule family rule) × No (ends_there rule))
   pub zero : (answer.number ≡ 0) ↔ AllHold (read_checks family rule)
 
 -- Writing one rule.
 pub record WriteNumbers (family : Family) (value buffer : List ℕ) (answer : Told) : Type 0 where
-  pub one-to-seven : OneToSeven answer (λ number place. check_value family value ≡ Refused number place)
+  pub one-to-seven : OneToSeven answer (λ number place. RefusedWith (check_value family value) number place)
   pub sixteen : (answer.number ≡ 16) ↔ (Accepts (check_value family value) × No (leb (length (rule_for family value)) (length buffer)))
   pub zero : (answer.number ≡ 0) ↔ AllHold (write_checks family value buffer)
 
@@ -56,8 +56,8 @@ OneRule family rule then = Accepts (check_rule family rule) × (Yes (ends_there 
 
 -- Comparing two rules.
 pub record CompareNumbers (family : Family) (first second : List ℕ) (answer : Told) : Type 0 where
-  pub one-to-seven : OneToSeven answer (λ number place. (check_rule family first ≡ Refused number place)
-      ⊎ (Accepts (check_rule family first) × (Yes (ends_there first) × (check_rule family second ≡ Refused number place))))
+  pub one-to-seven : OneToSeven answer (λ number place. RefusedWith (check_rule family first) number place
+      ⊎ (Accepts (check_rule family first) × (Yes (ends_there first) × RefusedWith (check_rule family second) number place)))
   pub fifteen : (answer.number ≡ 15) ↔ ((Accepts (check_rule family first) × No (ends_there first))
       ⊎ (Accepts (check_rule family first) × (Yes (ends_there first) × (Accepts (check_rule family second) × No (ends_there second)))))
   pub zero : (answer.number ≡ 0) ↔ AllHold (compare_checks family first second)
@@ -66,7 +66,7 @@ pub record CompareNumbers (family : Family) (first second : List ℕ) (answer : 
 pub record JudgeNumbers (family : Family) (policy : Policy) (rule : List ℕ) (origin : Origin) (answer : Told) : Type 0 where
   pub nine : (answer.number ≡ 9) ↔ No (sound_routes family policy.routes)
   pub one-to-seven : OneToSeven answer
-      (λ number place. Yes (sound_routes family policy.routes) × (check_rule family rule ≡ Refused number place))
+      (λ number place. Yes (sound_routes family policy.routes) × RefusedWith (check_rule family rule) number place)
   pub fifteen : (answer.number ≡ 15)
       ↔ (Yes (sound_routes family policy.routes) × (Accepts (check_rule family rule) × No (ends_there rule)))
   pub eight : (answer.number ≡ 8)
@@ -86,7 +86,7 @@ SoundBoth family policy table then = Yes (sound_table family table) × (Yes (sou
 pub record AnnounceNumbers (family : Family) (policy : Policy) (a : Announcement) (table : List ℕ) (answer : Told) : Type 0 where
   pub ten : (answer.number ≡ 10) ↔ No (sound_table family table)
   pub nine : (answer.number ≡ 9) ↔ (Yes (sound_table family table) × No (sound_routes family policy.routes))
-  pub one-to-seven : OneToSeven answer (λ number place. SoundBoth family policy table (check_rule family a.rule ≡ Refused number place))
+  pub one-to-seven : OneToSeven answer (λ number place. SoundBoth family policy table (RefusedWith (check_rule family a.rule) number place))
   pub fifteen : (answer.number ≡ 15) ↔ SoundBoth family policy table (Accepts (check_rule family a.rule) × No (ends_there a.rule))
   pub thirteen : (answer.number ≡ 13)
       ↔ SoundBoth family policy table (OneRule family a.rule (No (is_sound (actions_of a.communities))))
@@ -101,7 +101,7 @@ pub record AnnounceNumbers (family : Family) (policy : Policy) (a : Announcement
 -- Withdrawing.
 pub record WithdrawNumbers (family : Family) (rule table : List ℕ) (answer : Told) : Type 0 where
   pub ten : (answer.number ≡ 10) ↔ No (sound_table family table)
-  pub one-to-seven : OneToSeven answer (λ number place. Yes (sound_table family table) × (check_rule family rule ≡ Refused number place))
+  pub one-to-seven : OneToSeven answer (λ number place. Yes (sound_table family table) × RefusedWith (check_rule family rule) number place)
   pub fifteen : (answer.number ≡ 15) ↔ (Yes (sound_table family table) × (Accepts (check_rule family rule) × No (ends_there rule)))
   pub fourteen : (answer.number ≡ 14)
       ↔ (Yes (sound_table family table) × OneRule family rule (No (holds family table (keys_of family (plain family (value_in rule))))))

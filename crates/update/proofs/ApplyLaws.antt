@@ -7,41 +7,34 @@ use mathlib.Core.Logic.{◌↔◌}
 use Prim.Native.Nat.{ℕ, ◌^◌, ◌<◌}
 use lib.ListN.{length}
 use borrow.Author.Tests.{leb-true}
-use Rattle.std.proofs.Common.{Option, Some, None}
+use Rattle.std.proofs.Common.{Result, Ok, Err, Option, Some, None}
 use Rattle.octets.specs.Test.{Each}
 use Rattle.octets.proofs.Cases.{by-test, apart}
 use Rattle.octets.proofs.Facts.{Octets}
 use Rattle.rule.specs.declared.Family.{Family}
-use Rattle.rule.specs.declared.Checked.{Checked}
-use Rattle.rule.specs.declared.Checked.TheVariants.{Accepted, Refused as RefusedRule}
 use Rattle.rule.specs.Family.{Fits}
+use Rattle.rule.specs.declared.Refusal.{Refusal}
+use Rattle.rule.specs.Refusal.{refusal_with, refused_with}
+use Rattle.rule.proofs.Near.{refusal-with}
 use Rattle.action.specs.declared.Actions.{Actions}
 use Rattle.action.specs.Actions.{actions_of, notes_of}
 use Rattle.action.proofs.PossibleLaws.{read-possible}
-use Rattle.table.specs.declared.Soundness.{Soundness}
-use Rattle.table.specs.declared.Soundness.TheVariants.{Sound, Unsound}
 use Rattle.table.specs.Sound.{soundness}
 use Rattle.table.proofs.LeaveLaws.{was-sound, was-ready, was-unsound}
 use Rattle.request.specs.Input.{Policy}
-use Rattle.flowspec.specs.Told.{Told, done, refused}
+use Rattle.flowspec.specs.Told.{Told, done, refused, refusal_told}
 use Rattle.flowspec.specs.Checks.{Check, one_to_seven, AllHold, told, is_sound, actions_read}
-use Rattle.attribute.specs.declared.Counted.{Counted}
-use Rattle.attribute.specs.declared.Counted.TheVariants.{Rules as CountedRules, Refused as NotCounted}
 use Rattle.attribute.specs.Head.{reach_head, unreach_head}
 use Rattle.attribute.specs.Rules.{reach_rules, unreach_rules}
-use Rattle.update.specs.declared.Reached.{Reached}
-use Rattle.update.specs.declared.Reached.TheVariants.{Done as AllAnnounced, Refused as NotReached}
-use Rattle.update.specs.declared.Unreached.{Unreached}
-use Rattle.update.specs.declared.Unreached.TheVariants.{Done as AllWithdrawn, Refused as NotUnreached}
-use Rattle.update.specs.declared.RulesRead.{RulesRead}
-use Rattle.update.specs.declared.RulesRead.TheVariants.{Rules, Refused as NotRead}
 use Rattle.update.specs.declared.Task.TheVariants.{Withdraw}
 use Rattle.update.specs.Singles.{Reach, Singles, announcing_one, announcing_each, withdrawing_one, withdrawing_each}
-use Rattle.update.specs.Checks.{reach_count, reach_notes, reach_values, unreach_count, reach_input, unreach_input, reach_checks, unreach_checks}
-use Rattle.update.specs.Apply.{decided, Left, applied_all, refused_whole, reaching, unreaching, reached_told, unreached_told}
+use Rattle.update.specs.Checks.{reach_count, reach_notes, reach_values, unreach_count, reach_input, unreach_input, reach_checks, unreach_checks, rules_read}
+use Rattle.update.specs.Apply.{decided, Left, applied_all, refused_whole, reaching, unreaching, reached_told, unreached_told, reached}
 use Rattle.update.specs.Promise.{Reaches, Unreaches}
 use Rattle.update.specs.Steps.{tasks_from, Prepared, LeavesAll}
 use Rattle.update.proofs.SinglesLaws.{each-length, reach_task, announces-are, withdraws-are}
+use Rattle.update.specs.declared.RulesRead.{RulesRead}
+use Rattle.update.specs.declared.Reached.{Reached}
 
 -- ---- what comes of checks ----
 
@@ -84,21 +77,25 @@ was_granted cs granted refuse answer is never =
     decided-either (λ came. answer ≡ came → AllHold cs × (answer ≡ granted)) cs granted refuse (λ hold e. (hold, e))
     (λ number place e. absurd (never number place e)) is
 
--- **what an answer says** is what its checks come to
-applied-tells : {A : Type 0} (tells : A → Told) (answer_for : ℕ → A) (refuse : ℕ → ℕ → A) (says : ℕ → Told) (many : ℕ) → ((n : ℕ) → tells (answer_for n) ≡ says n)
-    → ((number place : ℕ) → tells (refuse number place) ≡ refused number place many) → ((n : ℕ) → many ≡ length (says n).values)
-    → (cs : List Check) (singles : Singles) (table answers : List ℕ) (count : ℕ) → length singles.numbers ≡ count
-    → tells (decided cs (applied_all answer_for singles answers) (refused_whole refuse table answers)).answer ≡ told cs (says count)
-applied-tells {A} tells answer_for refuse says many grants refuses as_many cs singles table answers count long =
-    decided-of (λ (left : Left A). tells left.answer) cs (applied_all answer_for singles answers) (refused_whole refuse table answers)
-    ∙ rw (grants (length singles.numbers), long)
-    (ap (λ (r : ℕ → ℕ → Told). decided cs (says count) r) (λ i number place. (refuses number place ∙ ap (refused number place) (as_many count)) i)
-    ∙ told_of cs (says count))
+-- **what an answer says** is what its checks come to, where it says of each check's refusal what that check names
+decided-tells : {A : Type 0} (tells : A → Told) (cs : List Check) (granted : A) (refuse : ℕ → ℕ → A) (grant : Told) → tells granted ≡ grant
+    → Each (λ c. c.holds ≡ false → tells (refuse c.number c.place) ≡ refused c.number c.place (length grant.values)) cs
+    → tells (decided cs granted refuse) ≡ told cs grant
+decided-tells tells [] granted refuse grant g r = g
+decided-tells tells (c ∷ cs) granted refuse grant g r =
+    by-test c.holds (λ h. rw h (decided-tells tells cs granted refuse grant g r.1)) (λ h. rw h (r.0 h))
+
+-- the refusal of a value is told as its check names it
+value-tells : (c : Result Unit Refusal) (many : ℕ) → (one_to_seven c).holds ≡ false
+    → refusal_told (refusal_with (one_to_seven c).number (one_to_seven c).place) many
+    ≡ refused (one_to_seven c).number (one_to_seven c).place many
+value-tells (Ok _) many h = apart (cc)
+value-tells (Err refusal) many h = ap (λ r. refusal_told r many) (refusal-with refusal)
 
 -- the check of a value holds where it is accepted
-pub accepted-holds : (c : Checked) → ((one_to_seven c).holds ≡ true) ↔ (c ≡ Accepted)
-accepted-holds Accepted = ((λ e. refl), (λ e. refl))
-accepted-holds (RefusedRule number place) = ((λ e. apart (cc)), (λ e. apart (cc)))
+pub accepted-holds : (c : Result Unit Refusal) → ((one_to_seven c).holds ≡ true) ↔ (c ≡ Ok tt)
+accepted-holds (Ok _) = ((λ e. refl), (λ e. refl))
+accepted-holds (Err refusal) = ((λ e. apart (cc)), (λ e. apart (cc)))
 
 -- communities are read where that check holds
 pub were-read : (a : Option Actions) → is_sound a ≡ true → a ≡ Some (actions_read a)
@@ -118,12 +115,14 @@ module _ (family : Family) (policy : Policy) (reach : Reach) (t answers : List �
       ≡ told (reach_checks family policy reach t answers) (done (reach_values family reach))
   unfolding reaching
   reach-tells =
-      applied-tells reached_told (λ n. AllAnnounced n (reach_notes reach)) NotReached (λ n. done (n ∷ reach_notes reach ∷ [])) 2 (λ n. refl)
-      (λ number place. refl) (λ n. refl) (reach_checks family policy reach t answers) (announcing_each family policy reach t) t answers
-      (reach_count family reach.attribute) (reach-count family policy reach t)
+      decided-tells (λ (left : Left (Result Reached Refusal)). reached_told left.answer) (reach_checks family policy reach t answers)
+      (applied_all (λ count. Ok (reached count (reach_notes reach))) (announcing_each family policy reach t) answers)
+      (refused_whole t answers) (done (reach_values family reach)) (rw (reach-count family policy reach t))
+      (λ h. refl, (λ h. refl, (λ h. refl, (value-tells (reach_rules family reach.attribute).ending 2, (λ h. refl, (λ h. refl, tt))))))
 
   -- a promise from the equation for what is left
-  reach-kept : (left : Left Reached) (answer : Reached) (exit words : List ℕ) → reaching family policy reach t answers ≡ left → answer ≡ left.answer
+  reach-kept : (left : Left (Result Reached Refusal)) (answer : Result Reached Refusal) (exit words : List ℕ)
+      → reaching family policy reach t answers ≡ left → answer ≡ left.answer
       → exit ≡ left.table → words ≡ left.words
       → Reaches family policy reach t answers answer exit words (policy.routes ∷ reach.attribute ∷ reach.communities ∷ [])
   reach-kept left answer exit words e a x w =
@@ -134,52 +133,61 @@ module _ (family : Family) (policy : Policy) (reach : Reach) (t answers : List �
 abbrev pub reach_given : Family → Policy → Reach → List ℕ → List Check
 reach_given family policy reach answers = reach_input family policy.routes reach.attribute reach.communities (length answers)
 
-abbrev pub reach_read : Family → Reach → RulesRead
-reach_read family reach = Rules (reach_count family reach.attribute) (actions_read (actions_of reach.communities))
+abbrev pub reach_read : Family → Reach → Result RulesRead Refusal
+reach_read family reach = Ok (rules_read (reach_count family reach.attribute) (actions_read (actions_of reach.communities)))
+
+-- two readings that are the same read the same
+same-read : (one other : RulesRead) → ◌≡◌ {A = Result RulesRead Refusal} (Ok one) (Ok other) → one ≡ other
+same-read one other e = cc
 
 -- what a reach that is read leaves
-abbrev left_by : Singles → List ℕ → List ℕ → RulesRead → Left Reached
-left_by singles t answers (Rules count actions) = applied_all (λ n. AllAnnounced n (notes_of actions)) singles answers
-left_by singles t answers (NotRead number place) = refused_whole NotReached t answers number place
+abbrev left_by : Singles → List ℕ → List ℕ → Result RulesRead Refusal → Left (Result Reached Refusal)
+left_by singles t answers (Ok read) = applied_all (λ n. Ok (reached n (notes_of read.actions))) singles answers
+left_by singles t answers (Err refusal) = record { answer = Err refusal; table = t; words = answers }
 
-module _ (family chosen : Family) (chose : chosen ≡ family) (policy : Policy) (reach : Reach) (t answers : List ℕ) (s : Soundness)
+module _ (family chosen : Family) (chose : chosen ≡ family) (policy : Policy) (reach : Reach) (t answers : List ℕ) (s : Result ℕ Refusal)
     (is : s ≡ soundness chosen t) where
-  pub reach-unsound : s ≡ Unsound
-      → Reaches family policy reach t answers (NotReached 10 0) t answers (policy.routes ∷ reach.attribute ∷ reach.communities ∷ [])
+  pub reach-unsound : (refusal : Refusal) → s ≡ Err refusal → (answer : Result Reached Refusal) → answer ≡ Err refusal
+      → Reaches family policy reach t answers answer t answers (policy.routes ∷ reach.attribute ∷ reach.communities ∷ [])
   unfolding reaching
-  reach-unsound e =
-      rw (← chose) (reach-kept chosen policy reach t answers (refused_whole NotReached t answers 10 0) _ _ _ (rw (was-unsound chosen t s is e)) refl refl refl)
+  reach-unsound refusal e answer h =
+      let u = was-unsound chosen t s is refusal e in
+      rw (← chose)
+      (reach-kept chosen policy reach t answers (refused_whole t answers 10 0) answer t answers (rw u.0)
+      (h ∙ ap (λ r. Err r) u.1) refl refl)
 
-  module _ (used : ℕ) (e : s ≡ Sound used) (reached : RulesRead)
-      (read : reached ≡ decided (reach_given chosen policy reach answers) (reach_read chosen reach) (λ number place. NotRead number place)) where
-    reach-leaves : (found : RulesRead) → reached ≡ found
+  module _ (used : ℕ) (e : s ≡ Ok used) (given : Result RulesRead Refusal)
+      (read : given ≡ decided (reach_given chosen policy reach answers) (reach_read chosen reach) refused_with) where
+    reach-leaves : (found : Result RulesRead Refusal) → given ≡ found
         → reaching chosen policy reach t answers ≡ left_by (announcing_each chosen policy reach t) t answers found
     unfolding reaching
     reach-leaves found f =
         rw (was-sound chosen t s is used e).0
-        (found_of (left_by (announcing_each chosen policy reach t) t answers) (reach_given chosen policy reach answers) (reach_read chosen reach)
-        (λ number place. NotRead number place) reached found read f)
+        (found_of (left_by (announcing_each chosen policy reach t) t answers) (reach_given chosen policy reach answers)
+        (reach_read chosen reach)
+        refused_with given found read f)
 
-    pub reach-refused : (number place : ℕ) → reached ≡ NotRead number place
-        → Reaches family policy reach t answers (NotReached number place) t answers (policy.routes ∷ reach.attribute ∷ reach.communities ∷ [])
-    reach-refused number place f =
-        let leaves = reach-leaves (NotRead number place) f in
-        rw (← chose) (reach-kept chosen policy reach t answers (refused_whole NotReached t answers number place) _ _ _ leaves refl refl refl)
+    pub reach-refused : (refusal : Refusal) → given ≡ Err refusal → (answer : Result Reached Refusal) → answer ≡ Err refusal
+        → Reaches family policy reach t answers answer t answers (policy.routes ∷ reach.attribute ∷ reach.communities ∷ [])
+    reach-refused refusal f answer h =
+        rw (← chose)
+        (reach-kept chosen policy reach t answers (left_by (announcing_each chosen policy reach t) t answers (Err refusal)) answer t answers
+        (reach-leaves (Err refusal) f) h refl refl)
 
-    module _ (count : ℕ) (actions : Actions) (f : reached ≡ Rules count actions) where
-      granted : AllHold (reach_given chosen policy reach answers) × (reached ≡ reach_read chosen reach)
+    module _ (count : ℕ) (actions : Actions) (f : given ≡ Ok (rules_read count actions)) where
+      granted : AllHold (reach_given chosen policy reach answers) × (given ≡ reach_read chosen reach)
       granted =
-          was_granted (reach_given chosen policy reach answers) (reach_read chosen reach) (λ number place. NotRead number place) reached read
-          (λ number place g. let z : Rules count actions ≡ NotRead number place = sym f ∙ g in apart (cc))
+          was_granted (reach_given chosen policy reach answers) (reach_read chosen reach) refused_with given read
+          (λ number place g. let z : Ok (rules_read count actions) ≡ Err (refusal_with number place) = sym f ∙ g in apart (cc))
+
+      same : rules_read count actions ≡ rules_read (reach_count chosen reach.attribute) (actions_read (actions_of reach.communities))
+      same = same-read _ _ (sym f ∙ granted.1)
 
       counts : count ≡ reach_count chosen reach.attribute
-      counts = let z = sym f ∙ granted.1 in cc
+      counts = ap (λ (read : RulesRead). read.count) same
 
       acts : actions_of reach.communities ≡ Some actions
-      acts =
-          let z = sym f ∙ granted.1 in
-          let same : actions_read (actions_of reach.communities) ≡ actions = cc in
-          were-read (actions_of reach.communities) granted.0.1.1.1.0 ∙ ap Some same
+      acts = were-read (actions_of reach.communities) granted.0.1.1.1.0 ∙ ap (λ (read : RulesRead). Some read.actions) (sym same)
 
       pub reach-prepared : Fits chosen → reach.origin.originator < 2 ^ 32
           → Prepared family (reach_task policy reach actions) reach.attribute reach_head t used (length answers)
@@ -193,13 +201,15 @@ module _ (family chosen : Family) (chose : chosen ≡ family) (policy : Policy) 
 
       pub reach-done : Octets reach.attribute → reach.origin.originator < 2 ^ 32 → (exit words : List ℕ) (notes : ℕ) → notes ≡ notes_of actions
           → LeavesAll (tasks_from family policy.routes (reach_task policy reach actions) reach.attribute reach_head t) answers exit words
-          → Reaches family policy reach t answers (AllAnnounced count notes) exit words (policy.routes ∷ reach.attribute ∷ reach.communities ∷ [])
+          → Reaches family policy reach t answers (Ok (reached count notes)) exit words (policy.routes ∷ reach.attribute ∷ reach.communities ∷ [])
       reach-done o small exit words notes n h =
           let same = announces-are chosen t (was-sound chosen t s is used e).0 policy reach actions granted.0.0 acts small o in
           let k = rw (← chose, ← same) at h in
           rw (← chose)
-          (reach-kept chosen policy reach t answers (applied_all (λ m. AllAnnounced m (notes_of actions)) (announcing_each chosen policy reach t) answers) (AllAnnounced count notes) exit words
-          (reach-leaves (Rules count actions) f) (λ i. AllAnnounced ((counts ∙ sym (reach-count chosen policy reach t)) i) (n i)) k.leaves k.lists)
+          (reach-kept chosen policy reach t answers
+          (applied_all (λ m. Ok (reached m (notes_of actions))) (announcing_each chosen policy reach t) answers) (Ok (reached count notes))
+          exit words (reach-leaves (Ok (rules_read count actions)) f)
+          (λ i. Ok (reached ((counts ∙ sym (reach-count chosen policy reach t)) i) (n i))) k.leaves k.lists)
 
 -- ---- an unreach ----
 
@@ -212,12 +222,14 @@ module _ (family : Family) (attribute t answers : List ℕ) where
       ≡ told (unreach_checks family attribute t answers) (done (unreach_count family attribute ∷ []))
   unfolding unreaching
   unreach-tells =
-      applied-tells unreached_told AllWithdrawn NotUnreached (λ n. done (n ∷ [])) 1 (λ n. refl) (λ number place. refl) (λ n. refl)
-      (unreach_checks family attribute t answers) (withdrawing_each family attribute t) t answers
-      (unreach_count family attribute) (unreach-count family attribute t)
+      decided-tells (λ (left : Left (Result ℕ Refusal)). unreached_told left.answer) (unreach_checks family attribute t answers)
+      (applied_all (λ count. Ok count) (withdrawing_each family attribute t) answers) (refused_whole t answers)
+      (done (unreach_count family attribute ∷ [])) (rw (unreach-count family attribute t))
+      (λ h. refl, (λ h. refl, (value-tells (unreach_rules family attribute).ending 1, (λ h. refl, tt))))
 
   -- a promise from the equation for what is left
-  unreach-kept : (left : Left Unreached) (answer : Unreached) (exit words : List ℕ) → unreaching family attribute t answers ≡ left → answer ≡ left.answer
+  unreach-kept : (left : Left (Result ℕ Refusal)) (answer : Result ℕ Refusal) (exit words : List ℕ)
+      → unreaching family attribute t answers ≡ left → answer ≡ left.answer
       → exit ≡ left.table → words ≡ left.words → Unreaches family attribute t answers answer exit words (attribute ∷ [])
   unreach-kept left answer exit words e a x w =
       let q : answer ≡ (unreaching family attribute t answers).answer = rw e a in
@@ -227,41 +239,47 @@ module _ (family : Family) (attribute t answers : List ℕ) where
 abbrev pub unreach_given : Family → List ℕ → List ℕ → List Check
 unreach_given family attribute answers = unreach_input family attribute (length answers)
 
-abbrev pub unreach_read : Family → List ℕ → Counted
-unreach_read family attribute = CountedRules (unreach_count family attribute)
+abbrev pub unreach_read : Family → List ℕ → Result ℕ Refusal
+unreach_read family attribute = Ok (unreach_count family attribute)
 
 -- what an unreach that is read leaves
-abbrev left_of : Singles → List ℕ → List ℕ → Counted → Left Unreached
-left_of singles t answers (CountedRules count) = applied_all AllWithdrawn singles answers
-left_of singles t answers (NotCounted number place) = refused_whole NotUnreached t answers number place
+abbrev left_of : Singles → List ℕ → List ℕ → Result ℕ Refusal → Left (Result ℕ Refusal)
+left_of singles t answers (Ok read) = applied_all (λ count. Ok count) singles answers
+left_of singles t answers (Err refusal) = record { answer = Err refusal; table = t; words = answers }
 
-module _ (family chosen : Family) (chose : chosen ≡ family) (attribute t answers : List ℕ) (s : Soundness) (is : s ≡ soundness chosen t) where
-  pub unreach-unsound : s ≡ Unsound → Unreaches family attribute t answers (NotUnreached 10 0) t answers (attribute ∷ [])
+module _ (family chosen : Family) (chose : chosen ≡ family) (attribute t answers : List ℕ) (s : Result ℕ Refusal)
+    (is : s ≡ soundness chosen t) where
+  pub unreach-unsound : (refusal : Refusal) → s ≡ Err refusal → (answer : Result ℕ Refusal) → answer ≡ Err refusal
+      → Unreaches family attribute t answers answer t answers (attribute ∷ [])
   unfolding unreaching
-  unreach-unsound e =
-      rw (← chose) (unreach-kept chosen attribute t answers (refused_whole NotUnreached t answers 10 0) _ _ _ (rw (was-unsound chosen t s is e)) refl refl refl)
+  unreach-unsound refusal e answer h =
+      let u = was-unsound chosen t s is refusal e in
+      rw (← chose)
+      (unreach-kept chosen attribute t answers (refused_whole t answers 10 0) answer t answers (rw u.0) (h ∙ ap (λ r. Err r) u.1) refl refl)
 
-  module _ (used : ℕ) (e : s ≡ Sound used) (counted : Counted)
-      (read : counted ≡ decided (unreach_given chosen attribute answers) (unreach_read chosen attribute) (λ number place. NotCounted number place)) where
-    unreach-leaves : (found : Counted) → counted ≡ found
+  module _ (used : ℕ) (e : s ≡ Ok used) (counted : Result ℕ Refusal)
+      (read : counted ≡ decided (unreach_given chosen attribute answers) (unreach_read chosen attribute) refused_with) where
+    unreach-leaves : (found : Result ℕ Refusal) → counted ≡ found
         → unreaching chosen attribute t answers ≡ left_of (withdrawing_each chosen attribute t) t answers found
     unfolding unreaching
     unreach-leaves found f =
         rw (was-sound chosen t s is used e).0
-        (found_of (left_of (withdrawing_each chosen attribute t) t answers) (unreach_given chosen attribute answers) (unreach_read chosen attribute)
-        (λ number place. NotCounted number place) counted found read f)
+        (found_of (left_of (withdrawing_each chosen attribute t) t answers) (unreach_given chosen attribute answers)
+        (unreach_read chosen attribute)
+        refused_with counted found read f)
 
-    pub unreach-refused : (number place : ℕ) → counted ≡ NotCounted number place
-        → Unreaches family attribute t answers (NotUnreached number place) t answers (attribute ∷ [])
-    unreach-refused number place f =
-        let leaves = unreach-leaves (NotCounted number place) f in
-        rw (← chose) (unreach-kept chosen attribute t answers (refused_whole NotUnreached t answers number place) _ _ _ leaves refl refl refl)
+    pub unreach-refused : (refusal : Refusal) → counted ≡ Err refusal → (answer : Result ℕ Refusal) → answer ≡ Err refusal
+        → Unreaches family attribute t answers answer t answers (attribute ∷ [])
+    unreach-refused refusal f answer h =
+        rw (← chose)
+        (unreach-kept chosen attribute t answers (left_of (withdrawing_each chosen attribute t) t answers (Err refusal)) answer t answers
+        (unreach-leaves (Err refusal) f) h refl refl)
 
-    module _ (count : ℕ) (f : counted ≡ CountedRules count) where
+    module _ (count : ℕ) (f : counted ≡ Ok count) where
       passed : AllHold (unreach_given chosen attribute answers) × (counted ≡ unreach_read chosen attribute)
       passed =
-          was_granted (unreach_given chosen attribute answers) (unreach_read chosen attribute) (λ number place. NotCounted number place) counted read
-          (λ number place g. let z : CountedRules count ≡ NotCounted number place = sym f ∙ g in apart (cc))
+          was_granted (unreach_given chosen attribute answers) (unreach_read chosen attribute) refused_with counted read
+          (λ number place g. let z : Ok count ≡ Err (refusal_with number place) = sym f ∙ g in apart (cc))
 
       pub unreach-prepared : Fits chosen → Prepared family Withdraw attribute unreach_head t used (length answers)
       unreach-prepared fits =
@@ -274,12 +292,13 @@ module _ (family chosen : Family) (chose : chosen ≡ family) (attribute t answe
 
       pub unreach-done : Octets attribute → (routes exit words : List ℕ)
           → LeavesAll (tasks_from family routes Withdraw attribute unreach_head t) answers exit words
-          → Unreaches family attribute t answers (AllWithdrawn count) exit words (attribute ∷ [])
+          → Unreaches family attribute t answers (Ok count) exit words (attribute ∷ [])
       unreach-done o routes exit words h =
           let z = sym f ∙ passed.1 in
           let counts : count ≡ unreach_count chosen attribute = cc in
           let same = withdraws-are chosen t (was-sound chosen t s is used e).0 routes attribute o in
           let k = rw (← chose, ← same) at h in
           rw (← chose)
-          (unreach-kept chosen attribute t answers (applied_all AllWithdrawn (withdrawing_each chosen attribute t) answers) (AllWithdrawn count) exit words
-          (unreach-leaves (CountedRules count) f) (ap AllWithdrawn (counts ∙ sym (unreach-count chosen attribute t))) k.leaves k.lists)
+          (unreach-kept chosen attribute t answers (applied_all (λ n. Ok n) (withdrawing_each chosen attribute t) answers) (Ok count)
+          exit words
+          (unreach-leaves (Ok count) f) (ap (λ n. Ok n) (counts ∙ sym (unreach-count chosen attribute t))) k.leaves k.lists)

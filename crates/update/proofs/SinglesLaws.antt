@@ -5,11 +5,10 @@ use mathlib.Core.Bool.{true}
 use mathlib.Core.List.{List, [], ◌∷◌}
 use Prim.Native.Nat.{ℕ, suc, ◌^◌, ◌<◌}
 use lib.ListN.{length}
-use Rattle.std.proofs.Common.{Some}
+use Rattle.std.proofs.Common.{Ok, Some}
 use Rattle.octets.specs.Test.{Each}
 use Rattle.octets.proofs.Facts.{Octets}
 use Rattle.rule.specs.declared.Family.{Family}
-use Rattle.rule.specs.declared.Checked.TheVariants.{Accepted}
 use Rattle.rule.specs.Value.{check_value}
 use Rattle.rule.specs.Reading.{field_size, field_length, value_in}
 use Rattle.rule.proofs.ReadingLaws.{one-read}
@@ -19,12 +18,13 @@ use Rattle.action.proofs.PossibleLaws.{read-possible}
 use Rattle.route.specs.Route.{sound_routes}
 use Rattle.table.specs.Walk.{entries}
 use Rattle.table.specs.Sound.{Encodes, sound_table}
+use Rattle.table.specs.Change.{outcome_of}
 use Rattle.table.proofs.SoundLaws.{sound-encodes, encodes-sound, encodes-entries}
 use Rattle.table.proofs.LeaveLaws.{changed-encodes}
 use Rattle.request.specs.Input.{Policy}
 use Rattle.request.specs.Judging.{read_with_routes}
 use Rattle.request.specs.Request.{request_of}
-use Rattle.flowspec.specs.Announce.{Outcome, announcing, withdrawing}
+use Rattle.flowspec.specs.Announce.{Outcome, outcome, announcing, withdrawing}
 use Rattle.flowspec.proofs.TableLaws.{announced-told, withdrawn-told}
 use Rattle.request.proofs.RequestLaws.{octets-value}
 use Rattle.attribute.specs.Head.{reach_head, unreach_head}
@@ -68,7 +68,7 @@ Coded family t = Encodes family t (entries t)
 
 -- such a table is left again
 change-coded : (family : Family) (t : List ℕ) → Coded family t → (routes : List ℕ) (task : Task) (value : List ℕ) → TaskCouldBe task → Octets value
-    → check_value family value ≡ Accepted → Coded family (rule_change family routes task value t).table
+    → check_value family value ≡ Ok tt → Coded family (rule_change family routes task value t).table
 change-coded family t coded routes task value could octets ok =
     let left = changed-encodes family t (entries t) coded (rule_asks family routes task value) (task-brings family routes task value could octets ok) in
     rw (encodes-entries family _ _ left) left
@@ -82,13 +82,17 @@ one-announced : (family : Family) (policy : Policy) (reach : Reach) (actions : A
     → actions_of reach.communities ≡ Some actions → (rule t : List ℕ) → ReadAlone family rule → sound_table family t ≡ true
     → announcing_one family policy reach rule t ≡ rule_call family policy.routes (reach_task policy reach actions) rule t
 unfolding announcing request_of read_with_routes rule_asks
-one-announced family policy reach actions routes acts rule t alone sound = rw (sound, routes, alone, acts, announced-told)
+one-announced family policy reach actions routes acts rule t alone sound =
+    let done = rule_change family policy.routes (reach_task policy reach actions) (value_in rule) t in
+    rw (sound, routes, alone, acts) (ap (λ (n : ℕ). outcome (λ told. n) done) (announced-told actions (outcome_of done.number)))
 
 -- and what its withdrawal does
 one-withdrawn : (family : Family) (routes rule t : List ℕ) → ReadAlone family rule → sound_table family t ≡ true
     → withdrawing_one family rule t ≡ rule_call family routes Withdraw rule t
 unfolding withdrawing rule_asks
-one-withdrawn family routes rule t alone sound = rw (sound, alone, withdrawn-told)
+one-withdrawn family routes rule t alone sound =
+    let done = rule_change family routes Withdraw (value_in rule) t in
+    rw (sound, alone) (ap (λ (n : ℕ). outcome (λ told. n) done) (withdrawn-told (outcome_of done.number)))
 
 -- ---- the rules of an attribute ----
 

@@ -3,11 +3,11 @@ use mathlib.Core.Path.{◌≡◌}
 use mathlib.Core.Bool.{Bool}
 use mathlib.Core.List.{List}
 use Prim.Native.Nat.{ℕ}
+use Rattle.std.proofs.Common.{Ok}
 use Rattle.octets.proofs.Facts.{Octets}
 use Rattle.sorted.specs.History.{announce, withdraw}
 use Rattle.sorted.proofs.HistoryLaws.{Brings}
 use Rattle.rule.specs.declared.Family.{Family}
-use Rattle.rule.specs.declared.Checked.TheVariants.{Accepted}
 use Rattle.rule.specs.Value.{check_value}
 use Rattle.spelling.specs.Plain.{plain}
 use Rattle.order.specs.Key.{keys_of}
@@ -26,7 +26,7 @@ use Rattle.update.specs.Steps.{rule_asks, rule_change, TaskCouldBe}
 
 -- what a task has announced could be
 pub task-brings : (family : Family) (routes : List ℕ) (task : Task) (value : List ℕ) → TaskCouldBe task → Octets value
-    → check_value family value ≡ Accepted → Brings (possible family) (rule_asks family routes task value)
+    → check_value family value ≡ Ok tt → Brings (possible family) (rule_asks family routes task value)
 unfolding rule_asks
 task-brings family routes (Announce head settings) value could o ok =
     make-possible family (entry_for head (plain family value)) could.0 could.1 (plain-held family value o ok)
@@ -34,7 +34,7 @@ task-brings family routes Withdraw value could o ok = tt
 
 -- how `apply_rule` does a task, with the family as it is chosen
 module _ (family chosen : Family) (chose : chosen ≡ family) (t value : List ℕ) where
-  pub step-asks : (used : ℕ) → Ready family t used × (check_value family value ≡ Accepted) → Ready chosen t used × (check_value chosen value ≡ Accepted)
+  pub step-asks : (used : ℕ) → Ready family t used × (check_value family value ≡ Ok tt) → Ready chosen t used × (check_value chosen value ≡ Ok tt)
   step-asks used h = rw chose h
 
   module _ (routes : List ℕ) (task : Task) (answer : Answer) (exit : List ℕ) where

@@ -1,16 +1,15 @@
 -- What a call with a whole attribute does: it goes through its checks, and where all hold the single calls are made (Singles.antt); refused,
 -- it changes nothing.
-use Rattle.std.specs.Prelude.{ℕ, cond, List, [], ◌∷◌, ◌++◌, length, drop}
+use Rattle.std.specs.Prelude.{ℕ, cond, List, [], ◌∷◌, ◌++◌, length, drop, Result, Ok, Err}
 use Rattle.rule.specs.declared.Family.{Family}
+use Rattle.rule.specs.declared.Refusal.{Refusal}
+use Rattle.rule.specs.Refusal.{refused_with}
 use Rattle.request.specs.Input.{Policy}
-use Rattle.flowspec.specs.Told.{Told, done, refused}
+use Rattle.flowspec.specs.Told.{Told, done, refusal_told}
 use Rattle.flowspec.specs.Checks.{Check}
-use Rattle.update.specs.declared.Reached.{Reached}
-use Rattle.update.specs.declared.Reached.TheVariants.{Done as AllAnnounced, Refused as NotReached}
-use Rattle.update.specs.declared.Unreached.{Unreached}
-use Rattle.update.specs.declared.Unreached.TheVariants.{Done as AllWithdrawn, Refused as NotUnreached}
 use Rattle.update.specs.Singles.{Reach, Singles, announcing_each, withdrawing_each}
 use Rattle.update.specs.Checks.{reach_notes, reach_checks, unreach_checks}
+use Rattle.update.specs.declared.Reached.{Reached}
 
 -- What comes of checks: where all hold, what is granted; else what the number and the place of the first that does not hold make.
 abbrev pub decided : {A : Type 0} → List Check → A → (ℕ → ℕ → A) → A
@@ -33,29 +32,33 @@ applied_all answer_for singles answers =
     record { answer = answer_for (length singles.numbers); table = singles.table; words = listed singles answers }
 
 -- 2026-01: "any of them refuses the whole attribute, and nothing is changed".
-abbrev pub refused_whole : {A : Type 0} → (ℕ → ℕ → A) → List ℕ → List ℕ → ℕ → ℕ → Left A
-refused_whole refuse table answers number place = record { answer = refuse number place; table = table; words = answers }
+abbrev pub refused_whole : {A : Type 0} → List ℕ → List ℕ → ℕ → ℕ → Left (Result A Refusal)
+refused_whole table answers number place = record { answer = refused_with number place; table = table; words = answers }
+
+-- What is done for a reach, by how many rules it has and the notes of their rates.
+abbrev pub reached : ℕ → ℕ → Reached
+reached count notes = record { count = count; notes = notes }
 
 -- A reach: its rules are announced, and the notes of their rates are told, whatever its rules are answered.
-unfoldable pub reaching : Family → Policy → Reach → List ℕ → List ℕ → Left Reached
+unfoldable pub reaching : Family → Policy → Reach → List ℕ → List ℕ → Left (Result Reached Refusal)
 reaching family policy reach table answers =
     decided (reach_checks family policy reach table answers)
-    (applied_all (λ count. AllAnnounced count (reach_notes reach)) (announcing_each family policy reach table) answers)
-    (refused_whole NotReached table answers)
+    (applied_all (λ count. Ok (reached count (reach_notes reach))) (announcing_each family policy reach table) answers)
+    (refused_whole table answers)
 
 -- An unreach: its rules are withdrawn.
-unfoldable pub unreaching : Family → List ℕ → List ℕ → List ℕ → Left Unreached
+unfoldable pub unreaching : Family → List ℕ → List ℕ → List ℕ → Left (Result ℕ Refusal)
 unreaching family attribute table answers =
     decided (unreach_checks family attribute table answers)
-    (applied_all AllWithdrawn (withdrawing_each family attribute table) answers)
-    (refused_whole NotUnreached table answers)
+    (applied_all (λ count. Ok count) (withdrawing_each family attribute table) answers)
+    (refused_whole table answers)
 
 -- What a reach's answer says: the count of the rules and the notes of their rates, each 0 where the attribute is refused.
-abbrev pub reached_told : Reached → Told
-reached_told (AllAnnounced count notes) = done (count ∷ notes ∷ [])
-reached_told (NotReached number place) = refused number place 2
+abbrev pub reached_told : Result Reached Refusal → Told
+reached_told (Ok reached) = done (reached.count ∷ reached.notes ∷ [])
+reached_told (Err refusal) = refusal_told refusal 2
 
 -- What an unreach's answer says: the count of the rules, 0 where the attribute is refused.
-abbrev pub unreached_told : Unreached → Told
-unreached_told (AllWithdrawn count) = done (count ∷ [])
-unreached_told (NotUnreached number place) = refused number place 1
+abbrev pub unreached_told : Result ℕ Refusal → Told
+unreached_told (Ok count) = done (count ∷ [])
+unreached_told (Err refusal) = refusal_told refusal 1

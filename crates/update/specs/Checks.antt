@@ -3,6 +3,7 @@
 use Rattle.std.specs.Prelude.{ℕ, List, [], ◌∷◌, leb, length}
 use Rattle.rule.specs.declared.Family.{Family}
 use Rattle.action.specs.Actions.{actions_of}
+use Rattle.action.specs.declared.Actions.{Actions}
 use Rattle.route.specs.Route.{sound_routes}
 use Rattle.table.specs.Sound.{sound_table}
 use Rattle.request.specs.Input.{Policy}
@@ -10,6 +11,7 @@ use Rattle.flowspec.specs.Checks.{Check, check, one_to_seven, is_sound, notes_in
 use Rattle.attribute.specs.Head.{is_reach, is_unreach}
 use Rattle.attribute.specs.Rules.{reach_rules, unreach_rules}
 use Rattle.update.specs.Singles.{Reach}
+use Rattle.update.specs.declared.RulesRead.{RulesRead}
 
 -- How many rules a reach has.
 abbrev pub reach_count : Family → List ℕ → ℕ
@@ -26,6 +28,10 @@ reach_values family reach = reach_count family reach.attribute ∷ reach_notes r
 -- How many rules an unreach has.
 abbrev pub unreach_count : Family → List ℕ → ℕ
 unreach_count family attribute = length (unreach_rules family attribute).items
+
+-- What is read of a reach, by how many rules it has and the actions of each.
+abbrev pub rules_read : ℕ → Actions → RulesRead
+rules_read count actions = record { count = count; actions = actions }
 
 -- The checks of what a reach is given, beside the table, with so many answer words. 2026-01: "Checks run 10, 9 (reach), 19, 1 to 7 rule by
 -- rule, 13 (reach), 16 (answer buffer under one word a rule)".

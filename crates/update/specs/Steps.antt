@@ -1,11 +1,11 @@
 -- How the code goes through an attribute: once everything is found sound, and its rules are counted (attribute/specs/Count.antt), a change of
 -- the table is made for each (table/specs/Change.antt). No promise names these words; that the changes are those of the single calls is shown
 -- in proofs/SinglesLaws.antt.
-use Rattle.std.specs.Prelude.{ℕ, ◌^◌, ◌<◌, ◌≤◌, ◌≡◌, true, List, length}
+use Rattle.std.specs.Prelude.{ℕ, ◌^◌, ◌<◌, ◌≤◌, ◌≡◌, true, List, length, Ok}
 use Rattle.sorted.specs.History.{Op, announce, withdraw}
 use Rattle.rule.specs.declared.Family.{Family}
-use Rattle.rule.specs.declared.Checked.TheVariants.{Accepted}
 use Rattle.rule.specs.Reading.{value_in}
+use Rattle.rule.specs.Refusal.{told_number}
 use Rattle.spelling.specs.Plain.{plain}
 use Rattle.order.specs.Key.{RuleKey, keys_of}
 use Rattle.action.specs.Possible.{could_be}
@@ -32,7 +32,7 @@ rule_change family routes task value t = changed family t (rule_asks family rout
 
 -- The same for a rule by its octets, as a call on the table.
 abbrev pub rule_call : Family → List ℕ → Task → List ℕ → List ℕ → Outcome ℕ
-rule_call family routes task rule t = outcome (λ number. number) (rule_change family routes task (value_in rule) t)
+rule_call family routes task rule t = outcome (λ done. told_number done) (rule_change family routes task (value_in rule) t)
 
 -- What is left where that is done for the rules of an attribute from a place on.
 abbrev pub tasks_from : Family → List ℕ → Task → List ℕ → ℕ → List ℕ → Singles
@@ -48,7 +48,7 @@ TaskCouldBe Withdraw = Unit {0}
 pub record Prepared (family : Family) (task : Task) (attribute : List ℕ) (at : ℕ) (t : List ℕ) (used words : ℕ) : Type 0 where
   pub ready : Ready family t used
   pub could : TaskCouldBe task
-  pub accepted : (rules_from family attribute at).ending ≡ Accepted
+  pub accepted : (rules_from family attribute at).ending ≡ Ok tt
   pub enough : length (rules_from family attribute at).items ≤ words
 
 -- What the code leaves behind the last rule: the table, and the answer words.

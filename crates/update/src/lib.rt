@@ -5,29 +5,29 @@
 
 ghost use Rattle.std.specs.Prelude.{◌≡◌, [], ◌∷◌, length};
 ghost use Rattle.rule.specs.Family.{Fits, family_of};
+ghost use Rattle.rule.specs.Refusal.{refused_with};
 ghost use Rattle.rule.specs.Value.{check_value};
 ghost use Rattle.action.specs.Actions.{actions_of};
 ghost use Rattle.table.specs.Change.{Ready, Leaves};
 ghost use Rattle.request.specs.Input.{policy_of};
 ghost use Rattle.flowspec.specs.Checks.{actions_read};
 ghost use Rattle.update.specs.Singles.{reach_of};
-ghost use Rattle.update.specs.Checks.{reach_count, unreach_count, reach_input, unreach_input};
+ghost use Rattle.update.specs.Checks.{rules_read, reach_count, unreach_count, reach_input, unreach_input};
 ghost use Rattle.update.specs.Apply.{decided};
 ghost use Rattle.update.specs.Promise.{Reaches, Unreaches};
 ghost use Rattle.update.specs.Steps.{rule_change, tasks_from, Prepared, LeavesAll};
 
 use action::Actions;
-use attribute::{Counted, NextRule};
 use entry::Head;
 use route::{Origin, Settings};
-use rule::{AddressFamily, Checked, Family};
-use table::{Answer, Soundness};
+use rule::{AddressFamily, Family, Refusal};
+use table::Answer;
 
-// What reading a reach gives: how many rules it has and the actions of each, or a refusal.
+// What is read of a reach: how many rules it has, and the actions of each.
 #[derive(Clone, Copy)]
-pub enum RulesRead {
-    Rules { count: usize, actions: Actions },
-    Refused { number: u8, place: usize },
+pub struct RulesRead {
+    pub count: usize,
+    pub actions: Actions,
 }
 
 // What is done for each rule of an attribute: it is announced under a head, or withdrawn.
@@ -37,44 +37,27 @@ pub enum Task {
     Withdraw,
 }
 
-// What a reach answers: how many rules it has, each with its number among the answer words, and the notes of their rates, or a refusal.
+// What is done for a reach: how many rules it has, each with its number among the answer words, and the notes of their rates.
 #[derive(Clone, Copy)]
-pub enum Reached {
-    Done { count: usize, notes: u64 },
-    Refused { number: u8, place: usize },
-}
-
-// What an unreach answers: how many rules it has, each with its number among the answer words, or a refusal.
-#[derive(Clone, Copy)]
-pub enum Unreached {
-    Done(usize),
-    Refused { number: u8, place: usize },
+pub struct Reached {
+    pub count: usize,
+    pub notes: u64,
 }
 
 // ---- What the calls are given ----
 
 // Reads an unreach for which so many answer words are lent.
-fn read_unreach(family: Family, attribute: &[u8], words: usize) -> Counted
-    ensures { result ≡ decided (unreach_input family attribute.now words) (Counted.Rules (unreach_count family attribute.now)) (λ number place. Counted.Refused number place) }
+fn read_unreach(family: Family, attribute: &[u8], words: usize) -> Result<usize, Refusal>
+    ensures { result ≡ decided (unreach_input family attribute.now words) (Ok (unreach_count family attribute.now)) refused_with }
 {
     if !attribute::is_unreach(family, attribute) {
-        return Counted::Refused {
-            number: 19,
-            place: 0,
-        };
+        return Err(Refusal::UntakenAttribute);
     }
-    match attribute::count_rules(family, attribute, attribute::UNREACH_HEAD) {
-        Counted::Refused { number, place } => Counted::Refused { number, place },
-        Counted::Rules(count) => {
-            if words < count {
-                return Counted::Refused {
-                    number: 16,
-                    place: 0,
-                };
-            }
-            Counted::Rules(count)
-        }
+    let count = attribute::count_rules(family, attribute, attribute::UNREACH_HEAD)?;
+    if words < count {
+        return Err(Refusal::ShortBuffer);
     }
+    Ok(count)
 }
 
 // Reads a reach with its communities, for which so many answer words are lent.
@@ -84,40 +67,24 @@ fn read_reach(
     attribute: &[u8],
     communities: &[u8],
     words: usize,
-) -> RulesRead
+) -> Result<RulesRead, Refusal>
     requires { Fits family }
-    ensures { result ≡ decided (reach_input family routes.now attribute.now communities.now words) (RulesRead.Rules (reach_count family attribute.now) (actions_read (actions_of communities.now))) (λ number place. RulesRead.Refused number place) }
+    ensures { result ≡ decided (reach_input family routes.now attribute.now communities.now words) (Ok (rules_read (reach_count family attribute.now) (actions_read (actions_of communities.now)))) refused_with }
 {
     if !route::sound_routes(family, routes) {
-        return RulesRead::Refused {
-            number: 9,
-            place: 0,
-        };
+        return Err(Refusal::UnsoundRoutes);
     }
     if !attribute::is_reach(family, attribute) {
-        return RulesRead::Refused {
-            number: 19,
-            place: 0,
-        };
+        return Err(Refusal::UntakenAttribute);
     }
-    match attribute::count_rules(family, attribute, attribute::REACH_HEAD) {
-        Counted::Refused { number, place } => RulesRead::Refused { number, place },
-        Counted::Rules(count) => match action::actions_of(communities) {
-            None => RulesRead::Refused {
-                number: 13,
-                place: 0,
-            },
-            Some(actions) => {
-                if words < count {
-                    return RulesRead::Refused {
-                        number: 16,
-                        place: 0,
-                    };
-                }
-                RulesRead::Rules { count, actions }
-            }
-        },
+    let count = attribute::count_rules(family, attribute, attribute::REACH_HEAD)?;
+    let Some(actions) = action::actions_of(communities) else {
+        return Err(Refusal::UnsoundActions);
+    };
+    if words < count {
+        return Err(Refusal::ShortBuffer);
     }
+    Ok(RulesRead { count, actions })
 }
 
 // ---- Rule by rule ----
@@ -131,7 +98,7 @@ fn apply_rule(
     task: Task,
     value: &[u8],
 ) -> Answer
-    requires { Ready (family_of family) table.old used × (check_value (family_of family) value.now ≡ Checked.Accepted) }
+    requires { Ready (family_of family) table.old used × (check_value (family_of family) value.now ≡ Ok tt) }
     ensures { Leaves (rule_change (family_of family) routes.now task value.now table.old) result table.new }
 {
     let chosen = rule::family_of(family);
@@ -163,25 +130,13 @@ fn apply_rules(
     let mut at = from;
     let mut taken = used;
     let mut count: usize = 0;
-    loop {
-        match attribute::rule_at(chosen, attribute, at) {
-            NextRule::Nothing => {
-                return;
-            }
-            NextRule::Refused {
-                number: _,
-                place: _,
-            } => {
-                return;
-            }
-            NextRule::Another { start, end } => {
-                let answer = apply_rule(family, table, taken, routes, task, &attribute[start..end]);
-                answers[count] = answer.number as u32;
-                taken = answer.used;
-                at = end;
-                count += 1;
-            }
-        }
+    while let Ok(Some(rule)) = attribute::rule_at(chosen, attribute, at) {
+        let value = &attribute[rule.start..rule.end];
+        let answer = apply_rule(family, table, taken, routes, task, value);
+        answers[count] = rule::told_number(answer.outcome) as u32;
+        taken = answer.used;
+        at = rule.end;
+        count += 1;
     }
 }
 
@@ -197,38 +152,31 @@ pub fn reach(
     origin: Origin,
     communities: &[u8],
     answers: &mut [u32],
-) -> Reached
+) -> Result<Reached, Refusal>
     ensures { Reaches (family_of family) (policy_of routes.now settings) (reach_of attribute.now origin communities.now) table.old answers.old result table.new answers.new (routes.now ∷ attribute.now ∷ communities.now ∷ []) }
 {
     let chosen = rule::family_of(family);
-    match table::sound_table(chosen, table) {
-        Soundness::Unsound => Reached::Refused {
-            number: 10,
-            place: 0,
-        },
-        Soundness::Sound(used) => {
-            let words = answers.len();
-            match read_reach(chosen, routes, attribute, communities, words) {
-                RulesRead::Refused { number, place } => Reached::Refused { number, place },
-                RulesRead::Rules { count, actions } => {
-                    let head = Head { origin, actions };
-                    let task = Task::Announce { head, settings };
-                    apply_rules(
-                        family,
-                        table,
-                        used,
-                        routes,
-                        task,
-                        attribute,
-                        attribute::REACH_HEAD,
-                        answers,
-                    );
-                    let notes = entry::notes_of(actions);
-                    Reached::Done { count, notes }
-                }
-            }
-        }
-    }
+    let used = table::sound_table(chosen, table)?;
+    let words = answers.len();
+    let read = read_reach(chosen, routes, attribute, communities, words)?;
+    let actions = read.actions;
+    let head = Head { origin, actions };
+    let task = Task::Announce { head, settings };
+    apply_rules(
+        family,
+        table,
+        used,
+        routes,
+        task,
+        attribute,
+        attribute::REACH_HEAD,
+        answers,
+    );
+    let notes = entry::notes_of(actions);
+    Ok(Reached {
+        count: read.count,
+        notes,
+    })
 }
 
 // Withdraws the rules of an unreach from a table; each rule's number stands at the front of the answer words.
@@ -237,34 +185,23 @@ pub fn unreach(
     table: &mut [u8],
     attribute: &[u8],
     answers: &mut [u32],
-) -> Unreached
+) -> Result<usize, Refusal>
     ensures { Unreaches (family_of family) attribute.now table.old answers.old result table.new answers.new (attribute.now ∷ []) }
 {
     let chosen = rule::family_of(family);
-    match table::sound_table(chosen, table) {
-        Soundness::Unsound => Unreached::Refused {
-            number: 10,
-            place: 0,
-        },
-        Soundness::Sound(used) => {
-            let words = answers.len();
-            match read_unreach(chosen, attribute, words) {
-                Counted::Refused { number, place } => Unreached::Refused { number, place },
-                Counted::Rules(count) => {
-                    let routes = [0u32; 0];
-                    apply_rules(
-                        family,
-                        table,
-                        used,
-                        &routes,
-                        Task::Withdraw,
-                        attribute,
-                        attribute::UNREACH_HEAD,
-                        answers,
-                    );
-                    Unreached::Done(count)
-                }
-            }
-        }
-    }
+    let used = table::sound_table(chosen, table)?;
+    let words = answers.len();
+    let count = read_unreach(chosen, attribute, words)?;
+    let routes = [0u32; 0];
+    apply_rules(
+        family,
+        table,
+        used,
+        &routes,
+        Task::Withdraw,
+        attribute,
+        attribute::UNREACH_HEAD,
+        answers,
+    );
+    Ok(count)
 }

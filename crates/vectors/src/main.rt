@@ -11,42 +11,15 @@ use fields::{
     FIELD, FIELDS, INPUT, WORDS, print_end, print_first, print_number, print_octets, print_refusal,
     print_valued, put_octets,
 };
-use flowspec::{Announced, Feasibility, Looked, Withdrawn};
-use lookup::Verdict;
-use order::Comparison;
+use lookup::Matched;
 use route::{Origin, Settings};
-use rule::{AddressFamily, Checked, Reading};
-use spelling::Writing;
+use rule::{AddressFamily, Refusal};
+use std::cmp::Ordering;
 
 // Standard input's number and standard output's.
 const STDIN_FILENO: i32 = 0;
 
 const STDOUT_FILENO: i32 = 1;
-
-// A call's name by its first two letters: `ac`, `an`, `co`, `fa`, `fe`, `fi`, `lo`, `ma`, `re`, `ta`, `wi`, `wr`.
-const ACTIONS: u64 = 0x6163;
-
-const ANNOUNCE: u64 = 0x616e;
-
-const COMPARE: u64 = 0x636f;
-
-const FAMILY: u64 = 0x6661;
-
-const FEASIBLE: u64 = 0x6665;
-
-const FIRST: u64 = 0x6669;
-
-const LOOKUP: u64 = 0x6c6f;
-
-const MATCH: u64 = 0x6d61;
-
-const READ: u64 = 0x7265;
-
-const TABLE: u64 = 0x7461;
-
-const WITHDRAW: u64 = 0x7769;
-
-const WRITE: u64 = 0x7772;
 
 // ---- Reading, writing and comparing ----
 
@@ -54,8 +27,8 @@ const WRITE: u64 = 0x7772;
 fn answer_read(family: AddressFamily, line: &[u8], octets: &mut [u8]) {
     let end = put_octets(line, 1, octets);
     match flowspec::read_rule(family, &octets[..end]) {
-        Reading::Rule { start, size } => print_reading(0, 0, start, size),
-        Reading::Refused { number, place } => print_reading(number, place, 0, 0),
+        Ok(value) => print_reading(0, 0, value.start, value.size),
+        Err(refusal) => print_reading(refusal.number(), refusal.place(), 0, 0),
     }
     print_end();
 }
@@ -78,8 +51,8 @@ fn answer_write(family: AddressFamily, line: &[u8], octets: &mut [u8]) {
 // Writes a rule to a buffer, and prints the answer and the buffer.
 fn write_and_print(family: AddressFamily, value: &[u8], buffer: &mut [u8]) {
     match flowspec::write_rule(family, value, buffer) {
-        Writing::Written(octets) => print_valued(0, 0, octets),
-        Writing::Refused { number, place } => print_valued(number, place, 0),
+        Ok(octets) => print_valued(0, 0, octets),
+        Err(refusal) => print_valued(refusal.number(), refusal.place(), 0),
     }
     print_octets(buffer);
 }
@@ -96,10 +69,10 @@ fn compare_and_print(family: AddressFamily, octets: &[u8], middle: usize, end: u
     requires { (middle ≤ end) × (end ≤ length octets.now) }
 {
     match flowspec::compare_rules(family, &octets[0..middle], &octets[middle..end]) {
-        Comparison::First => print_valued(0, 0, 1),
-        Comparison::Second => print_valued(0, 0, 2),
-        Comparison::Same => print_valued(0, 0, 3),
-        Comparison::Refused { number, place } => print_valued(number, place, 0),
+        Ok(Ordering::Less) => print_valued(0, 0, 1),
+        Ok(Ordering::Greater) => print_valued(0, 0, 2),
+        Ok(Ordering::Equal) => print_valued(0, 0, 3),
+        Err(refusal) => print_valued(refusal.number(), refusal.place(), 0),
     }
 }
 
@@ -114,7 +87,7 @@ fn answer_actions(line: &[u8], octets: &mut [u8]) {
             fields::print_actions(actions);
         }
         None => {
-            print_first(13);
+            print_first(Refusal::UnsoundActions.number() as u64);
             fields::print_actions(action::no_actions());
         }
     }
@@ -144,8 +117,8 @@ fn answer_feasible(family: AddressFamily, line: &[u8], octets: &mut [u8], words:
     let end = put_octets(line, 3, octets);
     let origin = origin_in(line);
     match flowspec::judge_rule(family, settings, &words[..count], &octets[..end], origin) {
-        Feasibility::Feasible => print_refusal(0, 0),
-        Feasibility::Refused { number, place } => print_refusal(number, place),
+        Ok(()) => print_refusal(0, 0),
+        Err(refusal) => print_refusal(refusal.number(), refusal.place()),
     }
     print_end();
 }
@@ -164,15 +137,11 @@ fn check_and_match(family: AddressFamily, octets: &[u8], middle: usize, end: usi
     requires { (middle ≤ end) × (end ≤ length octets.now) }
 {
     match rule::check_value(rule::family_of(family), &octets[0..middle]) {
-        Checked::Refused { number, place } => {
+        Err(refusal) => {
             io::write_all(STDOUT_FILENO, b"value\t");
-            print_refusal(number, place);
+            print_refusal(refusal.number(), refusal.place());
         }
-        Checked::Accepted => print_first(verdict_of(
-            family,
-            &octets[0..middle],
-            &octets[middle..end],
-        )),
+        Ok(()) => print_first(verdict_of(family, &octets[0..middle], &octets[middle..end])),
     }
 }
 
@@ -180,8 +149,8 @@ fn check_and_match(family: AddressFamily, octets: &[u8], middle: usize, end: usi
 fn verdict_of(family: AddressFamily, value: &[u8], packet: &[u8]) -> u64 {
     let family = rule::family_of(family);
     match packet::packet_of(family, packet) {
-        None => 12,
-        Some(shown) => matching::matches_rule(family, value, shown) as u64,
+        None => Refusal::UnusablePacket.number() as u64,
+        Some(opening) => matching::matches_rule(family, value, opening) as u64,
     }
 }
 
@@ -256,8 +225,8 @@ fn announce(
         origin,
         &octets[middle..end],
     ) {
-        Announced::Held { notes } => print_announced(0, 0, notes, table),
-        Announced::Refused { number, place } => print_announced(number, place, 0, table),
+        Ok(notes) => print_announced(0, 0, notes, table),
+        Err(refusal) => print_announced(refusal.number(), refusal.place(), 0, table),
     }
 }
 
@@ -265,8 +234,8 @@ fn announce(
 fn answer_withdraw(family: AddressFamily, line: &[u8], octets: &mut [u8], table: &mut [u8]) {
     let end = put_octets(line, 1, octets);
     match flowspec::withdraw(family, table, &octets[..end]) {
-        Withdrawn::Done => print_withdrawn(0, 0, table),
-        Withdrawn::Refused { number, place } => print_withdrawn(number, place, table),
+        Ok(()) => print_withdrawn(0, 0, table),
+        Err(refusal) => print_withdrawn(refusal.number(), refusal.place(), table),
     }
 }
 
@@ -280,10 +249,10 @@ fn print_lookup(number: u8, place: usize, count: usize, actions: Actions) {
 }
 
 // Prints a verdict: where nothing matches, no rule and no actions.
-fn print_verdict(verdict: Verdict) {
+fn print_verdict(verdict: Option<Matched>) {
     match verdict {
-        Verdict::Unmatched => print_lookup(0, 0, 0, action::no_actions()),
-        Verdict::Matched { actions, count } => print_lookup(0, 0, count, actions),
+        None => print_lookup(0, 0, 0, action::no_actions()),
+        Some(matched) => print_lookup(0, 0, matched.count, matched.actions),
     }
 }
 
@@ -291,9 +260,9 @@ fn print_verdict(verdict: Verdict) {
 fn answer_lookup(family: AddressFamily, line: &[u8], octets: &mut [u8], table: &[u8]) {
     let end = put_octets(line, 1, octets);
     match flowspec::lookup(family, table, &octets[..end]) {
-        Looked::Answered(verdict) => print_verdict(verdict),
-        Looked::Refused { number, place } => {
-            print_lookup(number, place, 0, action::no_actions());
+        Ok(verdict) => print_verdict(verdict),
+        Err(refusal) => {
+            print_lookup(refusal.number(), refusal.place(), 0, action::no_actions());
         }
     }
 }
@@ -309,7 +278,7 @@ fn answer_first(family: AddressFamily, line: &[u8], octets: &mut [u8], table: &[
 
 // ---- Lines ----
 
-// Answers a call, the last ones on a table: an arm for each.
+// Answers a call, the last ones on a table: an arm for each, by the first two letters of its name.
 fn answer_call(
     family: AddressFamily,
     line: &[u8],
@@ -317,26 +286,26 @@ fn answer_call(
     words: &mut [u32],
     table: &mut [u8],
 ) {
-    match fields::name_of(line) {
-        READ => answer_read(family, line, octets),
-        WRITE => answer_write(family, line, octets),
-        COMPARE => answer_compare(family, line, octets),
-        ACTIONS => answer_actions(line, octets),
-        FEASIBLE => answer_feasible(family, line, octets, words),
-        MATCH => answer_match(family, line, octets),
-        ANNOUNCE => answer_announce(family, line, octets, words, table),
-        WITHDRAW => answer_withdraw(family, line, octets, table),
-        LOOKUP => answer_lookup(family, line, octets, table),
-        FIRST => answer_first(family, line, octets, table),
+    match line {
+        [b'r', b'e', ..] => answer_read(family, line, octets),
+        [b'w', b'r', ..] => answer_write(family, line, octets),
+        [b'c', b'o', ..] => answer_compare(family, line, octets),
+        [b'a', b'c', ..] => answer_actions(line, octets),
+        [b'f', b'e', ..] => answer_feasible(family, line, octets, words),
+        [b'm', b'a', ..] => answer_match(family, line, octets),
+        [b'a', b'n', ..] => answer_announce(family, line, octets, words, table),
+        [b'w', b'i', ..] => answer_withdraw(family, line, octets, table),
+        [b'l', b'o', ..] => answer_lookup(family, line, octets, table),
+        [b'f', b'i', ..] => answer_first(family, line, octets, table),
         _ => return,
     }
 }
 
 // The family of addresses from a line on, which the line `family OCTET` sets: 06 is IPv6, and any other octet IPv4.
 fn family_after(line: &[u8], family: AddressFamily) -> AddressFamily {
-    if fields::name_of(line) != FAMILY {
+    let [b'f', b'a', ..] = line else {
         return family;
-    }
+    };
     if fields::octet_of(line, 1) == 6 {
         return AddressFamily::Ipv6;
     }
@@ -355,7 +324,7 @@ fn answer(
     requires { IsPrefixLen size buffer.old }
     ensures { IsPrefixLen result buffer.new }
 {
-    if fields::name_of(line) == TABLE {
+    if let [b't', b'a', ..] = line {
         return put_octets(line, 1, buffer);
     }
     answer_call(family, line, octets, words, &mut buffer[..size]);

@@ -1,11 +1,7 @@
-use Prim.Native.Nat.{◌-◌}
 use mathlib.Core.Path.{◌≡◌}
-use lib.ListN.{length}
+use Rattle.std.specs.Slice.Iter.{chunks_exact_rest, chunks_exact_size}
 use Rattle.action.proofs.Communities.{Reached}
 use Rattle.action.proofs.actions_of.Given as goal
 
-abbrev pub invariant-loop-at : goal.invariant-loop-at
-invariant-loop-at l = (l.size ≡ length l.communities) × Reached l.communities l.actions l.at
-
-abbrev pub decreases-loop-at : goal.decreases-loop-at
-decreases-loop-at l = length l.communities - l.at
+abbrev pub invariant-loop-eight : goal.invariant-loop-eight
+invariant-loop-eight l = (chunks_exact_size l.eight-iterator ≡ 8) × Reached l.communities l.actions (chunks_exact_rest l.eight-iterator)

@@ -1,9 +1,16 @@
--- The place of the first match, with the lookup's number.
-use Rattle.calls.proofs.CallLaws.{with_out, looks, first-refused, first_done}
+-- The place of the first match as a word and in `out`; a refusal is the lookup's.
+use mathlib.Core.Path.{sym, ◌∙◌}
+use Rattle.flowspec.specs.Told.{match_place_told}
+use Rattle.calls.proofs.Places.{not-located}
+use Rattle.calls.proofs.CallLaws.{with_out, looks, refused, done, answered}
 use Rattle.calls.proofs.first_match.Goals as goal
 
-pub returns-then-found-ne0 : goal.returns-then-found-ne0
-returns-then-found-ne0 c = with_out (looks _ _) (first-refused _ _ _ _ _ _ c.first_match_place-found.ensures c.if-found-ne0.true _ c.word_of.ensures)
+pub word_of-requires : goal.word_of-requires
+word_of-requires c = (not-located _ _ _ _ (sym c.first_match_place.ensures.is ∙ c.in-Err.is)).near
 
-pub returns : goal.returns
-returns c = with_out (looks _ _) (first_done _ _ _ _ _ _ c.first_match_place-found.ensures c.if-found-ne0.false)
+pub returns-in-Err : goal.returns-in-Err
+returns-in-Err c =
+    with_out (looks _ _) (answered match_place_told _ _ c.first_match_place.ensures.is _ c.in-Err.is _ _ _ (refused _ _ _ _ c.word_of.ensures))
+
+pub returns-in-Ok : goal.returns-in-Ok
+returns-in-Ok c = with_out (looks _ _) (answered match_place_told _ _ c.first_match_place.ensures.is _ c.in-Ok.is _ _ _ (done _ _))

@@ -1,24 +1,19 @@
 -- The answer to a whole attribute as a word and in `out`; a refusal is one of 01's table, as amended.
 use mathlib.Core.Path.{sym, ◌∙◌}
-use Rattle.rule.proofs.Refusal.{Refusal}
 use Rattle.update.specs.Apply.{reached_told}
 use Rattle.calls.proofs.AttributePlaces.{not-reached}
 use Rattle.calls.proofs.CallLaws.{with_out, reaches, refused, done, answered}
-use Rattle.calls.proofs.reach.Goals.{In-Refused}
 use Rattle.calls.proofs.reach.Goals as goal
 
-refusal : (c : In-Refused) → Refusal c.in-Refused.number c.in-Refused.place
-refusal c = not-reached _ _ _ _ _ _ _ (sym c.reach.ensures.is ∙ c.in-Refused.is)
-
 pub word_of-requires : goal.word_of-requires
-word_of-requires c = (refusal c).near
+word_of-requires c = (not-reached _ _ _ _ _ _ (sym c.reach.ensures.is ∙ c.in-Err.is)).near
 
-pub returns-in-Refused : goal.returns-in-Refused
-returns-in-Refused c =
+pub returns-in-Err : goal.returns-in-Err
+returns-in-Err c =
     let kept = rw c.settings_in-settings.ensures at c.reach.ensures in
-    rw (kept.leaves, kept.lists) (with_out (reaches _ _ _ _ _) (answered reached_told _ _ kept.is _ c.in-Refused.is _ _ _ (refused _ _ _ _ _ c.word_of.ensures)))
+    rw (kept.leaves, kept.lists) (with_out (reaches _ _ _ _ _) (answered reached_told _ _ kept.is _ c.in-Err.is _ _ _ (refused _ _ _ _ c.word_of.ensures)))
 
-pub returns-in-Done : goal.returns-in-Done
-returns-in-Done c =
+pub returns-in-Ok : goal.returns-in-Ok
+returns-in-Ok c =
     let kept = rw c.settings_in-settings.ensures at c.reach.ensures in
-    rw (kept.leaves, kept.lists) (with_out (reaches _ _ _ _ _) (answered reached_told _ _ kept.is _ c.in-Done.is _ _ _ (done _ _)))
+    rw (kept.leaves, kept.lists) (with_out (reaches _ _ _ _ _) (answered reached_told _ _ kept.is _ c.in-Ok.is _ _ _ (done _ _)))

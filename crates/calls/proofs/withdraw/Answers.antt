@@ -2,12 +2,16 @@
 use mathlib.Core.Path.{refl, sym, ◌∙◌}
 use Rattle.flowspec.specs.Told.{withdrawn_told}
 use Rattle.calls.proofs.CallLaws.{word-is}
-use Rattle.calls.proofs.Places.{withdrawn-near, not-withdrawn}
+use Rattle.calls.proofs.Places.{not-withdrawn}
 use Rattle.calls.proofs.withdraw.Goals as goal
 
-pub withdrawn_word-requires : goal.withdrawn_word-requires
-withdrawn_word-requires c = withdrawn-near _ (λ n p e. not-withdrawn _ _ _ n p (sym c.withdraw-answer.ensures.is ∙ e))
+pub word_of-requires : goal.word_of-requires
+word_of-requires c = (not-withdrawn _ _ _ _ (sym c.withdraw.ensures.is ∙ c.in-Err.is)).near
 
-pub returns : goal.returns
-returns c =
-    record { is = word-is withdrawn_told _ _ c.withdraw-answer.ensures.is _ refl _ c.withdrawn_word.ensures; leaves = rw c.withdraw-answer.ensures.leaves }
+pub returns-in-Err : goal.returns-in-Err
+returns-in-Err c =
+    record { is = word-is withdrawn_told _ _ c.withdraw.ensures.is _ c.in-Err.is _ c.word_of.ensures; leaves = rw c.withdraw.ensures.leaves }
+
+pub returns-in-Ok : goal.returns-in-Ok
+returns-in-Ok c =
+    record { is = word-is withdrawn_told _ _ c.withdraw.ensures.is _ c.in-Ok.is _ refl; leaves = rw c.withdraw.ensures.leaves }

@@ -1,6 +1,5 @@
 -- The place is small, so that the word fits.
-use mathlib.Core.Path.{refl}
 use Rattle.calls.proofs.word_of.Goals as goal
 
 pub returns : goal.returns
-returns c = refl
+returns c = rw (c.number.ensures.0, c.place.ensures)

@@ -2,8 +2,8 @@
 use Rattle.calls.proofs.CallLaws.{unmatched-words, matched-words}
 use Rattle.calls.proofs.words_of.Goals as goal
 
-pub returns-in-Unmatched : goal.returns-in-Unmatched
-returns-in-Unmatched c = unmatched-words _ c.in-Unmatched.is
+pub returns-in_default : goal.returns-in_default
+returns-in_default c = unmatched-words _ c.in_default.is
 
-pub returns-in-Matched : goal.returns-in-Matched
-returns-in-Matched c = matched-words _ _ _ _ c.in-Matched.is c.values_of-values.ensures
+pub returns : goal.returns
+returns c = matched-words _ _ _ c.in-Some.is c.values_of-values.ensures

@@ -5,7 +5,7 @@ use borrow.Author.Rules.{rules}
 use Rattle.entry.proofs.write_record.Goals as goal
 
 pub write_fields-requires : goal.write_fields-requires
-write_fields-requires c = (refl, search (head-room, rules))
+write_fields-requires c = head-room _ _ _ _ refl c.requires
 
 pub returns : goal.returns
 returns c = search (record-stored, rules)

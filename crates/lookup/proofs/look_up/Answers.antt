@@ -1,20 +1,20 @@
 -- What was collected and what is left of the table give the verdict.
 use borrow.Author.Rules.{rules}
-use mathlib.Core.Path.{◌≡◌, sym, ◌∙◌}
+use mathlib.Core.Path.{◌≡◌, sym, ap, ◌∙◌}
 use native.Mathlib.Omega.{arith}
-use Rattle.table.specs.declared.NextRecord.TheVariants.{Record}
+use Rattle.std.proofs.Common.{Ok, Some}
 use Rattle.table.specs.Walk.{record_at}
 use Rattle.table.proofs.WalkLaws.{Found, was-found}
 use Rattle.table.proofs.EntryLaws.{length-there}
 use Rattle.lookup.proofs.LookupLaws.{look-starts, look-end, look-unsound, look-missed, look-goes-on, look-stops}
-use Rattle.lookup.proofs.look_up.Goals.{In-Record}
+use Rattle.lookup.proofs.look_up.Goals.{In-Ok-Some, in_default-via-in-Ok+in_default, in_default-via-in_default}
 use Rattle.lookup.proofs.look_up.Goals as goal
 
 -- where a record was found: the turn of the loop, the function's start, and what is known
-found_here : (c : In-Record) → record_at c.args.table.now c.loop-next.at ≡ Record c.in-Record.next
-found_here c = sym c.record_at.ensures ∙ c.in-Record.is
+found_here : (c : In-Ok-Some) → record_at c.args.table.now c.loop-next.at ≡ Ok (Some c.in-Ok-Some.next)
+found_here c = sym c.record_at.ensures ∙ c.in-Ok-Some.is ∙ ap (λ found. Ok found) c.in-Ok-Some.field-0-is
 
-found : (c : In-Record) → Found c.args.table.now c.loop-next.at c.in-Record.next
+found : (c : In-Ok-Some) → Found c.args.table.now c.loop-next.at c.in-Ok-Some.next
 found c = was-found _ _ _ (found_here c)
 
 pub loop-next-init : goal.loop-next-init
@@ -30,31 +30,33 @@ pub slice_bounds-hit_of_record-end : goal.slice_bounds-hit_of_record-end
 slice_bounds-hit_of_record-end c = omega (arith, found c)
 
 pub hit_of_record-requires : goal.hit_of_record-requires
-hit_of_record-requires c = (c.requires, omega (arith, found (goal.at.hit_of_record-requires c).In-Record, length-there _ c.loop-next.at _ (found_here (goal.at.hit_of_record-requires c).In-Record)))
+hit_of_record-requires c =
+    let there = (goal.at.hit_of_record-requires c).In-Ok-Some in
+    (c.requires, omega (arith, found there, length-there _ c.loop-next.at _ (found_here there)))
 
 pub loop-next-smaller-in-Missed : goal.loop-next-smaller-in-Missed
-loop-next-smaller-in-Missed c = omega (arith, found (goal.at.loop-next-smaller-in-Missed c).In-Record)
+loop-next-smaller-in-Missed c = omega (arith, found (goal.at.loop-next-smaller-in-Missed c).In-Ok-Some)
 
 pub loop-next-preserved-in-Missed : goal.loop-next-preserved-in-Missed
-loop-next-preserved-in-Missed c = look-missed _ _ _ _ _ _ _ c.loop-next.invariant _ (found_here (goal.at.loop-next-preserved-in-Missed c).In-Record) _ c.hit_of_record.ensures c.in-Missed.is
-
-pub overflow_add-count : goal.overflow_add-count
-overflow_add-count c = omega (arith, c.loop-next.invariant.few, c.loop-next.invariant.within, found (goal.at.overflow_add-count c).In-Record)
+loop-next-preserved-in-Missed c =
+    look-missed _ _ _ _ _ _ _ c.loop-next.invariant _ (found_here (goal.at.loop-next-preserved-in-Missed c).In-Ok-Some) _ c.hit_of_record.ensures c.in-Missed.is
 
 pub loop-next-smaller : goal.loop-next-smaller
-loop-next-smaller c = omega (arith, found (goal.at.loop-next-smaller c).In-Record)
+loop-next-smaller c = omega (arith, found (goal.at.loop-next-smaller c).In-Ok-Some)
 
 pub loop-next-preserved : goal.loop-next-preserved
-loop-next-preserved c = look-goes-on _ _ _ _ _ _ _ c.loop-next.invariant _ (found_here (goal.at.loop-next-preserved c).In-Record) _ c.hit_of_record.ensures _ _ c.in-GoesOn.is c.merge-actions.ensures
+loop-next-preserved c =
+    look-goes-on _ _ _ _ _ _ _ c.loop-next.invariant _ (found_here (goal.at.loop-next-preserved c).In-Ok-Some) _ c.hit_of_record.ensures _ _ c.in-GoesOn.is
+    c.merge-actions.ensures
 
-pub overflow_add-count-in-Stops : goal.overflow_add-count-in-Stops
-overflow_add-count-in-Stops c = omega (arith, c.loop-next.invariant.few, c.loop-next.invariant.within, found (goal.at.overflow_add-count-in-Stops c).In-Record)
-
-pub returns-in-Nothing : goal.returns-in-Nothing
-returns-in-Nothing c = search (look-end, rules)
-
-pub returns-in-Unsound : goal.returns-in-Unsound
-returns-in-Unsound c = search (look-unsound, rules)
+pub returns-in_default : goal.returns-in_default
+returns-in_default c =
+    elim c.in_default.branch [
+      | in_default-via-in-Ok+in_default w ↦ look-end _ _ _ _ _ _ _ c.loop-next.invariant _ _ c.record_at.ensures (search rules) c.verdict_of.ensures
+      | in_default-via-in_default w ↦ look-unsound _ _ _ _ _ _ _ c.loop-next.invariant _ _ c.record_at.ensures _ w.in_default.is c.verdict_of.ensures
+    ]
 
 pub returns-in-Stops : goal.returns-in-Stops
-returns-in-Stops c = look-stops _ _ _ _ _ _ _ c.loop-next.invariant _ (found_here (goal.at.returns-in-Stops c).In-Record) _ c.hit_of_record.ensures _ _ _ c.in-Stops.is c.merge.ensures c.verdict_of-in-Stops.ensures
+returns-in-Stops c =
+    look-stops _ _ _ _ _ _ _ c.loop-next.invariant _ (found_here (goal.at.returns-in-Stops c).In-Ok-Some) _ c.hit_of_record.ensures _ _ _ c.in-Stops.is
+    c.merge.ensures c.verdict_of-in-Stops.ensures

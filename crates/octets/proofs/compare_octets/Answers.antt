@@ -1,28 +1,35 @@
 -- The octets passed are equal, so that the order of both slices is the order of what is left of them.
-use borrow.Author.Rules.{rules}
-use Prim.Native.Nat.{compare}
 use mathlib.Core.Path.{refl, ap, sym, ◌∙◌}
-use native.Mathlib.Nat.{le_antisymm}
 use native.Mathlib.Omega.{arith}
+use Rattle.std.proofs.lemmas.Slice.Zip.{either_empty_from_Zip}
 use Rattle.octets.specs.Order.{ordered}
-use Rattle.octets.proofs.OrderLaws.{lex-both, lex-first-out, lex-second-out, lt-cmp, gt-cmp, eq-cmp}
+use Rattle.octets.proofs.OrderLaws.{numbers-ordered, lex-out, lex-apart, lex-along}
 use Rattle.octets.proofs.compare_octets.Goals as goal
 
-pub loop-i-init : goal.loop-i-init
-loop-i-init c = (search rules, search rules, refl)
-
-pub returns-then-a-i : goal.returns-then-a-i
-returns-then-a-i c = let l = c.loop-i in
-    c.compare_numbers.ensures ∙ sym (ap ordered (l.invariant.2 ∙ lex-first-out compare 0 _ _ _ c.if-a-i.true l.invariant.0 l.invariant.1))
-
-pub returns-then-b-i : goal.returns-then-b-i
-returns-then-b-i c = rw (c.loop-i.invariant.2, lex-second-out compare 0 _ _ _ c.if-a-i.false c.if-b-i.true)
+pub loop-x-init : goal.loop-x-init
+loop-x-init c =
+    let z = c.zip-x-items.ensures in
+    let first = z.first in
+    let second = z.second.0 in
+    let rest = c.iter.ensures.rest in
+    rw (c.into_iter-x-iterator.ensures.into_iter_gives, first, second, rest) (refl, omega arith)
 
 pub returns-then-x-y : goal.returns-then-x-y
-returns-then-x-y c = rw (c.loop-i.invariant.2, lex-both compare 0 _ _ _ c.if-a-i.false c.if-b-i.false, lt-cmp _ _ c.if-x-y.true)
+returns-then-x-y c =
+    let s = c.in-Some.ensures.steps in
+    c.cmp.ensures
+    ∙ numbers-ordered _ _
+    ∙ ap ordered (sym (c.loop-x.invariant.0 ∙ lex-apart _ _ _ _ _ _ s.0 s.1 c.if-x-y.true))
 
-pub returns-then-y-x : goal.returns-then-y-x
-returns-then-y-x c = rw (c.loop-i.invariant.2, lex-both compare 0 _ _ _ c.if-a-i.false c.if-b-i.false, gt-cmp _ _ c.if-y-x.true)
+pub loop-x-preserved : goal.loop-x-preserved
+loop-x-preserved c =
+    let l = c.loop-x.invariant in
+    let s = c.in-Some.ensures.steps in
+    (l.0 ∙ lex-along _ _ _ _ _ _ s.0 s.1 c.if-x-y.false, omega (arith, l.1, ap (λ r. lib.ListN.length r) s.0, ap (λ r. lib.ListN.length r) s.1))
 
-pub loop-i-preserved : goal.loop-i-preserved
-loop-i-preserved c = (omega arith, omega arith, c.loop-i.invariant.2 ∙ lex-both compare 0 _ _ _ c.if-a-i.false c.if-b-i.false ∙ rw (eq-cmp _ _ (le_antisymm c.if-y-x.false c.if-x-y.false)))
+pub returns : goal.returns
+returns c =
+    let l = c.loop-x.invariant in
+    c.cmp-2.ensures
+    ∙ numbers-ordered _ _
+    ∙ ap ordered (sym (l.0 ∙ lex-out _ _ _ _ (either_empty_from_Zip c.loop-x.x-iterator c.next.new.self _ c.in-None.is c.next.ensures.steps) l.1))

@@ -1,11 +1,10 @@
-use Prim.Native.Nat.{◌≤◌, ◌-◌, compare}
+use Prim.Native.Nat.{◌+◌, compare}
 use mathlib.Core.Path.{◌≡◌}
-use lib.ListN.{length, drop}
+use lib.ListN.{length}
 use Rattle.octets.specs.Order.{lex}
 use Rattle.octets.proofs.compare_octets.Given as goal
 
-abbrev pub invariant-loop-i : goal.invariant-loop-i
-invariant-loop-i l = (l.i ≤ length l.a) × (l.i ≤ length l.b) × (lex compare l.a l.b ≡ lex compare (drop l.i l.a) (drop l.i l.b))
-
-abbrev pub decreases-loop-i : goal.decreases-loop-i
-decreases-loop-i l = length l.a - l.i
+abbrev pub invariant-loop-x : goal.invariant-loop-x
+invariant-loop-x l =
+    (lex compare l.a l.b ≡ lex compare l.x-iterator.a.rest.now l.x-iterator.b.rest.now)
+    × (length l.a + length l.x-iterator.b.rest.now ≡ length l.b + length l.x-iterator.a.rest.now)

@@ -3,12 +3,12 @@ use mathlib.Core.Path.{◌≡◌, sym, ◌∙◌}
 use Prim.Native.Nat.{◌+◌, ◌≤◌}
 use native.Mathlib.Omega.{arith}
 use Rattle.octets.proofs.Cases.{apart}
-use Rattle.octets.specs.declared.Order.TheVariants.{First, Second, Same}
 use Rattle.entry.specs.Record.{head_cost}
 use Rattle.table.proofs.TestLaws.{follows-none, follows-yes, follows-not}
 use borrow.Author.Rules.{rules}
 use Rattle.table.proofs.follows.Goals.{Else-at-eq0}
 use Rattle.table.proofs.follows.Goals as goal
+use Rattle.std.specs.declared.cmp.Ordering.TheVariants.{Less, Equal, Greater}
 
 -- where there is a record before this one, it lies before it
 lies-before : (c : Else-at-eq0) → c.args.previous + head_cost ≤ c.args.at
@@ -26,11 +26,11 @@ slice_bounds-compare_plain-count c = omega (arith, lies-before c)
 pub slice_bounds-compare_plain-start : goal.slice_bounds-compare_plain-start
 slice_bounds-compare_plain-start c = omega (arith, lies-before c)
 
-pub returns-in-First : goal.returns-in-First
-returns-in-First c = search (follows-yes, rules)
+pub returns-in-Less : goal.returns-in-Less
+returns-in-Less c = search (follows-yes, rules)
 
-pub returns-in-Second : goal.returns-in-Second
-returns-in-Second c = follows-not _ _ _ _ _ (search rules) _ (search rules) (λ e. let z : First ≡ Second = sym e ∙ c.in-Second.is in apart (cc))
+pub returns-in-Greater : goal.returns-in-Greater
+returns-in-Greater c = follows-not _ _ _ _ _ (search rules) _ (search rules) (λ e. let z : Less ≡ Greater = sym e ∙ c.in-Greater.is in apart (cc))
 
-pub returns-in-Same : goal.returns-in-Same
-returns-in-Same c = follows-not _ _ _ _ _ (search rules) _ (search rules) (λ e. let z : First ≡ Same = sym e ∙ c.in-Same.is in apart (cc))
+pub returns-in-Equal : goal.returns-in-Equal
+returns-in-Equal c = follows-not _ _ _ _ _ (search rules) _ (search rules) (λ e. let z : Less ≡ Equal = sym e ∙ c.in-Equal.is in apart (cc))
