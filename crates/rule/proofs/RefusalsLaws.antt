@@ -10,7 +10,7 @@ use lib.ListN.{length, get_or}
 use borrow.Author.Tests.{leb-true, leb-false, le-leb, lt-leb, ltb-true, ltb-false, lt-ltb, eqb-true, eqb-false, eq-eqb, ne_eqb}
 use Rattle.octets.proofs.Cases.{by-test, both}
 use Rattle.rule.specs.declared.Family.{Family}
-use Rattle.rule.specs.Refusal.{number_of}
+use Rattle.rule.specs.Refusal.{number_of, place_of, RefusedWith}
 use Rattle.rule.specs.Operator.{ends_list, size_of}
 use Rattle.rule.specs.Component.{pair_at, pairs_from, lead_of, offset_at, prefix_end, body_end, found, component_at}
 use Rattle.rule.specs.Value.{most_value, check_value}
@@ -20,7 +20,7 @@ use Rattle.rule.proofs.ComponentLaws.{lead-with, lead-without, lead-some, offset
 use Rattle.rule.proofs.ValueLaws.{accepts, components-ind, check-long, check-empty, check-cut, check-walk, check-on, check-refused, check-cases, was-refused}
 use Rattle.std.proofs.Common.{Result, Ok, Err, Option, Some, None}
 use Rattle.rule.specs.declared.Refusal.{Refusal}
-use Rattle.rule.specs.declared.Refusal.TheVariants.{UnknownType, TypeOrder, PrefixLength, CutShort, ValueSize}
+use Rattle.rule.specs.declared.Refusal.TheVariants.{Overlong, Empty, UnknownType, TypeOrder, PrefixLength, CutShort, ValueSize}
 use Rattle.rule.specs.declared.NextPair.{NextPair}
 use Rattle.rule.specs.declared.NextPair.TheVariants.{More, Last}
 use Rattle.rule.specs.declared.Located.{Located}
@@ -42,21 +42,21 @@ module _ (family : Family) where
 module _ (family : Family) (v : List ℕ) where
   -- what a refusal must say, of a pair, a body, a component and a value
   abbrev OfPair : Result NextPair Refusal → Type 0
-  OfPair (Err refusal) = ValueRefused family v refusal
+  OfPair (Err refusal) = ValueRefused family v (number_of refusal) (place_of refusal)
   OfPair (Ok (More behind)) = Unit {0}
   OfPair (Ok (Last behind)) = Unit {0}
 
   abbrev OfBody : Result ℕ Refusal → Type 0
-  OfBody (Err refusal) = ValueRefused family v refusal
+  OfBody (Err refusal) = ValueRefused family v (number_of refusal) (place_of refusal)
   OfBody (Ok behind) = Unit {0}
 
   abbrev OfComponent : Result (Option Located) Refusal → Type 0
-  OfComponent (Err refusal) = ValueRefused family v refusal
+  OfComponent (Err refusal) = ValueRefused family v (number_of refusal) (place_of refusal)
   OfComponent (Ok None) = Unit {0}
   OfComponent (Ok (Some found)) = Unit {0}
 
   abbrev OfValue : Result Unit Refusal → Type 0
-  OfValue (Err refusal) = ValueRefused family v refusal
+  OfValue (Err refusal) = ValueRefused family v (number_of refusal) (place_of refusal)
   OfValue (Ok _) = Unit {0}
 
   module _ (at : ℕ) (opens : Opens family v at) where
@@ -231,41 +231,53 @@ module _ (family : Family) (v : List ℕ) where
   pair-cut largest at (no-operator missing) = pair-missing largest v at missing
   pair-cut largest at (short-value inside allowed short) = pair-short largest v at (size_of (get_or v at 0)) refl inside allowed short
 
-  row-refuses : (refusal : Refusal) → ValueRefused family v refusal → check_value family v ≡ Err refusal
-  row-refuses refusal (one long) = sym (check-long family v long)
-  row-refuses refusal (two small none) = sym (check-empty family v small (go none))
+  -- a refusal has its number and its place
+  refused-so : (refusal : Refusal) → check_value family v ≡ Err refusal → RefusedWith (check_value family v) (number_of refusal) (place_of refusal)
+  refused-so refusal e = rw e (refl, refl)
+
+  row-refuses : (number place : ℕ) → ValueRefused family v number place → RefusedWith (check_value family v) number place
+  row-refuses number there (one long) = refused-so Overlong (sym (check-long family v long))
+  row-refuses number there (two small none) = refused-so Empty (sym (check-empty family v small (go none)))
     where
       go : (length v ≡ 0) ⊎ (length v ≡ family.head) → (eqb (length v) 0 || eqb (length v) family.head) ≡ true
       go (inl e) = rw (eq-eqb (length v) 0 e)
       go (inr e) = by-test (eqb (length v) 0) (λ t. rw t) (λ t. rw (t, eq-eqb (length v) family.head e))
-  row-refuses refusal (three {place} {previous} b inside unknown) =
-      refused-there place previous (UnknownType place) b (component-unknown family v place previous inside unknown)
-  row-refuses refusal (four {place} {previous} b inside known order) =
-      refused-there place previous (TypeOrder place) b (component-order family v place previous inside known order)
-  row-refuses refusal (five {at} o t range) = refused-prefix at (PrefixLength (at + 1)) o t (prefix-out-of-range (at + 1) range)
-  row-refuses refusal (six-prefix {at} o t cut) = refused-prefix at (CutShort (length v)) o t (prefix-cut (at + 1) cut)
-  row-refuses refusal (six-list {at} {place} o t p cut) =
-      refused-pair at place (CutShort (length v)) o t p (pair-cut (shape_at family v at).largest place cut)
-  row-refuses refusal (six-head small some short) =
-      sym (check-cut family v small (rw (ne_eqb (length v) 0 (λ e. omega arith), ne_eqb (length v) family.head (λ e. omega arith))) short)
-  row-refuses refusal (seven {at} {place} o t p inside large) =
-      refused-pair at place (ValueSize place) o t p (pair_size (shape_at family v at).largest v place (size_of (get_or v place 0)) refl inside large)
+  row-refuses number there (three {place} {previous} b inside unknown) =
+      refused-so (UnknownType place) (refused-there place previous (UnknownType place) b (component-unknown family v place previous inside unknown))
+  row-refuses number there (four {place} {previous} b inside known order) =
+      refused-so (TypeOrder place) (refused-there place previous (TypeOrder place) b (component-order family v place previous inside known order))
+  row-refuses number there (five {at} o t range) =
+      refused-so (PrefixLength (at + 1)) (refused-prefix at (PrefixLength (at + 1)) o t (prefix-out-of-range (at + 1) range))
+  row-refuses number there (six-prefix {at} o t cut) =
+      refused-so (CutShort (length v)) (refused-prefix at (CutShort (length v)) o t (prefix-cut (at + 1) cut))
+  row-refuses number there (six-list {at} {place} o t p cut) =
+      refused-so (CutShort (length v)) (refused-pair at place (CutShort (length v)) o t p (pair-cut (shape_at family v at).largest place cut))
+  row-refuses number there (six-head small some short) =
+      refused-so (CutShort (length v))
+      (sym (check-cut family v small (rw (ne_eqb (length v) 0 (λ e. omega arith), ne_eqb (length v) family.head (λ e. omega arith))) short))
+  row-refuses number there (seven {at} {place} o t p inside large) =
+      refused-so (ValueSize place)
+      (refused-pair at place (ValueSize place) o t p (pair_size (shape_at family v at).largest v place (size_of (get_or v place 0)) refl inside large))
 
   -- **1 to 7 of a value**, each exactly where its row says, and at that place.
-  pub value-numbers : (refusal : Refusal) → (check_value family v ≡ Err refusal) ↔ ValueRefused family v refusal
-  value-numbers refusal = ((λ e. subst (OfValue family v) e (value_row family v)), row-refuses refusal)
+  pub value-numbers : (number place : ℕ) → RefusedWith (check_value family v) number place ↔ ValueRefused family v number place
+  value-numbers number place = (named (check_value family v) (value_row family v), row-refuses number place)
+    where
+      named : (c : Result Unit Refusal) → OfValue family v c → RefusedWith c number place → ValueRefused family v number place
+      named (Ok _) says refused = absurd refused
+      named (Err refusal) says refused = rw (← refused.0, ← refused.1) says
 
 -- **1 to 7 of a rule**: its octets run past, or its value is refused.
-pub rule-numbers : (family : Family) (rule : List ℕ) (refusal : Refusal)
-    → (check_rule family rule ≡ Err refusal) ↔ RuleRefused family rule refusal
-rule-numbers family rule refusal =
+pub rule-numbers : (family : Family) (rule : List ℕ) (number place : ℕ)
+    → RefusedWith (check_rule family rule) number place ↔ RuleRefused family rule number place
+rule-numbers family rule number place =
     by-test (ltb (length rule) (rule_end rule))
     (λ t.
     let past = ltb-true (length rule) (rule_end rule) t in
-    rw t ((λ e. inl (past, cc)), ⊎_elim (λ b. rw b.1) (λ b. let fits = b.0 in absurd (omega arith))))
+    rw t ((λ e. inl (past, (sym e.0, sym e.1))), ⊎_elim (λ b. (sym b.1.0, sym b.1.1)) (λ b. let fits = b.0 in absurd (omega arith))))
     (λ t.
     let fits = ltb-false (length rule) (rule_end rule) t in
-    let value = value-numbers family (value_in rule) refusal in
+    let value = value-numbers family (value_in rule) number place in
     rw t ((λ e. inr (fits, value.0 e)), ⊎_elim (λ b. let past = b.0 in absurd (omega arith)) (λ b. value.1 b.1)))
 
 -- ---- the numbers themselves ----

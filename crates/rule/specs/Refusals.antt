@@ -2,19 +2,15 @@
 -- the one before it ends, and in a list an operator stands behind the pair before it. Where an accepted component or pair ends is taken
 -- from `component_at` and `pair_at`. That a value is refused exactly so is shown in proofs/RefusalsLaws.antt. Quoted are 01's words, whose
 -- 12 and 32 are those of IPv4; in another family they are its highest type and its width.
-use Rattle.std.specs.Prelude.{ℕ, ◌+◌, ◌-◌, ◌/◌, ◌<◌, ◌≤◌, ◌≡◌, Bool, true, false, ◌||◌, List, ◌⊎◌, ltb, eqb, length, get_or}
+use Rattle.std.specs.Prelude.{ℕ, ◌+◌, ◌-◌, ◌/◌, ◌<◌, ◌≤◌, ◌≡◌, Bool, true, false, ◌||◌, List, ◌⊎◌, ltb, eqb, length, get_or, Ok, Some}
 use Rattle.rule.specs.declared.Family.{Family}
 use Rattle.rule.specs.declared.Shape.{Shape}
+use Rattle.rule.specs.declared.NextPair.TheVariants.{More}
 use Rattle.rule.specs.Shape.{shape_of}
 use Rattle.rule.specs.Operator.{size_of}
-use Rattle.rule.specs.Component.{pair_at, lead_of, offset_at, component_at}
+use Rattle.rule.specs.Component.{pair_at, lead_of, offset_at, located, component_at}
 use Rattle.rule.specs.Value.{most_value}
 use Rattle.rule.specs.Reading.{rule_end, value_in}
-use Rattle.std.specs.Prelude.{Ok, Some}
-use Rattle.rule.specs.declared.NextPair.TheVariants.{More}
-use Rattle.rule.specs.declared.Refusal.{Refusal}
-use Rattle.rule.specs.declared.Refusal.TheVariants.{Overlong, Empty, UnknownType, TypeOrder, PrefixLength, CutShort, ValueSize}
-use Rattle.rule.specs.Component.{located}
 
 -- In a value of at most 4,095 octets that is longer than its head a component begins, or the value ends, at a place; the component before
 -- it is of the type `previous`. The first begins behind the head, and 0 stands for the type before it.
@@ -75,34 +71,34 @@ pub data PairCut (largest : ℕ) (v : List ℕ) (at : ℕ) : Type 0 where
   -- Fewer octets follow than it says, of a size that the type allows.
   short-value : at < length v → size_of (get_or v at 0) ≤ largest → length v - (at + 1) < size_of (get_or v at 0) → PairCut largest v at
 
--- A value is refused so. 01: "3 to 7 carry a place in the value: the type octet (3, 4), the length octet (5), the
+-- A value is refused with a number at a place. 01: "3 to 7 carry a place in the value: the type octet (3, 4), the length octet (5), the
 -- operator (7), the value's end (6)"; "at one octet 3 precedes 4, and 7 precedes 6".
-pub data ValueRefused (family : Family) (v : List ℕ) : Refusal → Type 0 where
+pub data ValueRefused (family : Family) (v : List ℕ) : ℕ → ℕ → Type 0 where
   -- "value over 4,095"
-  one : most_value < length v → ValueRefused family v Overlong
+  one : most_value < length v → ValueRefused family v 1 0
   -- "value of length 0", or exactly as long as its head
-  two : length v ≤ most_value → (length v ≡ 0) ⊎ (length v ≡ family.head) → ValueRefused family v Empty
+  two : length v ≤ most_value → (length v ≡ 0) ⊎ (length v ≡ family.head) → ValueRefused family v 2 0
   -- "component type 0 or above 12"
   three : {place previous : ℕ} → Begins family v place previous → place < length v → unknown_type family v place ≡ true
-      → ValueRefused family v (UnknownType place)
+      → ValueRefused family v 3 place
   -- "type not above the one before"
   four : {place previous : ℕ} → Begins family v place previous → place < length v → unknown_type family v place ≡ false
       → type_at v place ≤ previous
-      → ValueRefused family v (TypeOrder place)
+      → ValueRefused family v 4 place
   -- "prefix length above 32"
-  five : {at : ℕ} → Opens family v at → (shape_at family v at).prefix ≡ true → OutOfRange family v (at + 1) → ValueRefused family v (PrefixLength (at + 1))
+  five : {at : ℕ} → Opens family v at → (shape_at family v at).prefix ≡ true → OutOfRange family v (at + 1) → ValueRefused family v 5 (at + 1)
   -- "value ends inside a component": a prefix or a list; or, before any, inside the head
   six-prefix : {at : ℕ} → Opens family v at → (shape_at family v at).prefix ≡ true → PrefixCut family v (at + 1)
-      → ValueRefused family v (CutShort (length v))
+      → ValueRefused family v 6 (length v)
   six-list : {at place : ℕ} → Opens family v at → (shape_at family v at).prefix ≡ false → Operator family v at place
-      → PairCut (shape_at family v at).largest v place → ValueRefused family v (CutShort (length v))
-  six-head : length v ≤ most_value → 0 < length v → length v < family.head → ValueRefused family v (CutShort (length v))
+      → PairCut (shape_at family v at).largest v place → ValueRefused family v 6 (length v)
+  six-head : length v ≤ most_value → 0 < length v → length v < family.head → ValueRefused family v 6 (length v)
   -- "size not allowed for the type"
   seven : {at place : ℕ} → Opens family v at → (shape_at family v at).prefix ≡ false → Operator family v at place → place < length v
-      → (shape_at family v at).largest < size_of (get_or v place 0) → ValueRefused family v (ValueSize place)
+      → (shape_at family v at).largest < size_of (get_or v place 0) → ValueRefused family v 7 place
 
 -- A rule is refused so: 1 where its "length field or value runs past the bytes", and else as its value is.
-abbrev pub RuleRefused : Family → List ℕ → Refusal → Type 0
-RuleRefused family rule refusal =
-    ((length rule < rule_end rule) × (refusal ≡ Overlong))
-    ⊎ ((rule_end rule ≤ length rule) × ValueRefused family (value_in rule) refusal)
+abbrev pub RuleRefused : Family → List ℕ → ℕ → ℕ → Type 0
+RuleRefused family rule number place =
+    ((length rule < rule_end rule) × ((number ≡ 1) × (place ≡ 0)))
+    ⊎ ((rule_end rule ≤ length rule) × ValueRefused family (value_in rule) number place)
