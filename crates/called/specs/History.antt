@@ -20,7 +20,8 @@ pub record Called : Type 0 where
   pub left : List ℕ
 
 -- The answer that a word says, by the kind of the call: held, with the notes that `out` has, or done; or the refusal whose number stands in
--- the low 32 bits and whose place in the high 32.
+-- the low 32 bits and whose place in the high 32. A word of a number that stands in no row of 01's table, or with a place where its row has
+-- none, says no refusal of its own, and no call returns one.
 abbrev pub answer_in : (call : Call) → ℕ → List ℕ → AnswerTo call
 answer_in (announcement policy a) result out =
     cond (eqb (result % 2 ^ 32) 0) (Ok (get_or out 0 0)) (refused_with (result % 2 ^ 32) (result / 2 ^ 32))

@@ -1,6 +1,7 @@
 -- What every refusal is: a number of 01's table, as amended, and a place that lies within the longest value. Assumes nothing.
 use Prim.Native.Nat.{ℕ, ◌≤◌}
 use mathlib.Core.Path.{◌≡◌, refl}
+use mathlib.Core.List.{List, [], ◌∷◌, map}
 use native.Mathlib.Omega.{arith}
 use Rattle.rule.specs.declared.Refusal.{Refusal}
 use Rattle.rule.specs.declared.Refusal.TheVariants.{Overlong, Empty, UnknownType, TypeOrder, PrefixLength, CutShort, ValueSize, Infeasible, UnsoundRoutes, UnsoundTable, NoRoom, UnusablePacket, UnsoundActions, NotHeld, OctetsBehind, ShortBuffer, UntakenAttribute}
@@ -52,7 +53,7 @@ pub record Near (r : Refusal) : Type 0 where
 pub placeless : (r : Refusal) → place_of r ≡ 0 → Near r
 placeless r e = record { near = omega arith }
 
--- the refusal that is named by a number and a place has them
+-- a refusal is the one that its number and its place name
 pub refusal-with : (r : Refusal) → refusal_with (number_of r) (place_of r) ≡ r
 refusal-with Overlong = refl
 refusal-with Empty = refl
@@ -71,3 +72,15 @@ refusal-with NotHeld = refl
 refusal-with OctetsBehind = refl
 refusal-with ShortBuffer = refl
 refusal-with UntakenAttribute = refl
+
+-- the numbers of 01's table, as amended
+abbrev pub table_numbers : List ℕ
+table_numbers = 1 ∷ 2 ∷ 3 ∷ 4 ∷ 5 ∷ 6 ∷ 7 ∷ 8 ∷ 9 ∷ 10 ∷ 11 ∷ 12 ∷ 13 ∷ 14 ∷ 15 ∷ 16 ∷ 19 ∷ []
+
+-- and the refusal that is named by one of them has that number, and, where its row is one of 3 to 7, the place that is named beside it
+pub numbers-back : (place : ℕ) → map (λ number. number_of (refusal_with number place)) table_numbers ≡ table_numbers
+numbers-back place = refl
+
+pub places-back : (place : ℕ) → map (λ number. place_of (refusal_with number place)) table_numbers
+    ≡ 0 ∷ 0 ∷ place ∷ place ∷ place ∷ place ∷ place ∷ 0 ∷ 0 ∷ 0 ∷ 0 ∷ 0 ∷ 0 ∷ 0 ∷ 0 ∷ 0 ∷ 0 ∷ []
+places-back place = refl

@@ -53,7 +53,8 @@ abbrev pub told_number : Result Unit Refusal → ℕ
 told_number (Ok _) = 0
 told_number (Err refusal) = number_of refusal
 
--- The refusal of a number of the table, with a place. That it is the one that has them is shown in proofs/Near.antt.
+-- The refusal of a number of the table, with a place. That it is the one that has them is shown in proofs/Near.antt; a number that stands in
+-- no row is taken for the last one's.
 abbrev pub refusal_with : ℕ → ℕ → Refusal
 refusal_with number place =
     cond (eqb number 1) Overlong
