@@ -23,7 +23,7 @@ use Rattle.route.specs.declared.Neighbours.TheVariants.{Nobody, One, Several}
 use Rattle.route.specs.Route.{Route, route_of, route_at, routes_of}
 use Rattle.route.specs.Feasible.{covered_by, more_specific, longer, matched, best_match, originates, undisputed, judged, feasible}
 use Rattle.route.specs.Pass.{added, noted, agrees, validated}
-use Rattle.route.proofs.RouteLaws.{routes-next, routes-none}
+use Rattle.route.proofs.RouteLaws.{routes-front, routes-none}
 
 -- the longer of three matches is the same however they are taken together
 pub longer-none : (a : Option Route) → longer a None ≡ a
@@ -91,7 +91,7 @@ module _ (family : Family) (F : Fits family) (d : Pattern) (ws : List ℕ) (best
       → b ≡ longer best (matched family.width d r) → s ≡ noted family.width d seen r → Passed family d ws b s rest
   unfolding best_match undisputed every
   pass_on r b s e f g =
-      let next = routes-next family own rest F size more cut in
+      let next = routes-front family own rest F size more cut in
       record {
         matching =
             rw (f, longer-assoc best (matched family.width d r) (best_match family.width d (routes_of family rest)))

@@ -4,7 +4,7 @@ use mathlib.Core.Bool.{Bool, true, false, ◌&&◌, ◌||◌, and-false, and_ass
 use mathlib.Core.List.{List, [], ◌∷◌, ◌++◌}
 use Prim.Native.Nat.{ℕ, zero, suc, ◌+◌, ◌-◌, ◌*◌, ◌/◌, ◌%◌, ◌^◌, ◌≤◌, ◌<◌}
 use native.Mathlib.Omega.{arith}
-use native.Mathlib.Nat.{zero-add, add-zero, add-suc, add_assoc, pow-suc, mul-le-mul_right, div-eq_of_lt, div-eq-sub-div}
+use native.Mathlib.Nat.{zero-add, add-zero, add-suc, add_assoc, pow-suc, sub-zero, mul-le-mul_right, div-eq_of_lt, div-eq-sub-div}
 use native.Mathlib.Numerals.{add-one}
 use lib.Dec.{ltb, eqb, lit<}
 use lib.ListN.{length, get_or, length-append, get_or-append}
@@ -21,6 +21,27 @@ use Rattle.rule.specs.Family.{Fits}
 use Rattle.route.specs.declared.Route.{Route as RouteInCode}
 use Rattle.route.specs.Route.{Route, route_of, number_in_words, address_words, route_at, routes_from, routes_of, plain_prefix, rises, rising, most_routes, sound_routes}
 use Rattle.route.specs.Pass.{may_follow}
+
+-- the routes from a place on
+abbrev pub ahead : Family → List ℕ → ℕ → List Route
+ahead family ws at = routes_from family ((length ws - at) / family.words) ws at
+
+pub routes-all : (family : Family) (ws : List ℕ) → ahead family ws 0 ≡ routes_of family ws
+unfolding routes_of
+routes-all family ws = rw (sub-zero (length ws))
+
+-- as many words as a route has are one route more, and fewer are none
+pub routes-next : (family : Family) (ws : List ℕ) (at : ℕ) → 0 < family.words → family.words ≤ length ws - at
+    → ahead family ws at ≡ route_at family ws at ∷ ahead family ws (at + family.words)
+unfolding routes_from
+routes-next family ws at some h =
+    let e : length ws - at - family.words ≡ length ws - (at + family.words) = omega arith in
+    let f : (length ws - at) / family.words ≡ suc ((length ws - (at + family.words)) / family.words) = div-eq-sub-div some h ∙ rw (e, add-one) in
+    rw f
+
+pub routes-end : (family : Family) (ws : List ℕ) (at : ℕ) → length ws - at < family.words → ahead family ws at ≡ []
+unfolding routes_from
+routes-end family ws at h = rw (div-eq_of_lt h)
 
 -- the words of a route are no matter to those behind it, nor these to it
 number-behind : (n : ℕ) (own rest : List ℕ) (at : ℕ) → number_in_words n (own ++ rest) (length own + at) ≡ number_in_words n rest at
@@ -66,17 +87,17 @@ module _ (family : Family) (own rest : List ℕ) where
           get_or-append own rest 0 (0 + n + 2) (omega arith),
         )
 
-    -- as many words as a route has are one route more
-    pub routes-next : (ws : List ℕ) → ws ≡ own ++ rest → routes_of family ws ≡ route_at family own 0 ∷ routes_of family rest
+    -- the first words, as many as a route has, are one route more
+    pub routes-front : (ws : List ℕ) → ws ≡ own ++ rest → routes_of family ws ≡ route_at family own 0 ∷ routes_of family rest
     unfolding routes_of routes_from
-    routes-next ws cut =
+    routes-front ws cut =
         let words = F.words in
-        let some : 0 < family.words = omega arith in
         let more : length ws ≡ length own + length rest = ap length cut ∙ length-append own rest in
-        let e : length ws - family.words ≡ length rest = omega arith in
-        let one_more : length ws / family.words ≡ suc (length rest / family.words) = div-eq-sub-div some (omega arith) ∙ rw (e, add-one) in
+        let e : length ws - (0 + family.words) ≡ length rest = omega arith in
         let behind : 0 + family.words ≡ length own + 0 = omega arith in
-        rw (one_more, cut, route-before, behind, routes-behind (length rest / family.words) 0)
+        sym (routes-all family ws)
+        ∙ routes-next family ws 0 (omega arith) (omega arith)
+        ∙ rw (e, cut, route-before, behind, routes-behind (length rest / family.words) 0)
 
 -- and fewer are none
 pub routes-none : (family : Family) (ws : List ℕ) → length ws < family.words → routes_of family ws ≡ []
@@ -143,7 +164,7 @@ module _ (family : Family) (F : Fits family) (ws : List ℕ) where
       first_plain : sound_routes family ws ≡ p && in_order_behind family.width (pattern_of r.prefix) (routes_of family rest)
       first_plain =
           sym by-order
-          ∙ rw (routes-next family own rest F size ws cut, ← here, plain) (first-in-order family.width (route_of r) (routes_of family rest))
+          ∙ rw (routes-front family own rest F size ws cut, ← here, plain) (first-in-order family.width (route_of r) (routes_of family rest))
 
       pub first-not-plain : p ≡ false → false ≡ sound_routes family ws
       first-not-plain e = sym (first_plain ∙ rw e)
@@ -155,7 +176,7 @@ module _ (family : Family) (F : Fits family) (ws : List ℕ) where
       (r : RouteInCode) (p : Bool) (here : route_of r ≡ route_at family own 0) (follows : p ≡ may_follow family.width previous (pattern_of r.prefix)) where
     turn : in_order_behind family.width previous (routes_of family more) ≡ p && in_order_behind family.width (pattern_of r.prefix) (routes_of family rest)
     turn =
-        rw (routes-next family own rest F size more cut, ← here, follows) (next-in-order family.width previous (route_of r) (routes_of family rest))
+        rw (routes-front family own rest F size more cut, ← here, follows) (next-in-order family.width previous (route_of r) (routes_of family rest))
 
     pub not-following : p ≡ false → false ≡ sound_routes family ws
     not-following e = rw e at (sym turn) ∙ c
