@@ -160,10 +160,10 @@ module _ (family : Family) (t octets : List ℕ) where
   look-kept answer e = record { is = e; tells = ap lookup_told e ∙ lookup-tells family t octets; keeps = refl }
 
   locate-kept : (answer : Result Place Refusal) → answer ≡ match_place family t octets
-      → IfOk answer (λ place. (place.start ≤ place.end) × (place.end ≤ length t))
+      → IfOk answer (λ place. place.start ≤ place.end) → IfOk answer (λ place. place.end ≤ length t)
       → LocatesFirst family t octets answer (t ∷ octets ∷ [])
-  locate-kept answer e inside =
-      record { is = e; tells = ap match_place_told e ∙ locate-tells family t octets; inside = inside; keeps = refl }
+  locate-kept answer e ordered inside =
+      record { is = e; tells = ap match_place_told e ∙ locate-tells family t octets; ordered = ordered; inside = inside; keeps = refl }
 
 module _ (family chosen : Family) (chose : chosen ≡ family) (t octets : List ℕ) (sees : Result Packet Refusal)
     (is : sees ≡ opening chosen t octets) where
@@ -174,7 +174,7 @@ module _ (family chosen : Family) (chose : chosen ≡ family) (t octets : List �
 
     pub locate-refused : (answer : Result Place Refusal) → answer ≡ Err refusal → LocatesFirst family t octets answer (t ∷ octets ∷ [])
     unfolding match_place
-    locate-refused answer h = rw (← chose, h) (locate-kept chosen t octets (Err refusal) (rw (← is, e)) tt)
+    locate-refused answer h = rw (← chose, h) (locate-kept chosen t octets (Err refusal) (rw (← is, e)) tt tt)
 
   module _ (packet : Packet) (e : sees ≡ Ok packet) where
     pub look-judged : (verdict : Option Matched) → verdict ≡ verdict_for chosen no_head packet (entries t)
@@ -186,7 +186,7 @@ module _ (family chosen : Family) (chose : chosen ≡ family) (t octets : List �
         → (place ≡ first_place (hit chosen no_head packet) 0 (entries t)) × ((place.start ≤ place.end) × (place.end ≤ length t))
         → LocatesFirst family t octets (Ok place) (t ∷ octets ∷ [])
     unfolding match_place
-    locate-found place v = rw (← chose) (locate-kept chosen t octets (Ok place) (rw (← is, e, ← v.0)) v.1)
+    locate-found place v = rw (← chose) (locate-kept chosen t octets (Ok place) (rw (← is, e, ← v.0)) v.1.0 v.1.1)
 
 -- where a first match was located is where it stands, and where the lookup is refused it stands nowhere
 module _ {family : Family} {t octets : List ℕ} {answer : Result Place Refusal} {kept : List (List ℕ)}

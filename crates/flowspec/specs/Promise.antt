@@ -84,7 +84,8 @@ pub record LooksUp (family : Family) (table packet : List ℕ) (answer : Result 
 pub record LocatesFirst (family : Family) (table packet : List ℕ) (answer : Result Place Refusal) (kept : List (List ℕ)) : Type 0 where
   pub is : answer ≡ match_place family table packet
   pub tells : match_place_told answer ≡ told (lookup_checks family table packet) (done (first_match_values family table packet))
-  pub inside : IfOk answer (λ place. (place.start ≤ place.end) × (place.end ≤ length table))
+  pub ordered : IfOk answer (λ place. place.start ≤ place.end)
+  pub inside : IfOk answer (λ place. place.end ≤ length table)
   pub keeps : kept ≡ table ∷ packet ∷ []
 
 -- The first match's record: the table's octets at its place, and none where nothing matches or the lookup is refused. `lent` and `stands`
