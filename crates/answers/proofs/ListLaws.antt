@@ -39,6 +39,12 @@ module _ (t : List ℕ) (at : ℕ) where
   pub left-more : (next : ℕ) → record_at t at ≡ Ok (Some next) → records_left t at ≡ between t at next ∷ records_left t next
   left-more next e = ap (λ w. w.items) (records-more t at next e)
 
+  -- what is found there is no record
+  pub left-none : (found : Result (Option ℕ) Refusal) → found ≡ record_at t at → ((next : ℕ) → found ≡ Ok (Some next) → ⊥) → records_left t at ≡ []
+  left-none (Ok None) e h = ap (λ w. w.items) (records-end t at (sym e))
+  left-none (Err refusal) e h = ap (λ w. w.items) (records-unsound t at refusal (sym e))
+  left-none (Ok (Some next)) e h = absurd (h next refl)
+
   -- nothing is found there, or what is no record
   pub left-end : (result : Result (Option ℕ) Refusal) → result ≡ record_at t at → (found : Option ℕ) → result ≡ Ok found → found ≡ None → records_left t at ≡ []
   left-end result is found e n = ap (λ w. w.items) (records-end t at (sym is ∙ e ∙ ap (λ f. Ok f) n))
