@@ -199,7 +199,9 @@ pub fn announce_value(
     }
 }
 
-// Withdraws an accepted value from a sound table whose records take `used` octets.
+// Withdraws an accepted value from a sound table whose records take `used` octets. Its working array is to stand in no caller's frame, where
+// it would lie beside that of an announcement.
+#[inline(never)]
 pub fn withdraw_value(family: Family, table: &mut [u8], used: usize, value: &[u8]) -> Answer
     requires { Ready family table.old used × (check_value family value.now ≡ Ok tt) }
     ensures { Leaves (changed family table.old (withdraw (keys_of family (plain family value.now)))) result table.new }
