@@ -45,12 +45,12 @@ module _ (t : List ℕ) (at : ℕ) where
   left-none (Err refusal) e h = ap (λ w. w.items) (records-unsound t at refusal (sym e))
   left-none (Ok (Some next)) e h = absurd (h next refl)
 
-  -- nothing is found there, or what is no record
+  -- so where nothing is found, and where it is unsound
   pub left-end : (result : Result (Option ℕ) Refusal) → result ≡ record_at t at → (found : Option ℕ) → result ≡ Ok found → found ≡ None → records_left t at ≡ []
-  left-end result is found e n = ap (λ w. w.items) (records-end t at (sym is ∙ e ∙ ap (λ f. Ok f) n))
+  left-end result is found e n = left-none result is (λ next some. apart (cc))
 
   pub left-unsound : (result : Result (Option ℕ) Refusal) → result ≡ record_at t at → (refusal : Refusal) → result ≡ Err refusal → records_left t at ≡ []
-  left-unsound result is refusal e = ap (λ w. w.items) (records-unsound t at refusal (sym is ∙ e))
+  left-unsound result is refusal e = left-none result is (λ next some. apart (cc))
 
 -- so many records are counted, and those from a place on are left
 pub record Counting (t : List ℕ) (at count : ℕ) : Type 0 where

@@ -89,7 +89,7 @@ module _ (family : Family) (own rest : List ℕ) where
 
     -- the first words, as many as a route has, are one route more
     pub routes-front : (ws : List ℕ) → ws ≡ own ++ rest → routes_of family ws ≡ route_at family own 0 ∷ routes_of family rest
-    unfolding routes_of routes_from
+    unfolding routes_of
     routes-front ws cut =
         let words = F.words in
         let more : length ws ≡ length own + length rest = ap length cut ∙ length-append own rest in
@@ -101,8 +101,7 @@ module _ (family : Family) (own rest : List ℕ) where
 
 -- and fewer are none
 pub routes-none : (family : Family) (ws : List ℕ) → length ws < family.words → routes_of family ws ≡ []
-unfolding routes_of routes_from
-routes-none family ws h = rw (div-eq_of_lt h)
+routes-none family ws h = sym (routes-all family ws) ∙ routes-end family ws 0 (omega arith)
 
 -- the routes rise behind a prefix before them
 pub rising_behind : Pattern → List Route → Bool

@@ -20,7 +20,7 @@ use Rattle.rule.proofs.ComponentLaws.{lead-with, lead-without, lead-some, offset
 use Rattle.rule.proofs.ValueLaws.{accepts, components-ind, check-long, check-empty, check-cut, check-walk, check-on, check-refused, check-cases, was-refused}
 use Rattle.std.proofs.Common.{Result, Ok, Err, Option, Some, None}
 use Rattle.rule.specs.declared.Refusal.{Refusal}
-use Rattle.rule.specs.declared.Refusal.TheVariants.{Overlong, Empty, UnknownType, TypeOrder, PrefixLength, CutShort, ValueSize}
+use Rattle.rule.specs.declared.Refusal.TheVariants.{UnknownType, TypeOrder, PrefixLength, CutShort, ValueSize}
 use Rattle.rule.specs.declared.NextPair.{NextPair}
 use Rattle.rule.specs.declared.NextPair.TheVariants.{More, Last}
 use Rattle.rule.specs.declared.Located.{Located}
@@ -232,31 +232,31 @@ module _ (family : Family) (v : List ℕ) where
   pair-cut largest at (short-value inside allowed short) = pair-short largest v at (size_of (get_or v at 0)) refl inside allowed short
 
   -- a refusal has its number and its place
-  refused-so : (refusal : Refusal) → check_value family v ≡ Err refusal → RefusedWith (check_value family v) (number_of refusal) (place_of refusal)
-  refused-so refusal e = rw e (refl, refl)
+  refused-so : {refusal : Refusal} → check_value family v ≡ Err refusal → RefusedWith (check_value family v) (number_of refusal) (place_of refusal)
+  refused-so e = rw e (refl, refl)
 
   row-refuses : (number place : ℕ) → ValueRefused family v number place → RefusedWith (check_value family v) number place
-  row-refuses number there (one long) = refused-so Overlong (sym (check-long family v long))
-  row-refuses number there (two small none) = refused-so Empty (sym (check-empty family v small (go none)))
+  row-refuses number there (one long) = refused-so (sym (check-long family v long))
+  row-refuses number there (two small none) = refused-so (sym (check-empty family v small (go none)))
     where
       go : (length v ≡ 0) ⊎ (length v ≡ family.head) → (eqb (length v) 0 || eqb (length v) family.head) ≡ true
       go (inl e) = rw (eq-eqb (length v) 0 e)
       go (inr e) = by-test (eqb (length v) 0) (λ t. rw t) (λ t. rw (t, eq-eqb (length v) family.head e))
   row-refuses number there (three {place} {previous} b inside unknown) =
-      refused-so (UnknownType place) (refused-there place previous (UnknownType place) b (component-unknown family v place previous inside unknown))
+      refused-so (refused-there place previous (UnknownType place) b (component-unknown family v place previous inside unknown))
   row-refuses number there (four {place} {previous} b inside known order) =
-      refused-so (TypeOrder place) (refused-there place previous (TypeOrder place) b (component-order family v place previous inside known order))
+      refused-so (refused-there place previous (TypeOrder place) b (component-order family v place previous inside known order))
   row-refuses number there (five {at} o t range) =
-      refused-so (PrefixLength (at + 1)) (refused-prefix at (PrefixLength (at + 1)) o t (prefix-out-of-range (at + 1) range))
+      refused-so (refused-prefix at (PrefixLength (at + 1)) o t (prefix-out-of-range (at + 1) range))
   row-refuses number there (six-prefix {at} o t cut) =
-      refused-so (CutShort (length v)) (refused-prefix at (CutShort (length v)) o t (prefix-cut (at + 1) cut))
+      refused-so (refused-prefix at (CutShort (length v)) o t (prefix-cut (at + 1) cut))
   row-refuses number there (six-list {at} {place} o t p cut) =
-      refused-so (CutShort (length v)) (refused-pair at place (CutShort (length v)) o t p (pair-cut (shape_at family v at).largest place cut))
+      refused-so (refused-pair at place (CutShort (length v)) o t p (pair-cut (shape_at family v at).largest place cut))
   row-refuses number there (six-head small some short) =
-      refused-so (CutShort (length v))
+      refused-so
       (sym (check-cut family v small (rw (ne_eqb (length v) 0 (λ e. omega arith), ne_eqb (length v) family.head (λ e. omega arith))) short))
   row-refuses number there (seven {at} {place} o t p inside large) =
-      refused-so (ValueSize place)
+      refused-so
       (refused-pair at place (ValueSize place) o t p (pair_size (shape_at family v at).largest v place (size_of (get_or v place 0)) refl inside large))
 
   -- **1 to 7 of a value**, each exactly where its row says, and at that place.
